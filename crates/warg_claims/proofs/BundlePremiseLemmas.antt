@@ -33,7 +33,8 @@ abbrev pub only_bytes : List ℕ
 only_bytes = 8 ∷ 1 ∷ 26 ∷ 1 ∷ 0 ∷ []
 
 pub only_read : bundle_of only_bytes ≡ Ok only_proof
-unfolding payload_at field_at log_schema entry_schema all_in all_of uint32_in bytes_in packed_uint32s uint32s_in message_of message_in values last_of varint_in varint_at
+unfolding payload_at field_at log_schema entry_schema all_in all_of uint32_in bytes_in packed_uint32s uint32s_in
+    message_of message_in values last_of varint_in varint_at
 only_read = refl
 
 pub only_shown : (H : List ℕ → List ℕ) (value : List ℕ)
@@ -76,7 +77,8 @@ abbrev pub growth_bytes : List ℕ
 growth_bytes = 8 ∷ 1 ∷ 18 ∷ 1 ∷ 1 ∷ 34 ∷ 34 ∷ 18 ∷ 32 ∷ zeros
 
 pub growth_read : bundle_of growth_bytes ≡ Ok one_growth
-unfolding payload_at field_at log_schema entry_schema all_in all_of uint32_in bytes_in packed_uint32s uint32s_in message_of message_in values last_of varint_in varint_at
+unfolding payload_at field_at log_schema entry_schema all_in all_of uint32_in bytes_in packed_uint32s uint32s_in
+    message_of message_in values last_of varint_in varint_at
 growth_read = refl
 
 pub growth_shown : consistency_verdict marked growth_bytes 0 zeros zeros ≡ Ok true

@@ -283,7 +283,8 @@ growth_path_convicts H bytes old new before after digests finding reads old_coun
 -- Peers that lead from two leaf digests to two roots.
 both_led_there : (H : List ℕ → List ℕ) (key old_leaf new_leaf old_root new_root : List ℕ) (peers : Peers)
     → leads_both H key old_leaf new_leaf old_root new_root peers ≡ true
-    → (proof_value H peers old_leaf (key_bits H key) ≡ old_root) × (proof_value H peers new_leaf (key_bits H key) ≡ new_root)
+    → (proof_value H peers old_leaf (key_bits H key) ≡ old_root)
+    × (proof_value H peers new_leaf (key_bits H key) ≡ new_root)
 both_led_there H key old_leaf new_leaf old_root new_root peers is =
     let both = and_parts (leads H old_leaf key old_root peers) (leads H new_leaf key new_root peers) is in
     (same_text _ old_root (sym both.0), same_text _ new_root (sym both.1))
@@ -335,7 +336,8 @@ pub update_convicts : {D A : _} (H : List ℕ → List ℕ) (bytes : List ℕ) (
     → Finds (IsChangeMet H peers key old_value new_value old new) (IsUpdate key old_value new_value old new)
     (IsUpdatePlaced H peers old_value new_value key (old, new)) finding
     → Convicts H (update key old_value new_value old_root new_root) (by_bundle bytes place) (old, new) finding
-update_convicts H bytes place key old_value new_value old_root new_root old new b peers finding reads there shown found =
+update_convicts H bytes place key old_value new_value old_root new_root old new b peers finding reads there shown
+    found =
     let is = both_led_there H key (leaf_digest H old_value) (leaf_digest H new_value) old_root new_root peers
     (judged_there (λ (b : MapBundle). b.proofs)
     (λ b. leads_both H key (leaf_digest H old_value) (leaf_digest H new_value) old_root new_root) place _ b peers reads
@@ -359,7 +361,8 @@ pub insertion_convicts : {D A : _} (H : List ℕ → List ℕ) (bytes : List ℕ
 insertion_convicts H bytes place key value old_root new_root old new b peers finding reads there shown found =
     let is = both_led_there H key (empty_root H 0) (leaf_digest H value) old_root new_root peers
     (judged_there (λ (b : MapBundle). b.absences)
-    (λ b. leads_both H key (empty_root H 0) (leaf_digest H value) old_root new_root) place _ b peers reads there shown) in
+    (λ b. leads_both H key (empty_root H 0) (leaf_digest H value) old_root new_root) place _ b peers reads there
+    shown) in
     let old_is : proof_value H peers (leaf_digest H []) (key_bits H key) ≡ old_root =
     ap (λ x. proof_value H peers x (key_bits H key)) (sym (empty_leaf H)) ∙ is.0 in
     transfer _ _ _ _ _ _ finding

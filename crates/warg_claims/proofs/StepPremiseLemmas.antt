@@ -36,7 +36,8 @@ use Rattle.warg_claims.specs.Placed.{peers_in}
 abbrev sevens : ℕ → List ℕ
 sevens n = replicate n 7
 
--- The digest of bytes by their number: an empty leaf and an empty tree have 20 sevens; the leaf of one byte, and what it leads
+-- The digest of bytes by their number: an empty leaf and an empty tree have 20 sevens; the leaf of one byte, and what
+-- it leads
 -- to beside an empty tree, have eight, and the leaf of two bytes, and what it leads to beside an empty tree, have one.
 abbrev size : ℕ → ℕ
 size n =
@@ -163,7 +164,8 @@ abbrev bundle : MapBundle
 bundle = record { proofs = top ∷ []; absences = [] }
 
 read : map_bundle_of bytes ≡ Ok bundle
-unfolding payload_at field_at proof_schema map_schema hash_schema all_in all_of bytes_in message_of message_in values last_of varint_in varint_at
+unfolding payload_at field_at proof_schema map_schema hash_schema all_in all_of bytes_in message_of message_in values
+    last_of varint_in varint_at
 read = refl
 
 abbrev old_root : List ℕ
@@ -245,7 +247,8 @@ at_step : (before : List Step) (step : Step) (after : List Step) → the_step �
     → SomeCollision by_number (IsPlacedAtPrefix by_number step.peers step.old_value step.key (insertions_of before)) → ⊥
 at_step [] step after split c =
     let is : step ≡ the_step = cc in
-    at_the_step (subst (λ (s : Step). SomeCollision by_number (IsPlacedAtPrefix by_number s.peers s.old_value s.key [])) is c)
+    at_the_step (subst (λ (s : Step). SomeCollision by_number (IsPlacedAtPrefix by_number s.peers s.old_value s.key []))
+    is c)
 at_step (other ∷ before) step after split c = omega (arith, ap length split, length-append before (step ∷ after))
 
 pub none_collide : CollidesAtStep by_number (steps_of the_steps) → ⊥

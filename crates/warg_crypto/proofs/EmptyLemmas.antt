@@ -7,7 +7,8 @@ use Rattle.warg_crypto.specs.declared.empty.TheConstants.{EMPTY_TREES}
 use Rattle.warg_crypto.proofs.QuickSha256.{quick_sha256, quick_is_sha256}
 
 -- a branch over two empty trees, in the pieces in which it is hashed
-pub above : (H : List ℕ → List ℕ) (k : ℕ) (empty : List ℕ) → empty ≡ empty_root H k → H (1 ∷ (empty ++ empty)) ≡ empty_root H (k + 1)
+pub above : (H : List ℕ → List ℕ) (k : ℕ) (empty : List ℕ) → empty ≡ empty_root H k → H (1 ∷ (empty ++ empty))
+    ≡ empty_root H (k + 1)
 unfolding empty_root
 above H k empty is = rw (is, add-one) refl
 
@@ -59,7 +60,8 @@ unfolding Follow
 row_is k zero row rows follow is within = is ∙ ap (empty_root sha256) (omega arith)
 row_is k (suc i) row [] follow is within = absurd (omega arith)
 row_is k (suc i) row (next ∷ rows) follow is within =
-    row_is (k + 1) i next rows follow.1 (sym follow.0 ∙ above sha256 k row is) (omega arith) ∙ ap (empty_root sha256) (omega arith)
+    row_is (k + 1) i next rows follow.1 (sym follow.0 ∙ above sha256 k row is) (omega arith)
+    ∙ ap (empty_root sha256) (omega arith)
 
 first : sha256 (0 ∷ []) ≡ get_or EMPTY_TREES 0 []
 unfolding quick_sha256 digest_bytes first_words
@@ -129,4 +131,5 @@ from_0 = follow_on 32 (get_or EMPTY_TREES 0 []) (drop 1 EMPTY_TREES) (lit≤ tt)
 pub row_of_table : (height : ℕ) → height ≤ 256 → get_or EMPTY_TREES height [] ≡ empty_root sha256 height
 unfolding empty_root
 row_of_table height within =
-    row_is 0 height (get_or EMPTY_TREES 0 []) (drop 1 EMPTY_TREES) from_0 (sym first) within ∙ ap (empty_root sha256) (omega arith)
+    row_is 0 height (get_or EMPTY_TREES 0 []) (drop 1 EMPTY_TREES) from_0 (sym first) within
+    ∙ ap (empty_root sha256) (omega arith)

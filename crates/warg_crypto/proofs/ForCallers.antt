@@ -31,11 +31,21 @@ sizes gives m = (gives m).has_32
 
 -- Byte lists are the same or not.
 pub same_or_not : (xs ys : List ℕ) → (xs ≡ ys) ⊎ (xs ≡ ys → ⊥)
-same_or_not xs ys = elim (cases_Bool (pointwise nat_eq xs ys)) [ inl t ↦ inl ((bytes_decides xs ys).0 t) | inr f ↦ inr (not_from_Decides _ (bytes_decides xs ys) f) ]
+same_or_not xs ys = elim (cases_Bool (pointwise nat_eq xs ys)) [
+  | inl t ↦ inl ((bytes_decides xs ys).0 t)
+  | inr f ↦ inr
+      (not_from_Decides _ (bytes_decides xs ys) f)
+]
 
 -- What the digest function takes at two branches is the same only where both digests are.
 pub branch_parts : (a b c d : List ℕ) → length a ≡ length c → 1 ∷ a ++ b ≡ 1 ∷ c ++ d → (a ≡ c) × (b ≡ d)
-branch_parts a b c d len e = grind (arith, take_at a b (length c) len, drop_at a b (length c) len, take_at c d (length c) refl, drop_at c d (length c) refl)
+branch_parts a b c d len e = grind (
+  arith,
+  take_at a b (length c) len,
+  drop_at a b (length c) len,
+  take_at c d (length c) refl,
+  drop_at c d (length c) refl,
+)
 
 -- Digests of zeros and of ones.
 abbrev pub zeros : List ℕ

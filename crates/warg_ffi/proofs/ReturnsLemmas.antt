@@ -40,7 +40,8 @@ number_of : (n : ℤ) (v : Result Bool CheckError) → n ≡ verdict_number v �
 number_of n v is = rw is (fits v)
 
 -- the number of what a check answered
-returned : (roots : List (List ℕ)) (said verdict : Result Bool CheckError) (n : ℤ) → are_roots roots ≡ true → Answers fault.Memory said verdict → n ≡ verdict_number said → Returns roots verdict (to_z w32 (of_z w32 n))
+returned : (roots : List (List ℕ)) (said verdict : Result Bool CheckError) (n : ℤ) → are_roots roots ≡ true
+    → Answers fault.Memory said verdict → n ≡ verdict_number said → Returns roots verdict (to_z w32 (of_z w32 n))
 returned roots (Ok b) verdict n long answers is = inl (rw (long, answers) (number_of n (Ok b) is))
 returned roots (Err e) verdict n long answers is = ⊎_elim
     (λ (refused : e ≡ fault.Memory). inr (long, rw (ap verdict_number (ap Err refused)) at (number_of n (Err e) is)))
@@ -48,10 +49,13 @@ returned roots (Err e) verdict n long answers is = ⊎_elim
     answers
 
 -- under one root, and under two
-pub returned_under_one : (root : List ℕ) (said verdict : Result Bool CheckError) (n : ℤ) → length root ≡ 32 → Answers fault.Memory said verdict → n ≡ verdict_number said
+pub returned_under_one : (root : List ℕ) (said verdict : Result Bool CheckError) (n : ℤ) → length root ≡ 32
+    → Answers fault.Memory said verdict → n ≡ verdict_number said
     → Returns (root ∷ []) verdict (to_z w32 (of_z w32 n))
 returned_under_one root said verdict n long answers is = returned (root ∷ []) said verdict n (rw long refl) answers is
 
-pub returned_under_two : (old new : List ℕ) (said verdict : Result Bool CheckError) (n : ℤ) → length old ≡ 32 → length new ≡ 32 → Answers fault.Memory said verdict → n ≡ verdict_number said
+pub returned_under_two : (old new : List ℕ) (said verdict : Result Bool CheckError) (n : ℤ) → length old ≡ 32
+    → length new ≡ 32 → Answers fault.Memory said verdict → n ≡ verdict_number said
     → Returns (old ∷ new ∷ []) verdict (to_z w32 (of_z w32 n))
-returned_under_two old new said verdict n old_long new_long answers is = returned (old ∷ new ∷ []) said verdict n (rw (old_long, new_long) refl) answers is
+returned_under_two old new said verdict n old_long new_long answers is = returned (old ∷ new ∷ []) said verdict n
+    (rw (old_long, new_long) refl) answers is

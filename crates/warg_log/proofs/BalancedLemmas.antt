@@ -24,7 +24,8 @@ none_left a e le = grind (arith, balanced_none a)
 -- any number of digits that is enough
 pub balanced_at : (h k a n : ℕ) → n < 2 ^ h → n < 2 ^ k → balanced_within h a n ≡ balanced_within k a n
 unfolding balanced_within
-balanced_at h k a n lh lk = settled_at (λ m. balanced_within m a n) (suc n) h k (λ m lt. rw (lt-leb (2 ^ m) n lt) refl) lh lk
+balanced_at h k a n lh lk = settled_at (λ m. balanced_within m a n) (suc n) h k (λ m lt. rw (lt-leb (2 ^ m) n lt) refl)
+    lh lk
 
 -- the greatest comes first
 pub balanced_first : (h a n : ℕ) → 2 ^ h ≤ n → n < 2 ^ suc h
@@ -32,28 +33,39 @@ pub balanced_first : (h a n : ℕ) → 2 ^ h ≤ n → n < 2 ^ suc h
 unfolding balanced_within
 balanced_first h a n low high =
     balanced_at n (suc h) a n (below_pow n) high
-    ∙ rw (le-leb (2 ^ h) n low, balanced_at h (n - 2 ^ h) (a + 2 ^ h) (n - 2 ^ h) (omega (arith, pow-suc)) (below_pow (n - 2 ^ h))) refl
+    ∙ rw (
+      le-leb (2 ^ h) n low,
+      balanced_at h (n - 2 ^ h) (a + 2 ^ h) (n - 2 ^ h) (omega (arith, pow-suc))
+          (below_pow (n - 2 ^ h)),
+    ) refl
 
-pub balanced_more : (h a m : ℕ) → m < 2 ^ h → balanced_over a (2 ^ h + m) ≡ node_over a (2 ^ h) ∷ balanced_over (a + 2 ^ h) m
+pub balanced_more : (h a m : ℕ) → m < 2 ^ h → balanced_over a (2 ^ h + m) ≡ node_over a (2 ^ h) ∷ balanced_over
+    (a + 2 ^ h) m
 balanced_more h a m lt = grind (arith, balanced_first h a (2 ^ h + m) (omega arith) (omega (arith, pow-suc)))
 
 pub balanced_full : (h a : ℕ) → balanced_over a (2 ^ h) ≡ node_over a (2 ^ h) ∷ []
 balanced_full h a = grind (arith, balanced_more h a 0 (pow_pos h), balanced_none (a + 2 ^ h))
 
 -- leaves above none have one
-pub has_first_over : (a n : ℕ) → 0 < n → (h : ℕ) × (2 ^ h ≤ n) × (balanced_over a n ≡ node_over a (2 ^ h) ∷ balanced_over (a + 2 ^ h) (n - 2 ^ h))
-has_first_over a n some = let e = exponent_below n (suc n) (omega arith) (below_pow n) in (e.0, omega arith, balanced_first e.0 a n (omega arith) e.2)
+pub has_first_over : (a n : ℕ) → 0 < n → (h : ℕ) × (2 ^ h ≤ n)
+    × (balanced_over a n ≡ node_over a (2 ^ h) ∷ balanced_over (a + 2 ^ h) (n - 2 ^ h))
+has_first_over a n some = let e = exponent_below n (suc n) (omega arith) (below_pow n) in
+    (e.0, omega arith, balanced_first e.0 a n (omega arith) e.2)
 
 -- as a program cuts it off
-pub first_cut : (a e n : ℕ) → (h : ℕ) × (n ≡ 2 ^ h) × (2 ^ h ≤ e - a) × (e - a < 2 ^ (h + 1)) → balanced_over a (e - a) ≡ node_over a n ∷ balanced_over (a + n) (e - (a + n))
+pub first_cut : (a e n : ℕ) → (h : ℕ) × (n ≡ 2 ^ h) × (2 ^ h ≤ e - a) × (e - a < 2 ^ (h + 1)) → balanced_over a (e - a)
+    ≡ node_over a n ∷ balanced_over (a + n) (e - (a + n))
 first_cut a e n first = grind (arith, add-one, first, balanced_first first.0 a (e - a))
 
--- P holds of each range and its balanced roots where it holds of no leaves and, if it does of fewer than 2 ^ h leaves, of 2 ^ h more in front of them
+-- P holds of each range and its balanced roots where it holds of no leaves and, if it does of fewer than 2 ^ h leaves,
+-- of 2 ^ h more in front of them
 pub record Rule (P : ℕ → ℕ → List ℕ → Type 0) : Type 0 where
   pub none : (a : ℕ) → P a 0 []
-  pub first : (h c m : ℕ) (ts : List ℕ) → m < 2 ^ h → P (c * 2 ^ h + 2 ^ h) m ts → P (c * 2 ^ h) (2 ^ h + m) (node_over (c * 2 ^ h) (2 ^ h) ∷ ts)
+  pub first : (h c m : ℕ) (ts : List ℕ) → m < 2 ^ h → P (c * 2 ^ h + 2 ^ h) m ts
+      → P (c * 2 ^ h) (2 ^ h + m) (node_over (c * 2 ^ h) (2 ^ h) ∷ ts)
 
-roots_within : (P : ℕ → ℕ → List ℕ → Type 0) → Rule P → (h c n : ℕ) → n < 2 ^ h → P (c * 2 ^ h) n (balanced_within h (c * 2 ^ h) n)
+roots_within : (P : ℕ → ℕ → List ℕ → Type 0) → Rule P → (h c n : ℕ) → n < 2 ^ h
+    → P (c * 2 ^ h) n (balanced_within h (c * 2 ^ h) n)
 unfolding balanced_within
 roots_within P R zero c n lt = let none : n ≡ 0 = omega arith in rw none (R.none (c * 2 ^ 0))
 roots_within P R (suc h) c n lt =
@@ -63,7 +75,9 @@ roots_within P R (suc h) c n lt =
     (λ (low : n < 2 ^ h). rw (lt-leb (2 ^ h) n low) (roots_within P R h (2 * c) n low))
     (λ (high : 2 ^ h ≤ n).
     let whole : 2 ^ h + (n - 2 ^ h) ≡ n = omega arith in
-    rw (le-leb (2 ^ h) n high) (rw whole at (R.first h (2 * c) (n - 2 ^ h) _ (omega (arith, pow-suc)) (rw next at (roots_within P R h (2 * c + 1) (n - 2 ^ h) (omega (arith, pow-suc)))))))
+    rw (le-leb (2 ^ h) n high) (rw whole at
+    (R.first h (2 * c) (n - 2 ^ h) _ (omega (arith, pow-suc))
+    (rw next at (roots_within P R h (2 * c + 1) (n - 2 ^ h) (omega (arith, pow-suc)))))))
     (cases_lt n (2 ^ h)))
 
 pub roots : (P : ℕ → ℕ → List ℕ → Type 0) → Rule P → (n : ℕ) → P 0 n (balanced_roots n)
@@ -84,7 +98,8 @@ roots_follow n = let all : 0 + n ≡ n = omega arith in rw all at (roots (λ a n
 -- so do those of up to 2 ^ h leaves from a multiple of 2 ^ h on
 pub over_follow : (h c n : ℕ) → n ≤ 2 ^ h → Follow (c * 2 ^ h) (c * 2 ^ h + n) (balanced_over (c * 2 ^ h) n)
 over_follow h c n most = ⊎_elim
-    (λ (less : n < 2 ^ h). rw (balanced_at n h (c * 2 ^ h) n (below_pow n) less) (roots_within (λ a n ts. Follow a (a + n) ts) follow_rule h c n less))
+    (λ (less : n < 2 ^ h). rw (balanced_at n h (c * 2 ^ h) n (below_pow n) less)
+    (roots_within (λ a n ts. Follow a (a + n) ts) follow_rule h c n less))
     (λ (whole : 2 ^ h ≤ n).
     let all : n ≡ 2 ^ h = omega arith in
     rw (all, balanced_full h (c * 2 ^ h), over_ends h c, (over_at h c).0, (over_at h c).1) (refl, refl))

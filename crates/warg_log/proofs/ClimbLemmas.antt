@@ -29,8 +29,16 @@ only_row h a e [] follow fall = sym (none_left a e (omega arith))
 only_row h a e (t ∷ ts) follow fall =
     let bound = fall_bound (height_of t) (end_of t) e ts fall.1 follow.1 in
     let ends : end_of t ≡ a + 2 ^ height_of t = omega (arith, follow.0) in
-    let first = balanced_first (height_of t) a (e - a) (omega (arith, bound, ends)) (omega (arith, bound, ends, pow-suc)) in
-    grind (arith, follow.0, ends, only_number t (height_of t) (place_of t) (node_is t), first, only_row (height_of t) (end_of t) e ts follow.1 fall.1)
+    let first = balanced_first (height_of t) a (e - a) (omega (arith, bound, ends))
+    (omega (arith, bound, ends, pow-suc)) in
+    grind (
+      arith,
+      follow.0,
+      ends,
+      only_number t (height_of t) (place_of t) (node_is t),
+      first,
+      only_row (height_of t) (end_of t) e ts follow.1 fall.1,
+    )
 
 pub balanced_roots_only : (n h : ℕ) (ts : List ℕ) → Follow 0 n ts → Fall h ts → ts ≡ balanced_roots n
 balanced_roots_only n h ts follow fall = let all : n - 0 ≡ n = omega arith in rw all at (only_row h 0 n ts follow fall)
@@ -42,13 +50,16 @@ module _ (H : List ℕ → List ℕ) (e : Evaluation) where
   abbrev range_cut : ℕ → Option (List ℕ)
   range_cut t = cut_over H e (range_of t)
 
-  top_spine : (r : ℕ) (rs : List ℕ) → top_of H e.held e.digest (spine e.target r rs) ≡ joined_all H (map range_cut (r ∷ rs))
+  top_spine : (r : ℕ) (rs : List ℕ) → top_of H e.held e.digest (spine e.target r rs)
+      ≡ joined_all H (map range_cut (r ∷ rs))
   unfolding top_of
   top_spine r [] = refl
   top_spine r (s ∷ rs) = ap (joined H (range_cut r)) (top_spine s rs)
 
-  cut_roots : (0 < e.target.count → IsFull e.target.count) → (n : ℕ) → 0 < n → cut_over H e (leaves_from 0 n) ≡ joined_all H (map range_cut (balanced_roots n))
-  cut_roots full n some = let f = has_first_over 0 n some in ap (top_of H e.held e.digest) (way_roots e.target full n _ _ f.2) ∙ top_spine _ _ ∙ rw f.2 refl
+  cut_roots : (0 < e.target.count → IsFull e.target.count) → (n : ℕ) → 0 < n → cut_over H e (leaves_from 0 n)
+      ≡ joined_all H (map range_cut (balanced_roots n))
+  cut_roots full n some = let f = has_first_over 0 n some in
+      ap (top_of H e.held e.digest) (way_roots e.target full n _ _ f.2) ∙ top_spine _ _ ∙ rw f.2 refl
 
   all_read : (ts : List ℕ) → AllByRecursion (Misses e.target) ts → map range_cut ts ≡ map e.held ts
   unfolding top_of
@@ -56,10 +67,12 @@ module _ (H : List ℕ → List ℕ) (e : Evaluation) where
   all_read (t ∷ ts) all =
       rw (way_missed e.target t all.0, all_read ts all.1) refl
 
-pub old_root-joined : (H : List ℕ → List ℕ) (F : ℕ → Option (List ℕ)) (n : ℕ) → 0 < n → old_root H F n ≡ joined_all H (map F (balanced_roots n))
+pub old_root-joined : (H : List ℕ → List ℕ) (F : ℕ → Option (List ℕ)) (n : ℕ) → 0 < n
+    → old_root H F n ≡ joined_all H (map F (balanced_roots n))
 old_root-joined H F n some =
     let old : Evaluation = with_target F nothing (H []) in
-    let free = all_weaken (λ t. end_of t ≤ n) (Misses nothing) (λ t _. nothing_beside (range_of t)) (balanced_roots n) (roots_end n n (omega arith)) in
+    let free = all_weaken (λ t. end_of t ≤ n) (Misses nothing) (λ t _. nothing_beside (range_of t)) (balanced_roots n)
+    (roots_end n n (omega arith)) in
     cut_roots H old (λ lt. absurd (omega arith)) n some ∙ ap (joined_all H) (all_read H old (balanced_roots n) free)
 
 -- up to a balanced root
@@ -67,9 +80,11 @@ climb_cut : (H : List ℕ → List ℕ) (F : ℕ → Option (List ℕ)) (x : Lis
     → cut_over H (with_target F (block k j) x) (block (k + c) (j / 2 ^ c)) ≡ climbed H F (Some x) k j c
 unfolding top_of
 climb_cut H F x k j c = climb k j (λ d way. top_of H F x way ≡ climbed H F (Some x) k j d) refl
-    (λ d way is. ⊎_elim (λ (t : (j / 2 ^ d % 2 == 0) ≡ true). rw (t, is) refl) (λ (f : (j / 2 ^ d % 2 == 0) ≡ false). rw (f, is) refl) (cases_Bool (j / 2 ^ d % 2 == 0))) c
+    (λ d way is. ⊎_elim (λ (t : (j / 2 ^ d % 2 == 0) ≡ true). rw (t, is) refl)
+    (λ (f : (j / 2 ^ d % 2 == 0) ≡ false). rw (f, is) refl) (cases_Bool (j / 2 ^ d % 2 == 0))) c
 
-pub cut_root_walk : (H : List ℕ → List ℕ) (F : ℕ → Option (List ℕ)) (t : ℕ) (x : List ℕ) (n c : ℕ) (left right : List ℕ) → 0 < n
+pub cut_root_walk : (H : List ℕ → List ℕ) (F : ℕ → Option (List ℕ)) (t : ℕ) (x : List ℕ) (n c : ℕ) (left right : List ℕ)
+    → 0 < n
     → balanced_roots n ≡ left ++ number_of (height_of t + c) (place_of t / 2 ^ c) ∷ right
     → cut_root H F t x n ≡ joined_all H (map F left ++ climbed H F (Some x) (height_of t) (place_of t) c ∷ map F right)
 cut_root_walk H F t x n c left right some split =
@@ -78,5 +93,7 @@ cut_root_walk H F t x n c left right some split =
     let i = place_of t / 2 ^ c in
     let at = over_at k i in
     let beside = others_miss (height_of t) (place_of t) c n left right split in
-    let here : range_cut H e (number_of k i) ≡ climbed H F (Some x) (height_of t) (place_of t) c = rw (at.0, at.1) (climb_cut H F x (height_of t) (place_of t) c) in
-    cut_roots H e (λ _. (height_of t, refl)) n some ∙ rw (split, map-append, here, all_read H e left beside.0, all_read H e right beside.1) refl
+    let here : range_cut H e (number_of k i) ≡ climbed H F (Some x) (height_of t) (place_of t) c =
+    rw (at.0, at.1) (climb_cut H F x (height_of t) (place_of t) c) in
+    cut_roots H e (λ _. (height_of t, refl)) n some
+    ∙ rw (split, map-append, here, all_read H e left beside.0, all_read H e right beside.1) refl

@@ -20,7 +20,8 @@ module _ {X E : Type 0} where
   one_error e f is = cc
 
 -- a fault that is passed on, whatever else would have come
-pub same_fault : {X Y E : Type 0} {P : Type 0} (e f : E) → (◌≡◌ {A = Result X E} (Err e) (Err f) ↔ P) → (◌≡◌ {A = Result Y E} (Err e) (Err f) ↔ P)
+pub same_fault : {X Y E : Type 0} {P : Type 0} (e f : E) → (◌≡◌ {A = Result X E} (Err e) (Err f) ↔ P)
+    → (◌≡◌ {A = Result Y E} (Err e) (Err f) ↔ P)
 same_fault e f is = (λ bad. is.0 (ap Err (sym (one_error e f bad))), λ p. ap Err (sym (one_error e f (is.1 p))))
 
 -- a number is not above one that is not below it
@@ -36,7 +37,8 @@ module _ {X : Type 0} where
   memory_is_not_full bad = cc
 
   -- the fault of bytes that can't be read is never that memory was refused
-  pub wire_is_no_memory : (r : Result X DecodeError) (e : DecodeError) (w : WireError) → e ≡ wire_fault w → r ≡ Err e → r ≡ Err (Wire wire.Memory) → ⊥
+  pub wire_is_no_memory : (r : Result X DecodeError) (e : DecodeError) (w : WireError) → e ≡ wire_fault w → r ≡ Err e
+      → r ≡ Err (Wire wire.Memory) → ⊥
   wire_is_no_memory r e wire.Truncated from is bad = cc
   wire_is_no_memory r e wire.BadVarint from is bad = cc
   wire_is_no_memory r e wire.BadTag from is bad = cc

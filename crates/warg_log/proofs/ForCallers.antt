@@ -63,7 +63,8 @@ pub existing_number : (x n : ℕ) → ExistsAt x n → x + 2 ≤ 2 * n
 existing_number x n exists = omega (arith, nodes.node_is x, pow_pos (height_of x))
 
 -- the node over a range has the range's height and place
-pub over_at : (k j : ℕ) → (height_of (node_over (j * 2 ^ k) (2 ^ k)) ≡ k) × (place_of (node_over (j * 2 ^ k) (2 ^ k)) ≡ j)
+pub over_at : (k j : ℕ) → (height_of (node_over (j * 2 ^ k) (2 ^ k)) ≡ k)
+    × (place_of (node_over (j * 2 ^ k) (2 ^ k)) ≡ j)
 over_at = nodes.over_at
 
 -- the front of a range is the greatest power of two below its count
@@ -75,69 +76,85 @@ pub front_of_is : (h n : ℕ) → 2 ^ h < n → n ≤ 2 ^ suc h → front_of n �
 front_of_is = powers.front_of_is
 
 -- the root over one leaf is its digest
-pub root_over_one : (H : List ℕ → List ℕ) (ds : List (List ℕ)) (a : ℕ) → a < length ds → root_over H ds a 1 ≡ slice_index_or ds a []
+pub root_over_one : (H : List ℕ → List ℕ) (ds : List (List ℕ)) (a : ℕ) → a < length ds → root_over H ds a 1
+    ≡ slice_index_or ds a []
 root_over_one = powers.root_over_one
 
 -- the root over more leaves is the branch over those of the two parts
 pub root_over_parts : (H : List ℕ → List ℕ) (ds : List (List ℕ)) (a n : ℕ) → 1 < n → a + n ≤ length ds
     → root_over H ds a n ≡ branch H (root_over H ds a (front_of n)) (root_over H ds (a + front_of n) (n - front_of n))
-root_over_parts H ds a n more fits = let f = powers.front_is n more in rw f.1 (cuts.root_over_split H ds f.0 a n f.2 f.3 fits)
+root_over_parts H ds a n more fits = let f = powers.front_is n more in
+    rw f.1 (cuts.root_over_split H ds f.0 a n f.2 f.3 fits)
 
 -- the balanced root of a power of two of leaves is the node over them
 pub balanced_full : (a n : ℕ) → IsFull n → balanced_over a n ≡ node_over a n ∷ []
 balanced_full a n is = rw is.1 (balanced.balanced_full is.0 a)
 
 -- the balanced roots of other leaves are the node over the first part and those of the rest
-pub balanced_parts : (a n : ℕ) → 1 < n → (IsFull n → ⊥) → balanced_over a n ≡ node_over a (front_of n) ∷ balanced_over (a + front_of n) (n - front_of n)
+pub balanced_parts : (a n : ℕ) → 1 < n → (IsFull n → ⊥) → balanced_over a n ≡ node_over a (front_of n) ∷ balanced_over
+    (a + front_of n) (n - front_of n)
 balanced_parts a n more part =
     let f = powers.front_is n more in
-    rw f.1 (balanced.balanced_first f.0 a n (omega (arith, f.2)) (grind (arith, f.3, λ (e : n ≡ 2 ^ suc f.0). part (suc f.0, e))))
+    rw f.1 (balanced.balanced_first f.0 a n (omega (arith, f.2))
+    (grind (arith, f.3, λ (e : n ≡ 2 ^ suc f.0). part (suc f.0, e))))
 
 -- the cut root of the target is the digest in its place
 pub cut_target : (H : List ℕ → List ℕ) (e : Evaluation) → cut_over H e e.target ≡ Some e.digest
 cut_target H e = cuts.cut_found H e.held e.target e.digest e.target ((ways.target_decides e.target e.target).1 refl)
 
 -- the cut root of a range that isn't read is the branch over those of its parts
-pub cut_parts : (H : List ℕ → List ℕ) (e : Evaluation) (r : Range) → 1 < r.count → (r ≡ e.target → ⊥) → (IsFull r.count → IsBeside e.target r → ⊥)
+pub cut_parts : (H : List ℕ → List ℕ) (e : Evaluation) (r : Range) → 1 < r.count → (r ≡ e.target → ⊥)
+    → (IsFull r.count → IsBeside e.target r → ⊥)
     → cut_over H e r ≡ joined H (cut_over H e (front_part r)) (cut_over H e (rest_part r))
-cut_parts H e r more other apart = cuts.cut_over_parts H e r more other (λ full beside. apart full ((ways.beside_decides e.target r).0 beside))
+cut_parts H e r more other apart = cuts.cut_over_parts H e r more other
+    (λ full beside. apart full ((ways.beside_decides e.target r).0 beside))
 
 -- the cut root of a range that misses the target is its old root
-pub cut_old : (H : List ℕ → List ℕ) (e : Evaluation) (r : Range) → 0 < e.target.count → 0 < r.count → IsBeside e.target r → cut_over H e r ≡ old_over H e.held r
+pub cut_old : (H : List ℕ → List ℕ) (e : Evaluation) (r : Range) → 0 < e.target.count → 0 < r.count
+    → IsBeside e.target r → cut_over H e r ≡ old_over H e.held r
 unfolding top_of
-cut_old H e r target some = ways.ways_from e.target r.start (λ r way. IsBeside e.target r → top_of H e.held e.digest way ≡ old_over H e.held r) (record {
-  target = λ leaves beside. absurd (omega arith);
-  node = λ k c a _ _. sym (cuts.old_full H e.held (leaves_from a (2 ^ k)) (k, refl));
-  parts = λ h r left right more most apart p q beside.
-      rw (p (grind arith), q (grind arith))
-      (sym (cuts.old_over-split H e.held r h more most (λ f. apart f ((ways.beside_decides e.target r).1 beside))));
-}) r.count some
+cut_old H e r target some = ways.ways_from e.target r.start (λ r way. IsBeside e.target r → top_of H e.held e.digest way
+    ≡ old_over H e.held r) (record {
+      target = λ leaves beside. absurd (omega arith);
+      node = λ k c a _ _. sym (cuts.old_full H e.held (leaves_from a (2 ^ k)) (k, refl));
+      parts = λ h r left right more most apart p q beside.
+          rw (p (grind arith), q (grind arith))
+          (sym (cuts.old_over-split H e.held r h more most (λ f. apart f ((ways.beside_decides e.target r).1 beside))));
+    }) r.count some
 
 -- a cut root is one of the digests
-joined_is_branch : (H : List ℕ → List ℕ) (p q : Option (List ℕ)) (r : List ℕ) → joined H p q ≡ Some r → (m : List ℕ) × (H m ≡ r)
+joined_is_branch : (H : List ℕ → List ℕ) (p q : Option (List ℕ)) (r : List ℕ) → joined H p q ≡ Some r → (m : List ℕ)
+    × (H m ≡ r)
 joined_is_branch H (Some l) (Some m) r e = (1 ∷ l ++ m, let f : branch H l m ≡ r = cc in f)
 joined_is_branch H (Some l) None r e = absurd (cc)
 joined_is_branch H None q r e = absurd (cc)
 
 top_of-size : (H : List ℕ → List ℕ) (F : ℕ → Option (List ℕ)) (x : List ℕ) → ((m : List ℕ) → length (H m) ≡ 32)
-    → ((t : ℕ) (d : List ℕ) → F t ≡ Some d → length d ≡ 32) → length x ≡ 32 → (way : Way) (r : List ℕ) → top_of H F x way ≡ Some r → length r ≡ 32
+    → ((t : ℕ) (d : List ℕ) → F t ≡ Some d → length d ≡ 32) → length x ≡ 32 → (way : Way) (r : List ℕ)
+    → top_of H F x way ≡ Some r → length r ≡ 32
 unfolding top_of
-top_of-size H F x gives holds own at_target r e = let there : Some x ≡ Some r = e in let same : x ≡ r = cc in rw (← same) own
+top_of-size H F x gives holds own at_target r e = let there : Some x ≡ Some r = e in let same : x ≡ r = cc in
+    rw (← same) own
 top_of-size H F x gives holds own (at_node t) r e = holds t r e
-top_of-size H F x gives holds own (at_parts misses left right) r e = let p = joined_is_branch H (top_of H F x left) (top_of H F x right) r e in rw (← p.1) (gives p.0)
+top_of-size H F x gives holds own (at_parts misses left right) r e = let p = joined_is_branch H (top_of H F x left)
+    (top_of H F x right) r e in rw (← p.1) (gives p.0)
 
 -- where all digests have 32 bytes, so has each cut root
 pub cut_size : (H : List ℕ → List ℕ) (e : Evaluation) (r : Range) (root : List ℕ) → ((m : List ℕ) → length (H m) ≡ 32)
-    → ((t : ℕ) (d : List ℕ) → e.held t ≡ Some d → length d ≡ 32) → length e.digest ≡ 32 → cut_over H e r ≡ Some root → length root ≡ 32
+    → ((t : ℕ) (d : List ℕ) → e.held t ≡ Some d → length d ≡ 32) → length e.digest ≡ 32 → cut_over H e r ≡ Some root
+    → length root ≡ 32
 cut_size H e r root gives holds own = top_of-size H e.held e.digest gives holds own _ root
 
 -- over a log's own digests the cut root of a range of its recursion is the root over it
-pub cut_own_range : (H : List ℕ → List ℕ) (ds : List (List ℕ)) (t r : Range) → 0 < r.count → IsAligned r.start r.count → r.start + r.count ≤ length ds
+pub cut_own_range : (H : List ℕ → List ℕ) (ds : List (List ℕ)) (t r : Range) → 0 < r.count → IsAligned r.start r.count
+    → r.start + r.count ≤ length ds
     → cut_over H (with_own H ds t) r ≡ Some (root_over H ds r.start r.count)
-cut_own_range H ds t r some aligned = cuts.own_at H ds _ t r aligned.height aligned.place refl aligned.start some aligned.most
+cut_own_range H ds t r some aligned = cuts.own_at H ds _ t r aligned.height aligned.place refl aligned.start some
+    aligned.most
 
 -- the old root of a power of two of leaves is the digest that is held for them
-pub old_full : (H : List ℕ → List ℕ) (F : ℕ → Option (List ℕ)) (r : Range) → IsFull r.count → old_over H F r ≡ F (node_over r.start r.count)
+pub old_full : (H : List ℕ → List ℕ) (F : ℕ → Option (List ℕ)) (r : Range) → IsFull r.count
+    → old_over H F r ≡ F (node_over r.start r.count)
 old_full = cuts.old_full
 
 -- the old root of other leaves is the branch over those of the two parts
@@ -146,37 +163,46 @@ pub old_parts : (H : List ℕ → List ℕ) (F : ℕ → Option (List ℕ)) (r :
 old_parts = cuts.old_over_parts
 
 -- over a log's own digests the old root of a range of its recursion is the root over it
-pub old_own_range : (H : List ℕ → List ℕ) (ds : List (List ℕ)) (r : Range) → 0 < r.count → IsAligned r.start r.count → r.start + r.count ≤ length ds
+pub old_own_range : (H : List ℕ → List ℕ) (ds : List (List ℕ)) (r : Range) → 0 < r.count → IsAligned r.start r.count
+    → r.start + r.count ≤ length ds
     → old_over H (own_digest H ds) r ≡ Some (root_over H ds r.start r.count)
-old_own_range H ds r some aligned = cuts.own_at H ds _ cuts.nothing r aligned.height aligned.place refl aligned.start some aligned.most
+old_own_range H ds r some aligned = cuts.own_at H ds _ cuts.nothing r aligned.height aligned.place refl aligned.start
+    some aligned.most
 
 -- an inclusion proof leads to a root exactly if its node exists and this is the cut root
 pub inclusion_leads : (H : List ℕ → List ℕ) (F : ℕ → Option (List ℕ)) (p : InclusionClaim) (x root : List ℕ)
-    → (inclusion H F p x ≡ Ok root) ↔ (ExistsAt p.leaf.0 p.log_length × (cut_root H F p.leaf.0 x p.log_length ≡ Some root))
-inclusion_leads H F p x root = evaluations.leads (end_of p.leaf.0) p.log_length (cut_root H F p.leaf.0 x p.log_length) root
+    → (inclusion H F p x ≡ Ok root) ↔ (ExistsAt p.leaf.0 p.log_length
+    × (cut_root H F p.leaf.0 x p.log_length ≡ Some root))
+inclusion_leads H F p x root = evaluations.leads (end_of p.leaf.0) p.log_length (cut_root H F p.leaf.0 x p.log_length)
+    root
 
 -- a consistency proof evaluates to the roots that meet it alone
-pub consistency_only : (H : List ℕ → List ℕ) (F : ℕ → Option (List ℕ)) (m n : ℕ) (old new : List ℕ) → consistency H F m n ≡ Ok (old, new) → IsConsistent H F m n old new
+pub consistency_only : (H : List ℕ → List ℕ) (F : ℕ → Option (List ℕ)) (m n : ℕ) (old new : List ℕ)
+    → consistency H F m n ≡ Ok (old, new) → IsConsistent H F m n old new
 consistency_only = evaluations.consistency-only
 
 -- a consistency proof evaluates to roots that meet it
-pub consistency_then : (H : List ℕ → List ℕ) (F : ℕ → Option (List ℕ)) (m n : ℕ) (old new : List ℕ) → IsConsistent H F m n old new → consistency H F m n ≡ Ok (old, new)
+pub consistency_then : (H : List ℕ → List ℕ) (F : ℕ → Option (List ℕ)) (m n : ℕ) (old new : List ℕ)
+    → IsConsistent H F m n old new → consistency H F m n ≡ Ok (old, new)
 consistency_then = evaluations.consistency-then
 
 -- the needed nodes exist at the length
 pub needed_exist : (t n : ℕ) → 0 < n → AllByRecursion (λ x. ExistsAt x n) (needed t n)
-needed_exist t n some = all_weaken (orders.Lies 0 n) _ (λ x p. p.1) (needed t n) (orders.needed_within (range_of t) n some).lie
+needed_exist t n some = all_weaken (orders.Lies 0 n) _ (λ x p. p.1) (needed t n)
+    (orders.needed_within (range_of t) n some).lie
 
 -- the balanced roots of a length exist at it
 pub roots_exist : (n : ℕ) → AllByRecursion (λ t. end_of t ≤ n) (balanced_roots n)
 roots_exist n = orders.roots_end n n (omega arith)
 
 -- data that agree on the needed nodes have one cut root
-pub same_cut : (H : List ℕ → List ℕ) (F G : ℕ → Option (List ℕ)) (x : List ℕ) (t n : ℕ) → AllByRecursion (λ y. F y ≡ G y) (needed t n) → cut_root H F t x n ≡ cut_root H G t x n
+pub same_cut : (H : List ℕ → List ℕ) (F G : ℕ → Option (List ℕ)) (x : List ℕ) (t n : ℕ)
+    → AllByRecursion (λ y. F y ≡ G y) (needed t n) → cut_root H F t x n ≡ cut_root H G t x n
 same_cut H F G x t n = reads.same_on H F G x _
 
 -- and one consistency evaluation
-pub same_consistency : (H : List ℕ → List ℕ) (F G : ℕ → Option (List ℕ)) (m n : ℕ) → AllByRecursion (λ y. F y ≡ G y) (needed_between m n) → consistency H F m n ≡ consistency H G m n
+pub same_consistency : (H : List ℕ → List ℕ) (F G : ℕ → Option (List ℕ)) (m n : ℕ)
+    → AllByRecursion (λ y. F y ≡ G y) (needed_between m n) → consistency H F m n ≡ consistency H G m n
 same_consistency = reads.same_consistency
 
 -- nodes are compared by their numbers, and walks by their nodes and counts
@@ -185,12 +211,22 @@ nodes_decide m n = let d = Decides-eqb m.0 n.0 in (λ e. (λ i. record { 0 = d.0
 
 pub walks_decide : (a b : Walk) → Decides (same_walk a b) (a ≡ b)
 walks_decide a b =
-    let walk = Decides-and _ _ (pointwise_decides nodes_decide a.nodes b.nodes) (Decides-eqb a.initial_walk_len b.initial_walk_len) in
-    let d = Decides-and _ _ (Decides-and _ _ walk (Decides-eqb a.lower_broots b.lower_broots)) (Decides-eqb a.upper_broots b.upper_broots) in
-    (λ e. let h = d.0 e in (λ i. record { nodes = h.0.0.0 i; initial_walk_len = h.0.0.1 i; lower_broots = h.0.1 i; upper_broots = h.1 i }), λ e. grind (arith, d))
+    let walk = Decides-and _ _ (pointwise_decides nodes_decide a.nodes b.nodes)
+    (Decides-eqb a.initial_walk_len b.initial_walk_len) in
+    let d = Decides-and _ _ (Decides-and _ _ walk (Decides-eqb a.lower_broots b.lower_broots))
+    (Decides-eqb a.upper_broots b.upper_broots) in (
+      λ e. let h = d.0 e in (λ i. record {
+        nodes = h.0.0.0 i;
+        initial_walk_len = h.0.0.1 i;
+        lower_broots = h.0.1 i;
+        upper_broots = h.1 i;
+      }),
+      λ e. grind (arith, d),
+    )
 
 -- data that hold more have the same old roots
-pub old_more : (H : List ℕ → List ℕ) (F G : ℕ → Option (List ℕ)) → ((y : ℕ) (d : List ℕ) → F y ≡ Some d → G y ≡ Some d) → (r : Range) (d : List ℕ) → old_over H F r ≡ Some d → old_over H G r ≡ Some d
+pub old_more : (H : List ℕ → List ℕ) (F G : ℕ → Option (List ℕ)) → ((y : ℕ) (d : List ℕ) → F y ≡ Some d → G y ≡ Some d)
+    → (r : Range) (d : List ℕ) → old_over H F r ≡ Some d → old_over H G r ≡ Some d
 old_more H F G more r = reads.top_more H F G _ more _
 
 -- the balanced roots of up to 2 ^ h leaves from a multiple of 2 ^ h on follow one another
@@ -202,7 +238,8 @@ pub joined_some : (H : List ℕ → List ℕ) (p q : Option (List ℕ)) → IsSo
 joined_some H p q = (reads.joined_known H p q).0
 
 -- where each needed node's digest is known, so is the cut root
-pub known_cut : (H : List ℕ → List ℕ) (F : ℕ → Option (List ℕ)) (x : List ℕ) (t n : ℕ) → IsKnown F (needed t n) → IsSome (cut_root H F t x n)
+pub known_cut : (H : List ℕ → List ℕ) (F : ℕ → Option (List ℕ)) (x : List ℕ) (t n : ℕ) → IsKnown F (needed t n)
+    → IsSome (cut_root H F t x n)
 known_cut H F x t n = (reads.needed_exactly H F x _).0
 
 -- what is known of two lists is known of each

@@ -30,21 +30,33 @@ all_good [] lens = refl
 all_good (d ∷ ds) lens = rw (eq-eqb (length d) 32 lens.0, all_good ds lens.1) refl
 
 -- a message and the log that it holds
-pub numbers_zip : (ts : List ℕ) (ds : List (List ℕ)) → length ds ≡ length ts → map (λ (e : Entry). e.index) (map root_entry (zip ts ds)) ≡ ts
+pub numbers_zip : (ts : List ℕ) (ds : List (List ℕ)) → length ds ≡ length ts
+    → map (λ (e : Entry). e.index) (map root_entry (zip ts ds)) ≡ ts
 numbers_zip ts ds len = map-map (λ (e : Entry). e.index) root_entry (zip ts ds) ∙ firsts-zip ts ds len
 
-pub zip_entries : (es : List Entry) → map root_entry (zip (map (λ (e : Entry). e.index) es) (map (λ (e : Entry). e.hash) es)) ≡ es
+pub zip_entries : (es : List Entry)
+    → map root_entry (zip (map (λ (e : Entry). e.index) es) (map (λ (e : Entry). e.hash) es)) ≡ es
 zip_entries [] = refl
 zip_entries (e ∷ es) = ap (λ l. e ∷ l) (zip_entries es)
 
-pub entries_again : (n : ℕ) (es : List Entry) → pointwise nat_eq (map (λ (e : Entry). e.index) es) (balanced_roots n) ≡ true → map root_entry (zip (balanced_roots n) (map (λ (e : Entry). e.hash) es)) ≡ es
-entries_again n es same = rw (← (bytes_decides (map (λ (e : Entry). e.index) es) (balanced_roots n)).0 same) (zip_entries es)
+pub entries_again : (n : ℕ) (es : List Entry) → pointwise nat_eq (map (λ (e : Entry). e.index) es) (balanced_roots n)
+    ≡ true → map root_entry (zip (balanced_roots n) (map (λ (e : Entry). e.hash) es)) ≡ es
+entries_again n es same = rw (← (bytes_decides (map (λ (e : Entry). e.index) es) (balanced_roots n)).0 same)
+    (zip_entries es)
 
-pub stack_again : (n : ℕ) (ds : List (List ℕ)) → length ds ≡ length (balanced_roots n) → AllByRecursion (λ d. length d ≡ 32) ds
-    → stack_in (record { length = n; stack = map root_entry (zip (balanced_roots n) ds) }) ≡ Ok (record { len = n; digests = ds })
+pub stack_again : (n : ℕ) (ds : List (List ℕ)) → length ds ≡ length (balanced_roots n)
+    → AllByRecursion (λ d. length d ≡ 32) ds
+    → stack_in (record { length = n; stack = map root_entry (zip (balanced_roots n) ds) })
+    ≡ Ok (record { len = n; digests = ds })
 stack_again n ds count lens =
     let roots = balanced_roots n in
-    rw (map-map, seconds-zip roots ds count, all_good ds lens, numbers_zip roots ds count, (bytes_decides roots roots).1 refl) refl
+    rw (
+      map-map,
+      seconds-zip roots ds count,
+      all_good ds lens,
+      numbers_zip roots ds count,
+      (bytes_decides roots roots).1 refl,
+    ) refl
 
 -- a message that is a log's, and one that is none's
 module _ (n : ℕ) (es : List Entry) (good : first_fault digest_fault (map (λ (e : Entry). e.hash) es) ≡ None) where
@@ -55,13 +67,17 @@ module _ (n : ℕ) (es : List Entry) (good : first_fault digest_fault (map (λ (
       let roots = (bytes_decides (map (λ (e : Entry). e.index) es) (balanced_roots n)).0 same in
       (rw (good, same) refl, rw (← roots, length-map, length-map) refl)
 
-  pub no_stack : pointwise nat_eq (map (λ (e : Entry). e.index) es) (balanced_roots n) ≡ false → stack_in (record { length = n; stack = es }) ≡ Err NotAStack
+  pub no_stack : pointwise nat_eq (map (λ (e : Entry). e.index) es) (balanced_roots n) ≡ false
+      → stack_in (record { length = n; stack = es }) ≡ Err NotAStack
   no_stack other = rw (good, other) refl
 
-pub none_stack : (n : ℕ) (es : List Entry) → pointwise nat_eq (map (λ (e : Entry). e.index) es) (balanced_roots n) ≡ false
-    → (b : Blocks) → length b.digests ≡ length (balanced_roots b.len) → stack_message b ≡ record { length = n; stack = es } → ⊥
+pub none_stack : (n : ℕ) (es : List Entry) → pointwise nat_eq (map (λ (e : Entry). e.index) es) (balanced_roots n)
+    ≡ false
+    → (b : Blocks) → length b.digests ≡ length (balanced_roots b.len)
+    → stack_message b ≡ record { length = n; stack = es } → ⊥
 none_stack n es other b count is =
-    let numbers = ap (λ (m : StackImage). map (λ (e : Entry). e.index) m.stack) (sym is) ∙ numbers_zip (balanced_roots b.len) b.digests count
+    let numbers = ap (λ (m : StackImage). map (λ (e : Entry). e.index) m.stack) (sym is)
+    ∙ numbers_zip (balanced_roots b.len) b.digests count
     ∙ ap (λ (m : StackImage). balanced_roots m.length) is in
     cc (other, (bytes_decides (map (λ (e : Entry). e.index) es) (balanced_roots n)).1 numbers)
 
@@ -69,7 +85,8 @@ none_stack n es other b count is =
 abbrev pub IsDigestFault : List (List ℕ) → DecodeError → Type 0
 IsDigestFault ds e = (e ≡ Memory) ⊎ ((e ≡ HashLength) × (first_fault digest_fault ds ≡ Some e))
 
-pub stack_fault : (n : ℕ) (es : List Entry) (e : DecodeError) → IsDigestFault (map (λ (e : Entry). e.hash) es) e → (e ≡ Memory) ⊎ (stack_in (record { length = n; stack = es }) ≡ Err e)
+pub stack_fault : (n : ℕ) (es : List Entry) (e : DecodeError) → IsDigestFault (map (λ (e : Entry). e.hash) es) e
+    → (e ≡ Memory) ⊎ (stack_in (record { length = n; stack = es }) ≡ Err e)
 stack_fault n es e (inl memory) = inl memory
 stack_fault n es e (inr fault) = inr (rw fault.1 refl)
 
@@ -89,7 +106,11 @@ module _ {X Q : Type 0} (r : Result X DecodeError) (e : DecodeError) where
 
 -- the lengths whose balanced roots fit in 32 bits
 pub roots_fit : (n : ℕ) → n ≤ 2 ^ 31 → (n < 2 ^ 32) × AllByRecursion (λ t. t < 2 ^ 32) (balanced_roots n)
-roots_fit n le = (omega arith, all_weaken (λ t. end_of t ≤ n) _ (λ t ends. omega (arith, last_leaf t, ends, le)) _ (roots_end n n (omega arith)))
+roots_fit n le = (
+  omega arith,
+  all_weaken (λ t. end_of t ≤ n) _ (λ t ends. omega (arith, last_leaf t, ends, le)) _
+      (roots_end n n (omega arith)),
+)
 
 pub roots_too_large : (n : ℕ) → 2 ^ 31 < n → (n < 2 ^ 32) × AllByRecursion (λ t. t < 2 ^ 32) (balanced_roots n) → ⊥
 roots_too_large n above fits =
@@ -97,8 +118,10 @@ roots_too_large n above fits =
     let all = rw (balanced_first 31 0 n (omega arith) (omega (arith, fits.0)), second.2) at fits.1 in
     absurd (omega (arith, all.1.0, pow_pos second.0))
 
--- ---- loops over the entries of a message: what is left of a list, one step on, and entries written one after the other
-pub front_left : {X : Type 0} (xs : List X) (i : ℕ) (x : X) → i < length xs → x ≡ get_or xs i x → drop i xs ≡ x ∷ drop (i + 1) xs
+-- ---- loops over the entries of a message: what is left of a list, one step on, and entries written one after the
+-- other
+pub front_left : {X : Type 0} (xs : List X) (i : ℕ) (x : X) → i < length xs → x ≡ get_or xs i x
+    → drop i xs ≡ x ∷ drop (i + 1) xs
 front_left xs i x lt is = drop_more xs i x lt ∙ ap (λ y. y ∷ drop (i + 1) xs) (sym is)
 
 zip_none : (ts : List ℕ) → zip {X = List ℕ} ts [] ≡ []
@@ -106,12 +129,15 @@ zip_none [] = refl
 zip_none (t ∷ ts) = refl
 
 module _ {E : Type 0} (f : E → Entry) where
-  pub entry_more : (ts rest : List ℕ) (t : ℕ) (ds : List (List ℕ)) (i : ℕ) (d : List ℕ) (old new : List E) (e : E) (whole : List Entry)
+  pub entry_more : (ts rest : List ℕ) (t : ℕ) (ds : List (List ℕ)) (i : ℕ) (d : List ℕ) (old new : List E) (e : E)
+      (whole : List Entry)
       → ts ≡ t ∷ rest → i < length ds → d ≡ get_or ds i d → f e ≡ root_entry (t, d) → new ≡ old ++ e ∷ []
-      → map f old ++ map root_entry (zip ts (drop i ds)) ≡ whole → map f new ++ map root_entry (zip rest (drop (i + 1) ds)) ≡ whole
+      → map f old ++ map root_entry (zip ts (drop i ds)) ≡ whole
+      → map f new ++ map root_entry (zip rest (drop (i + 1) ds)) ≡ whole
   entry_more ts rest t ds i d old new e whole is lt at here now was =
       let split : zip ts (drop i ds) ≡ (t, d) ∷ zip rest (drop (i + 1) ds) = rw (is, front_left ds i d lt at) refl in
-      read_more root_entry _ _ (t, d) (map f old) (map f new) whole split (pushed_view f old new e now ∙ ap (λ x. map f old ++ x ∷ []) here) was
+      read_more root_entry _ _ (t, d) (map f old) (map f new) whole split
+      (pushed_view f old new e now ∙ ap (λ x. map f old ++ x ∷ []) here) was
 
   pub entries_done : (ts : List ℕ) (ds : List (List ℕ)) (i : ℕ) (out : List E) (whole : List Entry) → length ds ≤ i
       → map f out ++ map root_entry (zip ts (drop i ds)) ≡ whole → map f out ≡ whole
@@ -120,7 +146,8 @@ module _ {E : Type 0} (f : E → Entry) where
       sym (append-nil (map f out)) ∙ rw none at was
 
 -- whether roots are left, as their iterator answers
-pub roots_left : (roots rest : List ℕ) (next : Option Node) (r : Bool) → YieldsFirstBy (λ (node : Node). node.0) (λ (rest : List ℕ). rest) roots next rest → is_some next ≡ not r → pointwise nat_eq [] roots ≡ r
+pub roots_left : (roots rest : List ℕ) (next : Option Node) (r : Bool) → YieldsFirstBy (λ (node : Node). node.0)
+    (λ (rest : List ℕ). rest) roots next rest → is_some next ≡ not r → pointwise nat_eq [] roots ≡ r
 roots_left roots rest None true steps is = rw steps.0 refl
 roots_left roots rest None false steps is = cc
 roots_left roots rest (Some node) true steps is = cc

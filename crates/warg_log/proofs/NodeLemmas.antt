@@ -13,7 +13,8 @@ parts h k le = ap (λ n. 2 ^ n) (sym (add-sub_of_le le)) ∙ pow-add 2 h (k - h)
 
 -- a power of two below another has a smaller exponent
 pub pow_below_pow : (a b : ℕ) → 2 ^ a < 2 ^ b → a < b
-pow_below_pow a b lt = ⊎_elim (λ less. less) (λ le. absurd (omega (arith, pow-le-pow_right {n = 2} (lit≤ tt) le))) (cases_lt a b)
+pow_below_pow a b lt = ⊎_elim (λ less. less) (λ le. absurd (omega (arith, pow-le-pow_right {n = 2} (lit≤ tt) le)))
+    (cases_lt a b)
 
 -- a node's height and place by its number's halves
 height_is : (fuel x : ℕ) → x ≤ fuel → (j : ℕ) × IsNode x (height_within fuel x) j
@@ -22,7 +23,8 @@ height_is zero x le = (0, omega arith)
 height_is (suc fuel) x le =
     let half : x / 2 ≤ fuel = omega arith in
     ⊎_elim (λ even. (x / 2, rw (eq-eqb (x % 2) 0 even) (omega arith)))
-    (λ odd. let found = height_is fuel (x / 2) half in (found.0, rw (ne_eqb (x % 2) 0 odd, pow-suc) (omega (arith, found.1)))) (cases_eq (x % 2) 0)
+    (λ odd. let found = height_is fuel (x / 2) half in
+    (found.0, rw (ne_eqb (x % 2) 0 odd, pow-suc) (omega (arith, found.1)))) (cases_eq (x % 2) 0)
 
 -- the place is a quotient
 place_is : (x k j : ℕ) → IsNode x k j → x / 2 ^ (k + 1) ≡ j
@@ -43,23 +45,27 @@ one_place : (k k' x j j' : ℕ) → IsNode x k j → IsNode x k' j' → (k ≡ k
 one_place zero zero x j j' is is' = (refl, omega arith)
 one_place zero (suc k') x j j' is is' = absurd (omega (arith, (halve x k' j' is').0))
 one_place (suc k) zero x j j' is is' = absurd (omega (arith, (halve x k j is).0))
-one_place (suc k) (suc k') x j j' is is' = let p = one_place k k' (x / 2) j j' (halve x k j is).1 (halve x k' j' is').1 in (ap suc p.0, p.1)
+one_place (suc k) (suc k') x j j' is is' = let p = one_place k k' (x / 2) j j' (halve x k j is).1
+    (halve x k' j' is').1 in (ap suc p.0, p.1)
 
 pub node_at : (x k j : ℕ) → IsNode x k j → (height_of x ≡ k) × (place_of x ≡ j)
 node_at x k j is = one_place (height_of x) k x (place_of x) j (node_is x) is
 
 -- a digit b at each place below k, and the other one there
-by_bits : (b k n : ℕ) → b ≤ 1 → bit_at n k ≡ 1 - b → ((i : ℕ) → i < k → bit_at n i ≡ b) → (q : ℕ) × (n + b ≡ (2 * q + 1) * 2 ^ k)
+by_bits : (b k n : ℕ) → b ≤ 1 → bit_at n k ≡ 1 - b → ((i : ℕ) → i < k → bit_at n i ≡ b)
+    → (q : ℕ) × (n + b ≡ (2 * q + 1) * 2 ^ k)
 by_bits b zero n digit other same = (n / 2, omega arith)
 by_bits b (suc k) n digit other same =
-    let half = by_bits b k (n / 2) digit (sym (bit_at-suc n k) ∙ other) (λ i lt. sym (bit_at-suc n i) ∙ same (suc i) (omega arith)) in
+    let half = by_bits b k (n / 2) digit (sym (bit_at-suc n k) ∙ other)
+    (λ i lt. sym (bit_at-suc n i) ∙ same (suc i) (omega arith)) in
     (half.0, omega (arith, same 0 (omega arith), half.1, ap (λ w. (2 * half.0 + 1) * w) (pow-suc 2 k)))
 
 -- the program counts the ones at a number's end
 pub height_of_trailing_ones : (x : ℕ) → x < 2 ^ 64 → height_of x ≡ trailing_ones w64 x
 unfolding lib.Count.count_trailing_zeros
 height_of_trailing_ones x lt = ⊎_elim
-    (λ below. let t = bit_at-trailing_ones w64 x below in let n = by_bits 1 (trailing_ones w64 x) x (omega arith) t.1 t.2 in (node_at x _ n.0 (omega (arith, n.1))).0)
+    (λ below. let t = bit_at-trailing_ones w64 x below in let n = by_bits 1 (trailing_ones w64 x) x
+    (omega arith) t.1 t.2 in (node_at x _ n.0 (omega (arith, n.1))).0)
     (λ above. let top : x ≡ 18446744073709551615 = omega arith in rw top (node_at 18446744073709551615 64 0 refl).0)
     (cases_lt (x + 1) (2 ^ 64))
 
@@ -73,23 +79,27 @@ low_by_end x lt = pow_below_pow (height_of x) 64 (omega arith)
 
 -- the parent of a left and of a right node
 pub parent_left : (x : ℕ) → place_of x % 2 ≡ 0 → IsNode (x + 2 ^ height_of x) (height_of x + 1) (place_of x / 2)
-parent_left x even = let half : place_of x ≡ place_of x / 2 * 2 = omega arith in rw pow-add (omega (arith, node_is x, ap (λ n. 2 ^ height_of x * n) half))
+parent_left x even = let half : place_of x ≡ place_of x / 2 * 2 = omega arith in
+    rw pow-add (omega (arith, node_is x, ap (λ n. 2 ^ height_of x * n) half))
 
-pub parent_right : (x : ℕ) → place_of x % 2 ≡ 1 → (2 ^ height_of x ≤ x) × IsNode (x - 2 ^ height_of x) (height_of x + 1) (place_of x / 2)
+pub parent_right : (x : ℕ) → place_of x % 2 ≡ 1 → (2 ^ height_of x ≤ x) × IsNode (x - 2 ^ height_of x) (height_of x + 1)
+    (place_of x / 2)
 parent_right x odd =
     let half : place_of x ≡ place_of x / 2 * 2 + 1 = omega arith in
     let scaled = ap (λ n. 2 ^ height_of x * n) half in
     rw pow-add (omega (arith, node_is x, scaled, pow_pos), omega (arith, node_is x, scaled, pow_pos))
 
 -- the sibling of a right node
-pub sibling_right : (x : ℕ) → place_of x % 2 ≡ 1 → (2 ^ height_of x + 2 ^ height_of x ≤ x) × IsNode (x - 2 ^ height_of x - 2 ^ height_of x) (height_of x) (place_of x - 1)
+pub sibling_right : (x : ℕ) → place_of x % 2 ≡ 1 → (2 ^ height_of x + 2 ^ height_of x ≤ x)
+    × IsNode (x - 2 ^ height_of x - 2 ^ height_of x) (height_of x) (place_of x - 1)
 sibling_right x odd =
     let one : place_of x ≡ place_of x - 1 + 1 = omega arith in
     let scaled = ap (λ n. 2 ^ height_of x * n) one in
     (omega (arith, node_is x, scaled, pow_pos), omega (arith, node_is x, scaled, pow_pos))
 
 -- the children of a branch
-pub child_nodes : (x : ℕ) → 0 < height_of x → (2 ^ height_of x / 2 ≤ x) × IsNode (x - 2 ^ height_of x / 2) (height_of x - 1) (2 * place_of x) × IsNode (x + 2 ^ height_of x / 2) (height_of x - 1) (2 * place_of x + 1)
+pub child_nodes : (x : ℕ) → 0 < height_of x → (2 ^ height_of x / 2 ≤ x) × IsNode (x - 2 ^ height_of x / 2)
+    (height_of x - 1) (2 * place_of x) × IsNode (x + 2 ^ height_of x / 2) (height_of x - 1) (2 * place_of x + 1)
 child_nodes x some =
     let at = rw (parts 1 (height_of x) (omega arith)) at (node_is x) in
     let half : 2 ^ height_of x / 2 ≡ 2 ^ (height_of x - 1) = omega (arith, parts 1 (height_of x) (omega arith)) in
@@ -110,51 +120,71 @@ room_at x k j is lt low =
 pub room : (x : ℕ) → x < 2 ^ 64 → height_of x < 64 → x + 2 ^ height_of x < 2 ^ 64
 room x = room_at x (height_of x) (place_of x) (node_is x)
 
-pub room_left : (x : ℕ) → x < 2 ^ 64 → height_of x < 63 → place_of x % 2 ≡ 0 → x + 2 ^ height_of x + 2 ^ height_of x < 2 ^ 64
+pub room_left : (x : ℕ) → x < 2 ^ 64 → height_of x < 63 → place_of x % 2 ≡ 0
+    → x + 2 ^ height_of x + 2 ^ height_of x < 2 ^ 64
 room_left x lt low even =
     let below = room x lt (omega arith) in
-    omega (arith, pow-add 2 (height_of x) 1, room_at (x + 2 ^ height_of x) (height_of x + 1) (place_of x / 2) (parent_left x even) below (omega arith))
+    omega (
+      arith,
+      pow-add 2 (height_of x) 1,
+      room_at (x + 2 ^ height_of x) (height_of x + 1) (place_of x / 2)
+          (parent_left x even) below (omega arith),
+    )
 
 -- the node of height h that begins where the node x ends, from the last leaf below x and the first node of the height
-pub next_at : (x h last first : ℕ) → h ≤ height_of x → last ≡ 2 * (end_of x - 1) → IsNode first h 0 → (height_of (last + 2 + first) ≡ h) × (start_of (last + 2 + first) ≡ end_of x)
+pub next_at : (x h last first : ℕ) → h ≤ height_of x → last ≡ 2 * (end_of x - 1) → IsNode first h 0
+    → (height_of (last + 2 + first) ≡ h) × (start_of (last + 2 + first) ≡ end_of x)
 next_at x h last first le ends is =
     let wide = parts h (height_of x) le in
-    let at = node_at (last + 2 + first) h ((place_of x + 1) * 2 ^ (height_of x - h)) (omega (arith, ap (λ w. (place_of x + 1) * w) wide, pow_pos (height_of x))) in
+    let at = node_at (last + 2 + first) h ((place_of x + 1) * 2 ^ (height_of x - h))
+    (omega (arith, ap (λ w. (place_of x + 1) * w) wide, pow_pos (height_of x))) in
     (at.0, rw (at.0, at.1) (omega (arith, ap (λ w. (place_of x + 1) * w) wide)))
 
 -- the node over a range
 pub only_number : (x k j : ℕ) → IsNode x k j → x ≡ node_over (j * 2 ^ k) (2 ^ k)
 only_number x k j is = omega arith
 
-pub over_at : (k j : ℕ) → (height_of (node_over (j * 2 ^ k) (2 ^ k)) ≡ k) × (place_of (node_over (j * 2 ^ k) (2 ^ k)) ≡ j)
+pub over_at : (k j : ℕ) → (height_of (node_over (j * 2 ^ k) (2 ^ k)) ≡ k)
+    × (place_of (node_over (j * 2 ^ k) (2 ^ k)) ≡ j)
 over_at k j = node_at (node_over (j * 2 ^ k) (2 ^ k)) k j (omega (arith, pow_pos))
 
 pub over_ends : (k j : ℕ) → end_of (node_over (j * 2 ^ k) (2 ^ k)) ≡ j * 2 ^ k + 2 ^ k
 over_ends k j = let at = over_at k j in rw (at.0, at.1) (omega arith)
 
 -- a length's last balanced root has as many leaves as the greatest power of two that divides the length
-pub last_root : (n : ℕ) → 0 < n → n < 2 ^ 64 → (q : ℕ) × (n ≡ (2 * q + 1) * 2 ^ trailing_zeros w64 n) × (trailing_zeros w64 n < 64)
-last_root n some fits = let t = bit_at-trailing_zeros w64 n some fits in let last = by_bits 0 (trailing_zeros w64 n) n (omega arith) t.1 t.2 in (last.0, omega (arith, last.1), t.0)
+pub last_root : (n : ℕ) → 0 < n → n < 2 ^ 64 → (q : ℕ) × (n ≡ (2 * q + 1) * 2 ^ trailing_zeros w64 n)
+    × (trailing_zeros w64 n < 64)
+last_root n some fits = let t = bit_at-trailing_zeros w64 n some fits in let last = by_bits 0 (trailing_zeros w64 n) n
+    (omega arith) t.1 t.2 in (last.0, omega (arith, last.1), t.0)
 
-pub last_width : (n : ℕ) → 0 < n → n < 2 ^ 64 → (trailing_zeros w64 n < 64) × (1 * 2 ^ trailing_zeros w64 n % 2 ^ 64 ≤ n) × (0 < 1 * 2 ^ trailing_zeros w64 n % 2 ^ 64)
+pub last_width : (n : ℕ) → 0 < n → n < 2 ^ 64 → (trailing_zeros w64 n < 64)
+    × (1 * 2 ^ trailing_zeros w64 n % 2 ^ 64 ≤ n) × (0 < 1 * 2 ^ trailing_zeros w64 n % 2 ^ 64)
 last_width n some fits =
     let last = last_root n some fits in
     rw (one_shl (trailing_zeros w64 n) 64 last.2) (last.2, omega (arith, last.1), pow_pos (trailing_zeros w64 n))
 
 -- twice each smaller power of two divides the length
-pub smaller_root : (n h : ℕ) → 0 < n → n < 2 ^ 64 → h < trailing_zeros w64 n → (j : ℕ) × (n ≡ (j + 1) * 2 ^ suc h) × (1 * 2 ^ h % 2 ^ 64 ≡ 2 ^ h) × (2 * 2 ^ h ≤ n)
+pub smaller_root : (n h : ℕ) → 0 < n → n < 2 ^ 64 → h < trailing_zeros w64 n → (j : ℕ) × (n ≡ (j + 1) * 2 ^ suc h)
+    × (1 * 2 ^ h % 2 ^ 64 ≡ 2 ^ h) × (2 * 2 ^ h ≤ n)
 smaller_root n h some fits low =
     let last = last_root n some fits in
     let m = (2 * last.0 + 1) * 2 ^ (trailing_zeros w64 n - suc h) in
     let back : m - 1 + 1 ≡ m = omega (arith, pow_pos (trailing_zeros w64 n - suc h)) in
-    let is : n ≡ (m - 1 + 1) * 2 ^ suc h = rw back (last.1 ∙ rw (parts (suc h) (trailing_zeros w64 n) low) (omega arith)) in
+    let is : n ≡ (m - 1 + 1) * 2 ^ suc h =
+    rw back (last.1 ∙ rw (parts (suc h) (trailing_zeros w64 n) low) (omega arith)) in
     (m - 1, is, one_shl h 64 (omega (arith, last.2)), omega (arith, rw pow-suc at is))
 
 -- no greater power of two divides it
 pub divides_most : (n h j : ℕ) → 0 < n → n < 2 ^ 64 → n ≡ j * 2 ^ h → h ≤ trailing_zeros w64 n
 divides_most n h j some fits is =
     let t = trailing_zeros w64 n in
-    ⊎_elim (λ (tall : t < h). absurd (omega (arith, rw (add-zero, ← is) at (bit_at_cat_low j h 0 t tall), bit_at-zero t, (bit_at-trailing_zeros w64 n some fits).1))) (λ le. le) (cases_lt t h)
+    ⊎_elim (λ (tall : t < h). absurd
+    (omega (
+      arith,
+      rw (add-zero, ← is) at (bit_at_cat_low j h 0 t tall),
+      bit_at-zero t,
+      (bit_at-trailing_zeros w64 n some fits).1,
+    ))) (λ le. le) (cases_lt t h)
 
 -- a height and a place have one number
 pub one_number : (x y k j i : ℕ) → j ≡ i → IsNode x k j → IsNode y k i → x ≡ y

@@ -21,51 +21,81 @@ reverse-cons xs x = reverse_onto xs x []
 
 -- the way down a power of two of leaves that miss the target, which needs its own node
 pub way_beside : (t r : Range) → IsFull r.count → IsBeside t r → way_over t r ≡ at_node (node_over r.start r.count)
-way_beside t r full beside = way_over-read t r (λ same. omega (arith, starts same, counts same, full, pow_pos full.0)) (inr (full, (beside_decides t r).1 beside))
+way_beside t r full beside = way_over-read t r (λ same. omega (arith, starts same, counts same, full, pow_pos full.0))
+    (inr (full, (beside_decides t r).1 beside))
 
 -- the range of the node that stands d heights above the j-th one of height k
-pub above : (d k j : ℕ) → (j / 2 ^ d * 2 ^ (k + d) ≤ j * 2 ^ k) × (j * 2 ^ k + 2 ^ k ≤ j / 2 ^ d * 2 ^ (k + d) + 2 ^ (k + d))
+pub above : (d k j : ℕ) → (j / 2 ^ d * 2 ^ (k + d) ≤ j * 2 ^ k)
+    × (j * 2 ^ k + 2 ^ k ≤ j / 2 ^ d * 2 ^ (k + d) + 2 ^ (k + d))
 above d k j =
     let pos : 0 < 2 ^ d = pow_pos d in
-    let low : j / 2 ^ d * 2 ^ d * 2 ^ k ≤ j * 2 ^ k = mul-le-mul_right (2 ^ k) (let le : j / 2 ^ d * 2 ^ d ≤ j = omega arith in le) in
-    let high : (j + 1) * 2 ^ k ≤ (j / 2 ^ d * 2 ^ d + 2 ^ d) * 2 ^ k = mul-le-mul_right (2 ^ k) (let le : j + 1 ≤ j / 2 ^ d * 2 ^ d + 2 ^ d = omega arith in le) in
+    let low : j / 2 ^ d * 2 ^ d * 2 ^ k ≤ j * 2 ^ k = mul-le-mul_right (2 ^ k)
+    (let le : j / 2 ^ d * 2 ^ d ≤ j = omega arith in le) in
+    let high : (j + 1) * 2 ^ k ≤ (j / 2 ^ d * 2 ^ d + 2 ^ d) * 2 ^ k = mul-le-mul_right (2 ^ k)
+    (let le : j + 1 ≤ j / 2 ^ d * 2 ^ d + 2 ^ d = omega arith in le) in
     rw (pow-add 2 k d) (omega arith, omega arith)
 
 -- the leaves below the j-th node of height k
 abbrev pub block : ℕ → ℕ → Range
 block k j = leaves_from (j * 2 ^ k) (2 ^ k)
 
--- the way down to a target in the range of the i-th node of height h, from the node above: by that range's way, beside the sibling's node
+-- the way down to a target in the range of the i-th node of height h, from the node above: by that range's way, beside
+-- the sibling's node
 abbrev pub up : ℕ → ℕ → Way → Way
-up h i way = if i % 2 == 0 then at_parts false way (at_node (number_of h (sibling_place i))) else at_parts true (at_node (number_of h (sibling_place i))) way
+up h i way = if i % 2 == 0 then at_parts false way (at_node (number_of h (sibling_place i))) else at_parts true
+    (at_node (number_of h (sibling_place i))) way
 
-way_up : (t : Range) (h i : ℕ) → 0 < t.count → i * 2 ^ h ≤ t.start → t.start + t.count ≤ i * 2 ^ h + 2 ^ h → way_over t (block (suc h) (i / 2)) ≡ up h i (way_over t (block h i))
+way_up : (t : Range) (h i : ℕ) → 0 < t.count → i * 2 ^ h ≤ t.start → t.start + t.count ≤ i * 2 ^ h + 2 ^ h
+    → way_over t (block (suc h) (i / 2)) ≡ up h i (way_over t (block h i))
 way_up t h i some low high =
     let split = λ (a : ℕ) (apart : IsBeside t (leaves_from a (2 ^ suc h)) → ⊥).
-    way_over-split t (leaves_from a (2 ^ suc h)) h (omega (arith, pow-suc, pow_pos)) (omega arith) (λ same. omega (arith, pow-suc, counts same)) (λ _ b. apart ((beside_decides t _).0 b)) in
+    way_over-split t (leaves_from a (2 ^ suc h)) h (omega (arith, pow-suc, pow_pos)) (omega arith)
+    (λ same. omega (arith, pow-suc, counts same)) (λ _ b. apart ((beside_decides t _).0 b)) in
     let wide = ap (λ p. i / 2 * p) (pow-suc 2 h) in
     ⊎_elim
     (λ (even : i % 2 ≡ 0).
     let half = ap (λ m. m * 2 ^ h) (let is : i ≡ 2 * (i / 2) = omega arith in is) in
     let first = split (i * 2 ^ h) (λ b. omega (arith, pow-suc)) in
     let next = way_beside t (block h (i + 1)) (h, refl) (inr (omega arith)) in
-    rw (eq-eqb (i % 2) 0 even) (grind (arith, half, wide, pow-suc 2 h, first, refuted _ (beside_decides t (block h i)) (λ b. omega arith), next)))
+    rw (eq-eqb (i % 2) 0 even) (grind (
+      arith,
+      half,
+      wide,
+      pow-suc 2 h,
+      first,
+      refuted _ (beside_decides t (block h i))
+          (λ b. omega arith),
+      next,
+    )))
     (λ (odd : i % 2 ≡ 0 → ⊥).
     let less : i - 1 + 1 ≡ i = omega arith in
     let half = ap (λ m. m * 2 ^ h) (let is : i ≡ 2 * (i / 2) + 1 = omega arith in is) in
     let next : (i - 1) * 2 ^ h + 2 ^ h ≡ i * 2 ^ h = omega (arith, ap (λ m. m * 2 ^ h) less) in
     let beside : IsBeside t (block h (i - 1)) = inl (rw next low) in
     let first = split ((i - 1) * 2 ^ h) (λ b. omega (arith, pow-suc, next)) in
-    rw (ne_eqb (i % 2) 0 odd) (grind (arith, half, next, wide, pow-suc 2 h, first, (beside_decides t (block h (i - 1))).1 beside, way_beside t (block h (i - 1)) (h, refl) beside)))
+    rw (ne_eqb (i % 2) 0 odd) (grind (
+      arith,
+      half,
+      next,
+      wide,
+      pow-suc 2 h,
+      first,
+      (beside_decides t (block h (i - 1))).1 beside,
+      way_beside t (block h (i - 1)) (h, refl) beside,
+    )))
     (cases_eq (i % 2) 0)
 
--- P holds of the way to the j-th node of height k from each node above it where it holds at that node and, if it does at one, at the next
-pub climb : (k j : ℕ) (P : ℕ → Way → Type 0) → P 0 at_target → ((d : ℕ) (way : Way) → P d way → P (suc d) (up (k + d) (j / 2 ^ d) way))
+-- P holds of the way to the j-th node of height k from each node above it where it holds at that node and, if it does
+-- at one, at the next
+pub climb : (k j : ℕ) (P : ℕ → Way → Type 0) → P 0 at_target
+    → ((d : ℕ) (way : Way) → P d way → P (suc d) (up (k + d) (j / 2 ^ d) way))
     → (d : ℕ) → P d (way_over (block k j) (block (k + d) (j / 2 ^ d)))
-climb k j P here step zero = let same : j / 2 ^ 0 ≡ j = omega arith in rw (same, add-zero, way_over_target (block k j)) here
+climb k j P here step zero = let same : j / 2 ^ 0 ≡ j = omega arith in
+    rw (same, add-zero, way_over_target (block k j)) here
 climb k j P here step (suc d) =
     let next : k + suc d ≡ suc (k + d) = omega arith in
-    let half : j / 2 ^ suc d ≡ j / 2 ^ d / 2 = let next : suc d ≡ d + 1 = omega arith in rw next (sym (shr-shr j d 1)) in
+    let half : j / 2 ^ suc d ≡ j / 2 ^ d / 2 = let next : suc d ≡ d + 1 = omega arith in
+    rw next (sym (shr-shr j d 1)) in
     let at = above d k j in
     rw (next, half, way_up (block k j) (k + d) (j / 2 ^ d) (pow_pos k) at.0 at.1) (step d _ (climb k j P here step d))
 
@@ -73,14 +103,17 @@ climb k j P here step (suc d) =
 need_around : (d k j : ℕ) → needed_over (block k j) (block (k + d) (j / 2 ^ d)) ≡ siblings_up d k j
 unfolding read_on
 need_around d k j = climb k j (λ d way. read_on way ≡ siblings_up d k j) refl
-    (λ d way is. cond_both (j / 2 ^ d % 2 == 0) _ _ (λ w. read_on w ≡ siblings_up (suc d) k j) (λ _. rw is refl) (λ _. rw is refl)) d
+    (λ d way is. cond_both (j / 2 ^ d % 2 == 0) _ _ (λ w. read_on w ≡ siblings_up (suc d) k j) (λ _. rw is refl)
+    (λ _. rw is refl)) d
 
 -- leaves in front, a multiple of 2 ^ e, of fewer than 2 ^ e: their balanced roots come first
-pub roots_front : (e q m : ℕ) → m < 2 ^ e → balanced_roots (q * 2 ^ e + m) ≡ balanced_roots (q * 2 ^ e) ++ balanced_over (q * 2 ^ e) m
+pub roots_front : (e q m : ℕ) → m < 2 ^ e → balanced_roots (q * 2 ^ e + m) ≡ balanced_roots (q * 2 ^ e) ++ balanced_over
+    (q * 2 ^ e) m
 roots_front e q m low =
     let w = 2 ^ e in
     let none : 0 * w ≡ 0 = omega arith in
-    rw (none, zero-add) at (roots (λ a n _. balanced_over (a * w) (n * w + m) ≡ balanced_over (a * w) (n * w) ++ balanced_over ((a + n) * w) m) (record {
+    rw (none, zero-add) at (roots (λ a n _. balanced_over (a * w) (n * w + m) ≡ balanced_over (a * w)
+    (n * w) ++ balanced_over ((a + n) * w) m) (record {
       none = λ a. rw (none, zero-add, add-zero, balanced_none) refl;
       first = λ h c k ts lt rest.
           let most : (k + 1) * w ≤ 2 ^ h * w = mul-le-mul_right w (let le : k + 1 ≤ 2 ^ h = omega arith in le) in
@@ -95,12 +128,15 @@ pub roots_by : (h i n a b : ℕ) → (i + 1) * 2 ^ h ≤ n → n < (i / 2 + 1) *
 roots_by h i n a b ends top a_is b_is =
     let two = pow-suc 2 h in
     let even : i ≡ 2 * (i / 2) = ⊎_elim (λ (e : i % 2 ≡ 0). omega arith)
-    (λ (odd : i % 2 ≡ 0 → ⊥). absurd (omega (arith, ends, rw two at top, ap (λ p. p * 2 ^ h) (let is : i ≡ 2 * (i / 2) + 1 = omega arith in is)))) (cases_eq (i % 2) 0) in
+    (λ (odd : i % 2 ≡ 0 → ⊥). absurd
+    (omega (arith, ends, rw two at top, ap (λ p. p * 2 ^ h) (let is : i ≡ 2 * (i / 2) + 1 = omega arith in is))))
+    (cases_eq (i % 2) 0) in
     let start : i / 2 * 2 ^ suc h ≡ a = rw two (omega (arith, a_is, ap (λ p. p * 2 ^ h) even)) in
     let whole : a + (n - a) ≡ n = omega (arith, ends) in
     let rest : n - a - 2 ^ h ≡ n - b = omega arith in
     let high : n - a < 2 ^ suc h = omega (arith, top, start) in
-    rw (start, whole) at (roots_front (suc h) (i / 2) (n - a) high) ∙ ap (λ l. balanced_roots a ++ l) (balanced_first h a (n - a) (omega (arith, ends)) high ∙ rw (rest, b_is, a_is) refl)
+    rw (start, whole) at (roots_front (suc h) (i / 2) (n - a) high) ∙ ap (λ l. balanced_roots a ++ l)
+    (balanced_first h a (n - a) (omega (arith, ends)) high ∙ rw (rest, b_is, a_is) refl)
 
 -- ---- the way down leaves, by the ways down their balanced roots
 
@@ -118,82 +154,110 @@ module _ (t : Range) where
   Covers a n [] = n ≡ 0
   Covers a n (r ∷ rs) = (0 < n) × (way_over t (leaves_from a n) ≡ spine t r rs)
 
-  covers_first : (0 < t.count → IsFull t.count) → (h c m : ℕ) (rs : List ℕ) → m < 2 ^ h → Covers (c * 2 ^ h + 2 ^ h) m rs
+  covers_first : (0 < t.count → IsFull t.count) → (h c m : ℕ) (rs : List ℕ) → m < 2 ^ h
+      → Covers (c * 2 ^ h + 2 ^ h) m rs
       → Covers (c * 2 ^ h) (2 ^ h + m) (node_over (c * 2 ^ h) (2 ^ h) ∷ rs)
   covers_first full h c m [] lt none = (omega (arith, pow_pos h), grind (arith, none, over_at h c))
   covers_first full h c m (u ∷ us) lt rest =
       let more : 2 ^ h < 2 ^ h + m = omega (arith, rest.0) in
-      let part : (k : ℕ) → 2 ^ h + m ≡ 2 ^ k → ⊥ = λ k is. omega (arith, pow_below_pow h k (omega arith), pow_below_pow k (suc h) (omega (arith, pow-suc))) in
+      let part : (k : ℕ) → 2 ^ h + m ≡ 2 ^ k
+      → ⊥ = λ k is. omega (
+        arith,
+        pow_below_pow h k (omega arith),
+        pow_below_pow k (suc h) (omega (arith, pow-suc)),
+      ) in
       let range = leaves_from (c * 2 ^ h) (2 ^ h + m) in
       let other : range ≡ t → ⊥ = λ same. let f = full (omega (arith, counts same)) in part f.0 (counts same ∙ f.1) in
       let split = way_over-split t range h more (omega (arith, pow-suc)) other (λ f _. part (suc h) f) in
       (omega arith, grind (arith, split, rest.1, over_at h c))
 
-  pub way_roots : (0 < t.count → IsFull t.count) → (n r : ℕ) (rs : List ℕ) → balanced_roots n ≡ r ∷ rs → way_over t (leaves_from 0 n) ≡ spine t r rs
+  pub way_roots : (0 < t.count → IsFull t.count) → (n r : ℕ) (rs : List ℕ) → balanced_roots n ≡ r ∷ rs
+      → way_over t (leaves_from 0 n) ≡ spine t r rs
   way_roots full n r rs is = (rw is at (roots Covers (record { none = λ a. refl; first = covers_first full }) n)).1
 
   -- a root that misses the target is read, and so the roots behind the target and before it, from right to left
   pub way_missed : (r : ℕ) → Misses t r → way_over t (range_of r) ≡ at_node r
-  way_missed r miss = way_beside t (range_of r) (height_of r, refl) miss ∙ ap at_node (sym (only_number r (height_of r) (place_of r) (node_is r)))
+  way_missed r miss = way_beside t (range_of r) (height_of r, refl) miss
+      ∙ ap at_node (sym (only_number r (height_of r) (place_of r) (node_is r)))
 
   reads_others : (r : ℕ) (rs : List ℕ) → AllByRecursion (Misses t) (r ∷ rs) → read_on (spine t r rs) ≡ reverse (r ∷ rs)
   unfolding read_on
   reads_others r [] all = rw (way_missed r all.0) refl
-  reads_others r (s ∷ rs) all = rw ((beside_decides t (range_of r)).1 all.0, way_missed r all.0, reads_others s rs all.1) (sym (reverse-cons (s ∷ rs) r))
+  reads_others r (s ∷ rs) all = rw (
+    (beside_decides t (range_of r)).1 all.0,
+    way_missed r all.0,
+    reads_others s rs all.1,
+  ) (sym (reverse-cons (s ∷ rs) r))
 
-  reads_top : (r : ℕ) (rs : List ℕ) → (Misses t r → ⊥) → AllByRecursion (Misses t) rs → read_on (spine t r rs) ≡ read_on (way_over t (range_of r)) ++ reverse rs
+  reads_top : (r : ℕ) (rs : List ℕ) → (Misses t r → ⊥) → AllByRecursion (Misses t) rs → read_on (spine t r rs)
+      ≡ read_on (way_over t (range_of r)) ++ reverse rs
   unfolding read_on
   reads_top r [] inside all = sym (append-nil _)
   reads_top r (s ∷ rs) inside all = rw (refuted _ (beside_decides t (range_of r)) inside, reads_others s rs all) refl
 
-  reads_left : (l : ℕ) (ls : List ℕ) (r : ℕ) (rs : List ℕ) → AllByRecursion (Misses t) (l ∷ ls) → read_on (spine t l (ls ++ r ∷ rs)) ≡ read_on (spine t r rs) ++ reverse (l ∷ ls)
+  reads_left : (l : ℕ) (ls : List ℕ) (r : ℕ) (rs : List ℕ) → AllByRecursion (Misses t) (l ∷ ls)
+      → read_on (spine t l (ls ++ r ∷ rs)) ≡ read_on (spine t r rs) ++ reverse (l ∷ ls)
   unfolding read_on
   reads_left l [] r rs all = rw ((beside_decides t (range_of l)).1 all.0, way_missed l all.0) refl
   reads_left l (m ∷ ls) r rs all =
-      rw ((beside_decides t (range_of l)).1 all.0, way_missed l all.0, reads_left m ls r rs all.1, reverse-cons (m ∷ ls) l)
+      rw (
+        (beside_decides t (range_of l)).1 all.0,
+        way_missed l all.0,
+        reads_left m ls r rs all.1,
+        reverse-cons (m ∷ ls) l,
+      )
       (append_assoc (read_on (spine t r rs)) (reverse (m ∷ ls)) (l ∷ []))
 
   pub way_walk : (0 < t.count → IsFull t.count) → (n r : ℕ) (left right : List ℕ) → balanced_roots n ≡ left ++ r ∷ right
       → (Misses t r → ⊥) → AllByRecursion (Misses t) left → AllByRecursion (Misses t) right
       → needed_over t (leaves_from 0 n) ≡ read_on (way_over t (range_of r)) ++ reverse right ++ reverse left
-  way_walk full n r [] right split inside before behind = ap read_on (way_roots full n r right split) ∙ reads_top r right inside behind ∙ sym (append-nil _)
+  way_walk full n r [] right split inside before behind = ap read_on (way_roots full n r right split)
+      ∙ reads_top r right inside behind ∙ sym (append-nil _)
   way_walk full n r (l ∷ ls) right split inside before behind =
-      ap read_on (way_roots full n l (ls ++ r ∷ right) split) ∙ reads_left l ls r right before ∙ ap (λ xs. xs ++ reverse (l ∷ ls)) (reads_top r right inside behind)
+      ap read_on (way_roots full n l (ls ++ r ∷ right) split) ∙ reads_left l ls r right before
+      ∙ ap (λ xs. xs ++ reverse (l ∷ ls)) (reads_top r right inside behind)
 
   -- all roots but the one above the target miss it
   after_beside : (a n : ℕ) (rs : List ℕ) → t.start + t.count ≤ a → Follow a n rs → AllByRecursion (Misses t) rs
   after_beside a n [] le follow = tt
-  after_beside a n (r ∷ rs) le follow = (inr (omega (arith, follow.0)), after_beside (end_of r) n rs (omega (arith, follow.0)) follow.1)
+  after_beside a n (r ∷ rs) le follow =
+      (inr (omega (arith, follow.0)), after_beside (end_of r) n rs (omega (arith, follow.0)) follow.1)
 
-  others_beside : (a n r : ℕ) (left right : List ℕ) → start_of r ≤ t.start → t.start + t.count ≤ end_of r → Follow a n (left ++ r ∷ right)
+  others_beside : (a n r : ℕ) (left right : List ℕ) → start_of r ≤ t.start → t.start + t.count ≤ end_of r
+      → Follow a n (left ++ r ∷ right)
       → (a ≤ t.start) × AllByRecursion (Misses t) left × AllByRecursion (Misses t) right
-  others_beside a n r [] right low high follow = (omega (arith, follow.0), tt, after_beside (end_of r) n right high follow.1)
+  others_beside a n r [] right low high follow =
+      (omega (arith, follow.0), tt, after_beside (end_of r) n right high follow.1)
   others_beside a n r (l ∷ left) right low high follow =
       let rest = others_beside (end_of l) n r left right low high follow.1 in
       (omega (arith, follow.0, rest.0), (inl (omega (arith, rest.0)), rest.1), rest.2)
 
 -- of the balanced roots, one above the j-th node of height k
-module _ (k j c n : ℕ) (left right : List ℕ) (split : balanced_roots n ≡ left ++ number_of (k + c) (j / 2 ^ c) ∷ right) where
-  pub others_miss : AllByRecursion (Misses (block k j)) left × AllByRecursion (Misses (block k j)) right
-  others_miss =
-      let at = over_at (k + c) (j / 2 ^ c) in
-      let within = above c k j in
-      let p = others_beside (block k j) 0 n (number_of (k + c) (j / 2 ^ c)) left right
-      (grind (arith, at, within)) (omega (arith, over_ends (k + c) (j / 2 ^ c), within)) (rw split at (roots_follow n)) in
-      (p.1, p.2)
+module _ (k j c n : ℕ) (left right : List ℕ) (split : balanced_roots n ≡ left ++ number_of (k + c) (j / 2 ^ c) ∷ right)
+  where
+    pub others_miss : AllByRecursion (Misses (block k j)) left × AllByRecursion (Misses (block k j)) right
+    others_miss =
+        let at = over_at (k + c) (j / 2 ^ c) in
+        let within = above c k j in
+        let p = others_beside (block k j) 0 n (number_of (k + c) (j / 2 ^ c)) left right
+        (grind (arith, at, within)) (omega (arith, over_ends (k + c) (j / 2 ^ c), within))
+        (rw split at (roots_follow n)) in
+        (p.1, p.2)
 
-  pub needed_walk : needed_over (block k j) (leaves_from 0 n) ≡ siblings_up c k j ++ reverse right ++ reverse left
-  needed_walk =
-      let at = over_at (k + c) (j / 2 ^ c) in
-      let within = above c k j in
-      way_walk (block k j) (λ _. (k, refl)) n (number_of (k + c) (j / 2 ^ c)) left right split (rw (at.0, at.1) (λ b. omega (arith, within, pow_pos k))) others_miss.0 others_miss.1
-      ∙ rw (at.0, at.1, need_around c k j) refl
+    pub needed_walk : needed_over (block k j) (leaves_from 0 n) ≡ siblings_up c k j ++ reverse right ++ reverse left
+    needed_walk =
+        let at = over_at (k + c) (j / 2 ^ c) in
+        let within = above c k j in
+        way_walk (block k j) (λ _. (k, refl)) n (number_of (k + c) (j / 2 ^ c)) left right split
+        (rw (at.0, at.1) (λ b. omega (arith, within, pow_pos k))) others_miss.0 others_miss.1
+        ∙ rw (at.0, at.1, need_around c k j) refl
 
 -- how many the balanced roots and the siblings are
 pub balanced_count : (h a n : ℕ) → length (balanced_within h a n) ≤ h
 unfolding balanced_within
 balanced_count zero a n = lit≤ tt
-balanced_count (suc h) a n = cond_both (nat_le (2 ^ h) n) (node_over a (2 ^ h) ∷ balanced_within h (a + 2 ^ h) (n - 2 ^ h)) (balanced_within h a n) (λ l. length l ≤ suc h)
+balanced_count (suc h) a n = cond_both (nat_le (2 ^ h) n)
+    (node_over a (2 ^ h) ∷ balanced_within h (a + 2 ^ h) (n - 2 ^ h)) (balanced_within h a n) (λ l. length l ≤ suc h)
     (λ _. omega (arith, balanced_count h (a + 2 ^ h) (n - 2 ^ h))) (λ _. omega (arith, balanced_count h a n))
 
 pub siblings_count : (c k j : ℕ) → length (siblings_up c k j) ≡ c
@@ -204,12 +268,14 @@ siblings_count (suc c) k j = length-append (siblings_up c k j) _ ∙ rw (sibling
 abbrev pub Lies : ℕ → ℕ → ℕ → Type 0
 Lies a e x = (a ≤ start_of x) × (end_of x ≤ e)
 
-distinct_append : (P Q : ℕ → Type 0) → ((x y : ℕ) → P x → Q y → x ≡ y → ⊥) → (xs ys : List ℕ) → AllByRecursion P xs → AllByRecursion Q ys
+distinct_append : (P Q : ℕ → Type 0) → ((x y : ℕ) → P x → Q y → x ≡ y → ⊥) → (xs ys : List ℕ) → AllByRecursion P xs
+    → AllByRecursion Q ys
     → IsDistinct nat_eq xs → IsDistinct nat_eq ys → IsDistinct nat_eq (xs ++ ys)
 unfolding IsDistinct
 distinct_append P Q apart [] ys h i d e = e
 distinct_append P Q apart (x ∷ xs) ys h i d e = (
-  all_append (λ y. nat_eq x y ≡ false) xs ys d.0 (all_weaken Q (λ y. nat_eq x y ≡ false) (λ y q. ne_eqb x y (apart x y h.0 q)) ys i),
+  all_append (λ y. nat_eq x y ≡ false) xs ys d.0
+      (all_weaken Q (λ y. nat_eq x y ≡ false) (λ y q. ne_eqb x y (apart x y h.0 q)) ys i),
   distinct_append P Q apart xs ys h.1 i d.1 e,
 )
 
@@ -220,28 +286,41 @@ pub record IsWithin (a e : ℕ) (xs : List ℕ) : Type 0 where
 
 within_one : (k c : ℕ) → IsWithin (c * 2 ^ k) (c * 2 ^ k + 2 ^ k) (node_over (c * 2 ^ k) (2 ^ k) ∷ [])
 unfolding IsDistinct
-within_one k c = let at = over_at k c in record { lie = ((rw (at.0, at.1) (omega arith), omega (arith, over_ends k c)), tt); distinct = (tt, tt) }
+within_one k c = let at = over_at k c in
+    record { lie = ((rw (at.0, at.1) (omega arith), omega (arith, over_ends k c)), tt); distinct = (tt, tt) }
 
-within_both : (a m e : ℕ) (xs ys : List ℕ) → a ≤ m → m ≤ e → IsWithin a m xs → IsWithin m e ys → IsWithin a e (xs ++ ys) × IsWithin a e (ys ++ xs)
+within_both : (a m e : ℕ) (xs ys : List ℕ) → a ≤ m → m ≤ e → IsWithin a m xs → IsWithin m e ys → IsWithin a e (xs ++ ys)
+    × IsWithin a e (ys ++ xs)
 within_both a m e xs ys low high left right =
     let lx = all_weaken (Lies a m) (Lies a e) (λ x p. (p.0, omega (arith, p.1))) xs left.lie in
     let ly = all_weaken (Lies m e) (Lies a e) (λ x p. (omega (arith, p.0), p.1)) ys right.lie in
-    let apart = λ (x y : ℕ) (p : Lies a m x) (q : Lies m e y) (f : x ≡ y). let g : ⊥ = omega (arith, p, q, ap start_of f, pow_pos (height_of x)) in g in (
-      record { lie = all_append (Lies a e) xs ys lx ly; distinct = distinct_append (Lies a m) (Lies m e) apart xs ys left.lie right.lie left.distinct right.distinct },
-      record { lie = all_append (Lies a e) ys xs ly lx; distinct = distinct_append (Lies m e) (Lies a m) (λ y x q p f. apart x y p q (sym f)) ys xs right.lie left.lie right.distinct left.distinct },
+    let apart = λ (x y : ℕ) (p : Lies a m x) (q : Lies m e y) (f : x ≡ y). let g : ⊥ =
+    omega (arith, p, q, ap start_of f, pow_pos (height_of x)) in g in (
+      record {
+        lie = all_append (Lies a e) xs ys lx ly;
+        distinct = distinct_append (Lies a m)
+            (Lies m e) apart xs ys left.lie right.lie left.distinct right.distinct;
+      },
+      record {
+        lie = all_append (Lies a e) ys xs ly lx;
+        distinct = distinct_append (Lies m e) (Lies a m)
+            (λ y x q p f. apart x y p q (sym f)) ys xs right.lie left.lie right.distinct left.distinct;
+      },
     )
 
 -- so do the needed nodes of a length, and its balanced roots
 pub needed_within : (t : Range) (n : ℕ) → 0 < n → IsWithin 0 n (needed_over t (leaves_from 0 n))
 unfolding read_on IsDistinct
-needed_within t n some = let all : 0 + n ≡ n = omega arith in rw all at (ways_from t 0 (λ r way. IsWithin r.start (r.start + r.count) (read_on way)) (record {
-  target = λ _. record { lie = tt; distinct = tt };
-  node = λ k c a start. let at : a ≡ c * 2 ^ k = omega arith in rw at (within_one k c);
-  parts = λ h r left right more most _ p q.
-      let end : r.start + 2 ^ h + (r.count - 2 ^ h) ≡ r.start + r.count = omega arith in
-      let both = within_both r.start (r.start + 2 ^ h) (r.start + r.count) (read_on left) (read_on right) (omega arith) (omega arith) p (rw end at q) in
-      cond_both (is_beside t (first h r)) _ _ (IsWithin r.start (r.start + r.count)) (λ _. both.1) (λ _. both.0);
-}) n some)
+needed_within t n some = let all : 0 + n ≡ n = omega arith in
+    rw all at (ways_from t 0 (λ r way. IsWithin r.start (r.start + r.count) (read_on way)) (record {
+      target = λ _. record { lie = tt; distinct = tt };
+      node = λ k c a start. let at : a ≡ c * 2 ^ k = omega arith in rw at (within_one k c);
+      parts = λ h r left right more most _ p q.
+          let end : r.start + 2 ^ h + (r.count - 2 ^ h) ≡ r.start + r.count = omega arith in
+          let both = within_both r.start (r.start + 2 ^ h) (r.start + r.count) (read_on left) (read_on right) (omega arith)
+          (omega arith) p (rw end at q) in
+          cond_both (is_beside t (first h r)) _ _ (IsWithin r.start (r.start + r.count)) (λ _. both.1) (λ _. both.0);
+    }) n some)
 
 pub roots_within : (n : ℕ) → IsWithin 0 n (balanced_roots n)
 unfolding IsDistinct
@@ -249,7 +328,8 @@ roots_within n = let all : 0 + n ≡ n = omega arith in rw all at (roots (λ a n
   none = λ a. record { lie = tt; distinct = tt };
   first = λ h c m ts lt rest.
       let end : c * 2 ^ h + 2 ^ h + m ≡ c * 2 ^ h + (2 ^ h + m) = omega arith in
-      (within_both (c * 2 ^ h) (c * 2 ^ h + 2 ^ h) (c * 2 ^ h + (2 ^ h + m)) (_ ∷ []) ts (omega arith) (omega arith) (within_one h c) (rw end at rest)).0;
+      (within_both (c * 2 ^ h) (c * 2 ^ h + 2 ^ h) (c * 2 ^ h + (2 ^ h + m)) (_ ∷ []) ts (omega arith) (omega arith)
+      (within_one h c) (rw end at rest)).0;
 }) n)
 
 -- each root ends at or before the last leaf

@@ -25,7 +25,8 @@ SameList xs ys = xs ≡ ys
 abbrev pub SameDigest : Option (List ℕ) → Option (List ℕ) → Type 0
 SameDigest x y = x ≡ y
 
-abbrev pub SameRoots : Result (List ℕ × List ℕ) ConsistencyProofError → Result (List ℕ × List ℕ) ConsistencyProofError → Type 0
+abbrev pub SameRoots : Result (List ℕ × List ℕ) ConsistencyProofError → Result (List ℕ × List ℕ) ConsistencyProofError
+    → Type 0
 SameRoots x y = x ≡ y
 
 -- 0 is no power of two

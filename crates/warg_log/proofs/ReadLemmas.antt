@@ -13,11 +13,14 @@ use Rattle.warg_log.proofs.ClimbLemmas.{old_root-joined}
 -- the cut root is there exactly where each needed node's digest is
 pub known_append : (F : ℕ → Option (List ℕ)) (xs ys : List ℕ) → IsKnown F (xs ++ ys) ↔ (IsKnown F xs × IsKnown F ys)
 known_append F [] ys = ((λ h. (tt, h)), (λ h. h.1))
-known_append F (x ∷ xs) ys = let r = known_append F xs ys in ((λ h. let p = r.0 h.1 in ((h.0, p.0), p.1)), (λ h. (h.0.0, r.1 (h.0.1, h.1))))
+known_append F (x ∷ xs) ys = let r = known_append F xs ys in
+    ((λ h. let p = r.0 h.1 in ((h.0, p.0), p.1)), (λ h. (h.0.0, r.1 (h.0.1, h.1))))
 
-known_at : (F : ℕ → Option (List ℕ)) (misses : Bool) (l r : Way) → IsKnown F (read_on (at_parts misses l r)) ↔ (IsKnown F (read_on l) × IsKnown F (read_on r))
+known_at : (F : ℕ → Option (List ℕ)) (misses : Bool) (l r : Way) → IsKnown F (read_on (at_parts misses l r)) ↔
+    (IsKnown F (read_on l) × IsKnown F (read_on r))
 unfolding read_on
-known_at F true l r = let k = known_append F (read_on r) (read_on l) in ((λ h. let p = k.0 h in (p.1, p.0)), (λ h. k.1 (h.1, h.0)))
+known_at F true l r = let k = known_append F (read_on r) (read_on l) in
+    ((λ h. let p = k.0 h in (p.1, p.0)), (λ h. k.1 (h.1, h.0)))
 known_at F false l r = known_append F (read_on l) (read_on r)
 
 pub joined_known : (H : List ℕ → List ℕ) (p q : Option (List ℕ)) → IsSome (joined H p q) ↔ (IsSome p × IsSome q)
@@ -46,43 +49,59 @@ module _ (H : List ℕ → List ℕ) (F G : ℕ → Option (List ℕ)) where
   unfolding read_on top_of
   same_on x at_target all = refl
   same_on x (at_node t) all = all.0
-  same_on x (at_parts true left right) all = let p = all_parts _ (read_on right) _ all in rw (same_on x left p.1, same_on x right p.0) refl
-  same_on x (at_parts false left right) all = let p = all_parts _ (read_on left) _ all in rw (same_on x left p.0, same_on x right p.1) refl
+  same_on x (at_parts true left right) all = let p = all_parts _ (read_on right) _ all in
+      rw (same_on x left p.1, same_on x right p.0) refl
+  same_on x (at_parts false left right) all = let p = all_parts _ (read_on left) _ all in
+      rw (same_on x left p.0, same_on x right p.1) refl
 
   -- an old root reads the balanced roots
   same_old : (m : ℕ) → 0 < m → AllSame (balanced_roots m) → old_root H F m ≡ old_root H G m
-  same_old m some all = old_root-joined H F m some ∙ ap (joined_all H) (map_same F G (balanced_roots m) all) ∙ sym (old_root-joined H G m some)
+  same_old m some all = old_root-joined H F m some ∙ ap (joined_all H) (map_same F G (balanced_roots m) all)
+      ∙ sym (old_root-joined H G m some)
 
   -- the nodes lead to the same roots
   abbrev LeadAlike : ℕ → List ℕ → Type 0
   LeadAlike n = AllByRecursion (λ t. root_to H F n t ≡ root_to H G n t)
 
   same_to : (n t : ℕ) → AllSame (t ∷ needed t n) → root_to H F n t ≡ root_to H G n t
-  same_to n t all = let cut : (x : List ℕ) → cut_root H F t x n ≡ cut_root H G t x n = λ x. same_on x _ all.1 in simp (all.0, cut)
+  same_to n t all = let cut : (x : List ℕ) → cut_root H F t x n ≡ cut_root H G t x n = λ x. same_on x _ all.1 in
+      simp (all.0, cut)
 
-  same_agreed : (n : ℕ) (agreed : List ℕ) (ts : List ℕ) → LeadAlike n ts → agreed_root H F n agreed ts ≡ agreed_root H G n agreed ts
+  same_agreed : (n : ℕ) (agreed : List ℕ) (ts : List ℕ) → LeadAlike n ts → agreed_root H F n agreed ts
+      ≡ agreed_root H G n agreed ts
   same_agreed n agreed [] all = refl
   same_agreed n agreed (t ∷ ts) all = rw (all.0, same_agreed n agreed ts all.1) refl
 
   same_new : (n : ℕ) (ts : List ℕ) → LeadAlike n ts → new_root_of H F n ts ≡ new_root_of H G n ts
   same_new n [] all = refl
-  same_new n (t ∷ ts) all = let rest : (r : List ℕ) → agreed_root H F n r ts ≡ agreed_root H G n r ts = λ r. same_agreed n r ts all.1 in simp (all.0, rest)
+  same_new n (t ∷ ts) all = let rest : (r : List ℕ) → agreed_root H F n r ts ≡ agreed_root H G n r ts =
+      λ r. same_agreed n r ts all.1 in simp (all.0, rest)
 
   pub same_consistency : (m n : ℕ) → AllSame (needed_between m n) → consistency H F m n ≡ consistency H G m n
   same_consistency m n all = ⊎_elim
       (λ none. rw (eq-eqb m 0 none) refl)
-      (λ some. rw (same_new n (balanced_roots m) (all_flat (λ y. F y ≡ G y) (λ t. t ∷ needed t n) (λ t. root_to H F n t ≡ root_to H G n t) (same_to n) (balanced_roots m) all), same_old m (omega arith) (all_flat (λ y. F y ≡ G y) (λ t. t ∷ needed t n) (λ y. F y ≡ G y) (λ t h. h.0) (balanced_roots m) all)) refl)
+      (λ some. rw (
+        same_new n (balanced_roots m)
+            (all_flat (λ y. F y ≡ G y) (λ t. t ∷ needed t n) (λ t. root_to H F n t ≡ root_to H G n t) (same_to n)
+            (balanced_roots m) all),
+        same_old m (omega arith)
+            (all_flat (λ y. F y ≡ G y) (λ t. t ∷ needed t n) (λ y. F y ≡ G y) (λ t h. h.0) (balanced_roots m) all),
+      ) refl)
       (cases_eq m 0)
 
 -- Data that hold more lead to the same digest.
-joined_more : (H : List ℕ → List ℕ) (l m p q : Option (List ℕ)) → ((x : List ℕ) → l ≡ Some x → p ≡ Some x) → ((x : List ℕ) → m ≡ Some x → q ≡ Some x) → (d : List ℕ) → joined H l m ≡ Some d → joined H p q ≡ Some d
+joined_more : (H : List ℕ → List ℕ) (l m p q : Option (List ℕ)) → ((x : List ℕ) → l ≡ Some x → p ≡ Some x)
+    → ((x : List ℕ) → m ≡ Some x → q ≡ Some x) → (d : List ℕ) → joined H l m ≡ Some d → joined H p q ≡ Some d
 joined_more H (Some l) (Some m) p q left right d is = rw (left l refl, right m refl) is
 joined_more H (Some l) None p q left right d is = absurd (cc)
 joined_more H None m p q left right d is = absurd (cc)
 
-pub top_more : (H : List ℕ → List ℕ) (F G : ℕ → Option (List ℕ)) (x : List ℕ) → ((y : ℕ) (d : List ℕ) → F y ≡ Some d → G y ≡ Some d) → (way : Way) (d : List ℕ) → top_of H F x way ≡ Some d → top_of H G x way ≡ Some d
+pub top_more : (H : List ℕ → List ℕ) (F G : ℕ → Option (List ℕ)) (x : List ℕ)
+    → ((y : ℕ) (d : List ℕ) → F y ≡ Some d → G y ≡ Some d) → (way : Way) (d : List ℕ) → top_of H F x way ≡ Some d
+    → top_of H G x way ≡ Some d
 unfolding top_of
 top_more H F G x more at_target d is = is
 top_more H F G x more (at_node t) d is = more t d is
 top_more H F G x more (at_parts misses left right) d is =
-    joined_more H (top_of H F x left) (top_of H F x right) (top_of H G x left) (top_of H G x right) (top_more H F G x more left) (top_more H F G x more right) d is
+    joined_more H (top_of H F x left) (top_of H F x right) (top_of H G x left) (top_of H G x right)
+    (top_more H F G x more left) (top_more H F G x more right) d is

@@ -18,18 +18,22 @@ below_pow (suc n) = omega (arith, pow-suc 2 n, below_pow n)
 settled : {X : Type 0} (f : ℕ → X) (n h d : ℕ) → ((k : ℕ) → n ≤ 2 ^ k → f (suc k) ≡ f k) → n ≤ 2 ^ h → f (h + d) ≡ f h
 settled f n h zero next le = rw add-zero refl
 settled f n h (suc d) next le =
-    rw add-suc (next (h + d) (omega (arith, pow-le-pow_right {n = 2} (lit≤ tt) {i = h} {j = h + d} (omega arith))) ∙ settled f n h d next le)
+    rw add-suc (next (h + d) (omega (arith, pow-le-pow_right {n = 2} (lit≤ tt) {i = h} {j = h + d} (omega arith)))
+    ∙ settled f n h d next le)
 
-pub settled_at : {X : Type 0} (f : ℕ → X) (n h k : ℕ) → ((k : ℕ) → n ≤ 2 ^ k → f (suc k) ≡ f k) → n ≤ 2 ^ h → n ≤ 2 ^ k → f h ≡ f k
+pub settled_at : {X : Type 0} (f : ℕ → X) (n h k : ℕ) → ((k : ℕ) → n ≤ 2 ^ k → f (suc k) ≡ f k) → n ≤ 2 ^ h → n ≤ 2 ^ k
+    → f h ≡ f k
 settled_at f n h k next at_h at_k = sym (settled f n h k next at_h) ∙ ap f (add_comm h k) ∙ settled f n k h next at_k
 
 -- the root at any height that is enough
-root_of_within : (H : List ℕ → List ℕ) (h : ℕ) (ds : List (List ℕ)) → 0 < length ds → length ds ≤ 2 ^ h → root_of H ds ≡ root_within H h ds
+root_of_within : (H : List ℕ → List ℕ) (h : ℕ) (ds : List (List ℕ)) → 0 < length ds → length ds ≤ 2 ^ h
+    → root_of H ds ≡ root_within H h ds
 unfolding root_within
 root_of_within H h [] pos le = absurd (omega arith)
 root_of_within H h (d ∷ ds) pos le =
     let n = length (d ∷ ds) in
-    settled_at (λ m. root_within H m (d ∷ ds)) n n h (λ k low. rw (le-leb n (2 ^ k) low) refl) (omega (arith, below_pow n)) le
+    settled_at (λ m. root_within H m (d ∷ ds)) n n h (λ k low. rw (le-leb n (2 ^ k) low) refl)
+    (omega (arith, below_pow n)) le
 
 -- the root of more digests than 2 ^ h, and at most twice as many
 pub root_of_split : (H : List ℕ → List ℕ) (h : ℕ) (ds : List (List ℕ)) → 2 ^ h < length ds → length ds ≤ 2 ^ suc h
@@ -38,7 +42,10 @@ unfolding root_within
 root_of_split H h ds more most =
     let len_take : length (take (2 ^ h) ds) ≡ 2 ^ h = length-take-le (2 ^ h) ds (omega arith) in
     let len_drop : length (drop (2 ^ h) ds) ≡ length ds - 2 ^ h = length-drop (2 ^ h) ds in
-    rw (root_of_within H h (take (2 ^ h) ds) (omega (arith, pow_pos)) (omega arith), root_of_within H h (drop (2 ^ h) ds) (omega arith) (omega (arith, pow-suc)))
+    rw (
+      root_of_within H h (take (2 ^ h) ds) (omega (arith, pow_pos)) (omega arith),
+      root_of_within H h (drop (2 ^ h) ds) (omega arith) (omega (arith, pow-suc)),
+    )
     (root_of_within H (suc h) ds (omega arith) most ∙ rw (lt-leb (length ds) (2 ^ h) more) refl)
 
 -- the root of one digest
@@ -47,7 +54,8 @@ unfolding root_within
 root_of_one H d = root_of_within H 0 (d ∷ []) (lit< tt) (lit≤ tt)
 
 -- the root over one leaf
-pub root_over_one : (H : List ℕ → List ℕ) (ds : List (List ℕ)) (a : ℕ) → a < length ds → root_over H ds a 1 ≡ slice_index_or ds a []
+pub root_over_one : (H : List ℕ → List ℕ) (ds : List (List ℕ)) (a : ℕ) → a < length ds → root_over H ds a 1
+    ≡ slice_index_or ds a []
 root_over_one H [] a lt = absurd (omega arith)
 root_over_one H (d ∷ ds) zero lt = root_of_one H d
 root_over_one H (d ∷ ds) (suc a) lt = root_over_one H ds a (omega arith)
@@ -61,17 +69,20 @@ front_above (suc h) n more = rw (lt-leb n (2 ^ suc h) more) refl
 pub front_of_is : (h n : ℕ) → 2 ^ h < n → n ≤ 2 ^ suc h → front_of n ≡ 2 ^ h
 unfolding front_of front_within
 front_of_is h n more most =
-    settled_at (λ k. front_within k n) n n (suc h) (λ k low. rw (le-leb n (2 ^ suc k) (omega (arith, pow-suc))) refl) (omega (arith, below_pow)) most
+    settled_at (λ k. front_within k n) n n (suc h) (λ k low. rw (le-leb n (2 ^ suc k) (omega (arith, pow-suc))) refl)
+    (omega (arith, below_pow)) most
     ∙ rw (le-leb n (2 ^ suc h) most) (front_above h n more)
 
 -- a number above 1 lies above a power of two, and at most at its double
 pub exponent_below : (f n : ℕ) → 1 < n → n ≤ 2 ^ f → (h : ℕ) × (2 ^ h < n) × (n ≤ 2 ^ suc h)
 exponent_below zero n more most = absurd (omega arith)
-exponent_below (suc f) n more most = ⊎_elim (λ above. (f, above, most)) (λ low. exponent_below f n more low) (cases_lt (2 ^ f) n)
+exponent_below (suc f) n more most = ⊎_elim (λ above. (f, above, most)) (λ low. exponent_below f n more low)
+    (cases_lt (2 ^ f) n)
 
 -- the front of a range of more than one leaf
 pub front_is : (n : ℕ) → 1 < n → (h : ℕ) × (front_of n ≡ 2 ^ h) × (2 ^ h < n) × (n ≤ 2 ^ suc h)
-front_is n more = let e = exponent_below n n more (omega (arith, below_pow)) in (e.0, front_of_is e.0 n e.1 e.2, e.1, e.2)
+front_is n more = let e = exponent_below n n more (omega (arith, below_pow)) in
+    (e.0, front_of_is e.0 n e.1 e.2, e.1, e.2)
 
 -- half of the least power of two that isn't below a number, as a program finds it
 pub front_of_half : (n r : ℕ) → 1 < n → IsFull r → n ≤ r → r / 2 < max 1 n → front_of n ≡ r / 2
@@ -85,21 +96,36 @@ one_digit : count_ones 1 ≡ 1
 one_digit = grind (arith, ones_le_self 1, zero_from_ones 1)
 
 pub power_decides : (n : ℕ) → Decides (is_power_of_two n) (IsFull n)
-power_decides zero = (λ e. absurd (omega (arith, eqb-true _ _ e, ones_le_self 0)), λ full. absurd (omega (arith, full, pow_pos full.0)))
+power_decides zero = (
+  λ e. absurd (omega (arith, eqb-true _ _ e, ones_le_self 0)),
+  λ full. absurd (omega (arith, full, pow_pos full.0)),
+)
 power_decides (suc m) =
     let e = exponent_below (suc m) (suc (suc m)) (omega arith) (below_pow (suc m)) in
     let whole : 1 * 2 ^ e.0 + (suc m - 2 ^ e.0) ≡ suc m = omega arith in
     let digits = rw whole at (ones_cat e.0 1 (suc m - 2 ^ e.0) (omega (arith, pow-suc))) in (
-      λ one. (e.0, omega (arith, zero_from_ones (suc m - 2 ^ e.0) (omega (arith, digits, one_digit, eqb-true _ _ one)))),
-      λ full. eq-eqb _ _ (rw full.1 (let same : 1 * 2 ^ full.0 + 0 ≡ 2 ^ full.0 = omega arith in omega (arith, rw same at (ones_cat full.0 1 0 (pow_pos full.0)), one_digit, ones_le_self 0))),
+      λ one. (
+        e.0,
+        omega (
+          arith,
+          zero_from_ones (suc m - 2 ^ e.0)
+              (omega (arith, digits, one_digit, eqb-true _ _ one)),
+        ),
+      ),
+      λ full. eq-eqb _ _ (rw full.1 (let same : 1 * 2 ^ full.0 + 0 ≡ 2 ^ full.0 = omega arith in
+          omega (arith, rw same at (ones_cat full.0 1 0 (pow_pos full.0)), one_digit, ones_le_self 0))),
     )
 
 -- what an evaluation reads, by the count of leaves and whether they miss the target
 module _ (n : ℕ) (beside : Bool) (more : n ≢ 1) where
   pub read_if_full : true ≡ is_power_of_two n → IsTrue beside ↔ ((n ≡ 1) ⊎ (IsFull n × IsTrue beside))
-  read_if_full full = (λ yes. inr ((power_decides n).0 (sym full), yes), λ h. elim h [ inl one ↦ absurd (more one) | inr both ↦ both.1 ])
+  read_if_full full = (
+    λ yes. inr ((power_decides n).0 (sym full), yes),
+    λ h. elim h [ inl one ↦ absurd (more one) | inr both ↦ both.1 ],
+  )
 
-  pub read_if_not_full : (r : Bool) → r ≡ false → false ≡ is_power_of_two n → IsTrue r ↔ ((n ≡ 1) ⊎ (IsFull n × IsTrue beside))
+  pub read_if_not_full : (r : Bool) → r ≡ false → false ≡ is_power_of_two n
+      → IsTrue r ↔ ((n ≡ 1) ⊎ (IsFull n × IsTrue beside))
   read_if_not_full r is other = (
     λ yes. absurd (false≢true (sym is ∙ yes)),
     λ h. elim h [ inl one ↦ absurd (more one) | inr both ↦ absurd (false≢true (other ∙ (power_decides n).1 both.0)) ],

@@ -40,71 +40,112 @@ halved : (i n r b : ℕ) → n ≡ 2 * r + b → n * 2 ^ i ≡ r * 2 ^ suc i + b
 halved i n r b is = rw (is, pow-suc) (omega arith)
 
 -- the ranges of the roots up to the last one
-mapped_snoc : (G : ℕ → ℕ → List ℕ) (i r : ℕ) → map (over G) (balanced_roots (r * 2 ^ suc i + 2 ^ i)) ≡ map (over G) (balanced_roots (r * 2 ^ suc i)) ++ G i (r * 2 ^ suc i) ∷ []
+mapped_snoc : (G : ℕ → ℕ → List ℕ) (i r : ℕ) → map (over G) (balanced_roots (r * 2 ^ suc i + 2 ^ i))
+    ≡ map (over G) (balanced_roots (r * 2 ^ suc i)) ++ G i (r * 2 ^ suc i) ∷ []
 mapped_snoc G i r =
     let place : r * 2 ^ suc i ≡ 2 * r * 2 ^ i = rw pow-suc (omega arith) in
-    rw (roots_front (suc i) r (2 ^ i) (omega (arith, pow-suc 2 i, pow_pos i)), balanced_full, map_push, place, (over_at i (2 * r)).0, (over_at i (2 * r)).1) refl
+    rw (
+      roots_front (suc i) r (2 ^ i) (omega (arith, pow-suc 2 i, pow_pos i)),
+      balanced_full,
+      map_push,
+      place,
+      (over_at i (2 * r)).0,
+      (over_at i (2 * r)).1,
+    ) refl
 
 -- there is a block to join with
-pub popped : (n : ℕ) (G : ℕ → ℕ → List ℕ) (rest : ℕ) (left : List (List ℕ)) (last : List ℕ) → rest % 2 ≡ 1 → (from : IsJoined n G rest left last)
-    → left ≡ map (over G) (balanced_roots (rest / 2 * 2 ^ suc from.height)) ++ G from.height (rest / 2 * 2 ^ suc from.height) ∷ []
-popped n G rest left last odd from = grind (arith, from.blocks, halved from.height rest (rest / 2) 1, mapped_snoc G from.height (rest / 2))
+pub popped : (n : ℕ) (G : ℕ → ℕ → List ℕ) (rest : ℕ) (left : List (List ℕ)) (last : List ℕ) → rest % 2 ≡ 1
+    → (from : IsJoined n G rest left last)
+    → left ≡ map (over G) (balanced_roots (rest / 2 * 2 ^ suc from.height)) ++ G from.height
+    (rest / 2 * 2 ^ suc from.height) ∷ []
+popped n G rest left last odd from = grind (
+  arith,
+  from.blocks,
+  halved from.height rest (rest / 2) 1,
+  mapped_snoc G from.height (rest / 2),
+)
 
 -- no more joins
-pub join_done : (n : ℕ) (G : ℕ → ℕ → List ℕ) (rest : ℕ) (left : List (List ℕ)) (last : List ℕ) → (rest % 2 ≡ 1 → ⊥) → IsJoined n G rest left last
+pub join_done : (n : ℕ) (G : ℕ → ℕ → List ℕ) (rest : ℕ) (left : List (List ℕ)) (last : List ℕ) → (rest % 2 ≡ 1 → ⊥)
+    → IsJoined n G rest left last
     → left ++ last ∷ [] ≡ map (over G) (balanced_roots (n + 1))
-join_done n G rest left last even from = grind (arith, from.digits, from.blocks, from.digest, halved from.height rest (rest / 2) 0, mapped_snoc G from.height (rest / 2))
+join_done n G rest left last even from = grind (
+  arith,
+  from.digits,
+  from.blocks,
+  from.digest,
+  halved from.height rest (rest / 2) 0,
+  mapped_snoc G from.height (rest / 2),
+)
 
 module _ (H : List ℕ → List ℕ) (n : ℕ) (d : List ℕ) (digests : List (List ℕ)) where
   -- no join yet, and one more
   pub join_none : (G : ℕ → ℕ → List ℕ) → Grows H n d digests G → IsJoined n G n digests d
-  join_none G grows = let one : n * 2 ^ 0 ≡ n = omega arith in record { height = 0; digits = omega arith; blocks = rw one grows.blocks; digest = rw one grows.leaf }
+  join_none G grows = let one : n * 2 ^ 0 ≡ n = omega arith in
+      record { height = 0; digits = omega arith; blocks = rw one grows.blocks; digest = rw one grows.leaf }
 
-  pub join_step : (G : ℕ → ℕ → List ℕ) (rest : ℕ) (left left' : List (List ℕ)) (last e : List ℕ) → rest % 2 ≡ 1 → left ≡ left' ++ e ∷ [] → Grows H n d digests G → IsJoined n G rest left last
+  pub join_step : (G : ℕ → ℕ → List ℕ) (rest : ℕ) (left left' : List (List ℕ)) (last e : List ℕ) → rest % 2 ≡ 1
+      → left ≡ left' ++ e ∷ [] → Grows H n d digests G → IsJoined n G rest left last
       → IsJoined n G (rest / 2) left' (branch H e last)
   join_step G rest left left' last e odd is grows from =
       let here = halved from.height rest (rest / 2) 1 (omega arith) in
-      let digits : n + 1 ≡ (rest / 2 + 1) * 2 ^ suc from.height = omega (arith, from.digits, here, pow-suc 2 from.height) in
+      let digits : n + 1 ≡ (rest / 2 + 1) * 2 ^ suc from.height =
+      omega (arith, from.digits, here, pow-suc 2 from.height) in
       let parts = same_from_push left' _ e _ (sym is ∙ popped n G rest left last odd from) in
-      record { height = suc from.height; digits = digits; blocks = parts.0; digest = grind (arith, parts.1, from.digest, here, digits, grows.joins from.height (rest / 2)) }
+      record {
+        height = suc from.height;
+        digits = digits;
+        blocks = parts.0;
+        digest = grind (arith, parts.1, from.digest, here, digits, grows.joins from.height (rest / 2));
+      }
 
   -- so the digests of ranges are known where they grow
-  joined_once : (G K : ℕ → ℕ → List ℕ) → Grows H n d digests G → Grows H n d digests K → (k rest : ℕ) (left : List (List ℕ)) (last : List ℕ) → rest < k
-      → IsJoined n G rest left last → IsJoined n K rest left last → map (over G) (balanced_roots (n + 1)) ≡ map (over K) (balanced_roots (n + 1))
+  joined_once : (G K : ℕ → ℕ → List ℕ) → Grows H n d digests G → Grows H n d digests K
+      → (k rest : ℕ) (left : List (List ℕ)) (last : List ℕ) → rest < k
+      → IsJoined n G rest left last → IsJoined n K rest left last → map (over G) (balanced_roots (n + 1))
+      ≡ map (over K) (balanced_roots (n + 1))
   joined_once G K grows grows' zero rest left last lt from from' = absurd (omega arith)
   joined_once G K grows grows' (suc k) rest left last lt from from' = ⊎_elim
       (λ (odd : rest % 2 ≡ 1).
       let is = popped n G rest left last odd from in
-      joined_once G K grows grows' k (rest / 2) _ _ (omega arith) (join_step G rest left _ last _ odd is grows from) (join_step K rest left _ last _ odd is grows' from'))
-      (λ (even : rest % 2 ≡ 1 → ⊥). sym (join_done n G rest left last even from) ∙ join_done n K rest left last even from')
+      joined_once G K grows grows' k (rest / 2) _ _ (omega arith) (join_step G rest left _ last _ odd is grows from)
+      (join_step K rest left _ last _ odd is grows' from'))
+      (λ (even : rest % 2 ≡ 1 → ⊥). sym (join_done n G rest left last even from)
+      ∙ join_done n K rest left last even from')
       (cases_eq (rest % 2) 1)
 
 -- ---- the digests beside nodes of which none stands twice
 
-beside_all : (ts : List ℕ) (ds : List (List ℕ)) → length ds ≡ length ts → IsDistinct nat_eq ts → map (digest_beside ts ds) ts ≡ map Some ds
+beside_all : (ts : List ℕ) (ds : List (List ℕ)) → length ds ≡ length ts → IsDistinct nat_eq ts
+    → map (digest_beside ts ds) ts ≡ map Some ds
 unfolding IsDistinct
 beside_all [] [] len distinct = refl
 beside_all [] (d ∷ ds) len distinct = absurd (omega arith)
 beside_all (t ∷ ts) [] len distinct = absurd (omega arith)
 beside_all (t ∷ ts) (d ∷ ds) len distinct =
-    let skip : map (digest_beside (t ∷ ts) (d ∷ ds)) ts ≡ map (digest_beside ts ds) ts = map_same _ _ ts (all_weaken (λ y. nat_eq t y ≡ false) _ (λ y other. rw other refl) ts distinct.0) in
+    let skip : map (digest_beside (t ∷ ts) (d ∷ ds)) ts ≡ map (digest_beside ts ds) ts =
+    map_same _ _ ts (all_weaken (λ y. nat_eq t y ≡ false) _ (λ y other. rw other refl) ts distinct.0) in
     rw (eq-eqb t t refl, skip, beside_all ts ds (omega arith) distinct.1) refl
 
-beside_none : (x : ℕ) (ts : List ℕ) (ds : List (List ℕ)) → AllByRecursion (λ t. nat_eq t x ≡ false) ts → digest_beside ts ds x ≡ None
+beside_none : (x : ℕ) (ts : List ℕ) (ds : List (List ℕ)) → AllByRecursion (λ t. nat_eq t x ≡ false) ts
+    → digest_beside ts ds x ≡ None
 beside_none x [] ds all = refl
 beside_none x (t ∷ ts) [] all = refl
 beside_none x (t ∷ ts) (d ∷ ds) all = rw all.0 (beside_none x ts ds all.1)
 
 -- the blocks of a length are held
-blocks_held : (b : Blocks) → length b.digests ≡ length (balanced_roots b.len) → map (block_at b) (balanced_roots b.len) ≡ map Some b.digests
+blocks_held : (b : Blocks) → length b.digests ≡ length (balanced_roots b.len) → map (block_at b) (balanced_roots b.len)
+    ≡ map Some b.digests
 blocks_held b len = beside_all (balanced_roots b.len) b.digests len (roots_within b.len).distinct
 
 -- an old block's digest
-over_held : (H : List ℕ → List ℕ) (F : ℕ → Option (List ℕ)) (n : ℕ) (d e : List ℕ) (h a : ℕ) → a + 2 ^ h ≤ n → F (node_over a (2 ^ h)) ≡ Some e → block_over H F n d h a ≡ e
+over_held : (H : List ℕ → List ℕ) (F : ℕ → Option (List ℕ)) (n : ℕ) (d e : List ℕ) (h a : ℕ) → a + 2 ^ h ≤ n
+    → F (node_over a (2 ^ h)) ≡ Some e → block_over H F n d h a ≡ e
 over_held H F n d e zero a ends held = rw (ne_eqb a n (λ f. omega arith), held) refl
 over_held H F n d e (suc h) a ends held = rw held refl
 
-all_over : (H : List ℕ → List ℕ) (F : ℕ → Option (List ℕ)) (n : ℕ) (d : List ℕ) (ts : List ℕ) (ds : List (List ℕ)) → map F ts ≡ map Some ds → AllByRecursion (λ t. end_of t ≤ n) ts
+all_over : (H : List ℕ → List ℕ) (F : ℕ → Option (List ℕ)) (n : ℕ) (d : List ℕ) (ts : List ℕ) (ds : List (List ℕ))
+    → map F ts ≡ map Some ds → AllByRecursion (λ t. end_of t ≤ n) ts
     → ds ≡ map (λ t. block_over H F n d (height_of t) (start_of t)) ts
 all_over H F n d [] [] held exist = refl
 all_over H F n d [] (e ∷ ds) held exist = absurd (cc)
@@ -112,67 +153,94 @@ all_over H F n d (t ∷ ts) [] held exist = absurd (cc)
 all_over H F n d (t ∷ ts) (e ∷ ds) held exist =
     let first : F t ≡ Some e = cc in
     let others : map F ts ≡ map Some ds = cc in
-    let here = over_held H F n d e (height_of t) (start_of t) (omega (arith, exist.0)) (ap F (sym (only_number t (height_of t) (place_of t) (node_is t))) ∙ first) in
+    let here = over_held H F n d e (height_of t) (start_of t) (omega (arith, exist.0))
+    (ap F (sym (only_number t (height_of t) (place_of t) (node_is t))) ∙ first) in
     rw (here, ← all_over H F n d ts ds others exist.1) refl
 
-pub grows_over : (H : List ℕ → List ℕ) (b : Blocks) (d : List ℕ) → length b.digests ≡ length (balanced_roots b.len) → Grows H b.len d b.digests (block_over H (block_at b) b.len d)
+pub grows_over : (H : List ℕ → List ℕ) (b : Blocks) (d : List ℕ) → length b.digests ≡ length (balanced_roots b.len)
+    → Grows H b.len d b.digests (block_over H (block_at b) b.len d)
 grows_over H b d len = record {
-  blocks = all_over H (block_at b) b.len d (balanced_roots b.len) b.digests (blocks_held b len) (roots_end b.len b.len (omega arith));
+  blocks = all_over H (block_at b) b.len d (balanced_roots b.len) b.digests (blocks_held b len)
+      (roots_end b.len b.len (omega arith));
   leaf = rw (eq-eqb b.len b.len refl) refl;
   joins = λ h q end.
       let x = node_over (q * 2 ^ suc h) (2 ^ suc h) in
-      let others = all_weaken (λ t. end_of t ≤ b.len) (λ t. nat_eq t x ≡ false) (λ t ends. ne_eqb t x (λ e. omega (arith, ap end_of e, ends, over_ends (suc h) q, end))) (balanced_roots b.len) (roots_end b.len b.len (omega arith)) in
+      let others = all_weaken (λ t. end_of t ≤ b.len) (λ t. nat_eq t x ≡ false)
+      (λ t ends. ne_eqb t x (λ e. omega (arith, ap end_of e, ends, over_ends (suc h) q, end)))
+      (balanced_roots b.len) (roots_end b.len b.len (omega arith)) in
       rw (beside_none x (balanced_roots b.len) b.digests others) refl;
 }
 
 -- ---- blocks that stand for leaves
 
-grows_roots : (H : List ℕ → List ℕ) (b : Blocks) (ds : List (List ℕ)) (d : List ℕ) → StandsFor H b ds → Grows H b.len d b.digests (λ h a. root_over H (ds ++ d ∷ []) a (2 ^ h))
+grows_roots : (H : List ℕ → List ℕ) (b : Blocks) (ds : List (List ℕ)) (d : List ℕ) → StandsFor H b ds
+    → Grows H b.len d b.digests (λ h a. root_over H (ds ++ d ∷ []) a (2 ^ h))
 grows_roots H b ds d stands =
     let len : length (ds ++ d ∷ []) ≡ length ds + 1 = length_push ds d in
     let count : length ds ≡ b.len = stands.count in
     record {
       blocks = stands.roots ∙ map_same _ _ (balanced_roots b.len) (all_weaken (λ t. end_of t ≤ length ds) _
-          (λ t ends. ap (root_of H) (sym (front_kept ds d (start_of t) (2 ^ height_of t) (omega (arith, ends))))) (balanced_roots b.len) (roots_end b.len (length ds) (omega arith)));
+          (λ t ends. ap (root_of H) (sym (front_kept ds d (start_of t) (2 ^ height_of t) (omega (arith, ends)))))
+          (balanced_roots b.len) (roots_end b.len (length ds) (omega arith)));
       leaf = sym (root_over_one H (ds ++ d ∷ []) b.len (omega arith) ∙ get_or_push ds d [] b.len count);
-      joins = λ h q end. grind (arith, pow-suc 2 h, root_over_split H (ds ++ d ∷ []) h (q * 2 ^ suc h) (2 ^ suc h) (omega (arith, pow-suc, pow_pos)) (omega arith) (omega (arith, end)));
+      joins = λ h q end. grind (
+        arith,
+        pow-suc 2 h,
+        root_over_split H (ds ++ d ∷ []) h (q * 2 ^ suc h) (2 ^ suc h)
+            (omega (arith, pow-suc, pow_pos)) (omega arith) (omega (arith, end)),
+      );
     }
 
-pub stands_pushed : (H : List ℕ → List ℕ) (b : Blocks) (d : List ℕ) (ds : List (List ℕ)) → StandsFor H b ds → StandsFor H (pushed H b d) (ds ++ d ∷ [])
+pub stands_pushed : (H : List ℕ → List ℕ) (b : Blocks) (d : List ℕ) (ds : List (List ℕ)) → StandsFor H b ds
+    → StandsFor H (pushed H b d) (ds ++ d ∷ [])
 stands_pushed H b d ds stands =
     let len = ap length stands.roots ∙ length-map (balanced_roots b.len) (λ t. root_of H (leaves_below t ds)) in
     let own = grows_over H b d len in
     let other = grows_roots H b ds d stands in record {
       count = length_push ds d ∙ ap (λ m. m + 1) stands.count;
-      roots = joined_once H b.len d b.digests _ _ own other (suc b.len) b.len b.digests d (omega arith) (join_none H b.len d b.digests _ own) (join_none H b.len d b.digests _ other);
+      roots = joined_once H b.len d b.digests _ _ own other (suc b.len) b.len b.digests d (omega arith)
+          (join_none H b.len d b.digests _ own) (join_none H b.len d b.digests _ other);
     }
 
 -- ---- the root of blocks is the old root over them
 
-some_joined : (H : List ℕ → List ℕ) (d : List ℕ) (ds : List (List ℕ)) → joined_all H (map Some (d ∷ ds)) ≡ Some (joined_blocks H (d ∷ ds))
+some_joined : (H : List ℕ → List ℕ) (d : List ℕ) (ds : List (List ℕ)) → joined_all H (map Some (d ∷ ds))
+    ≡ Some (joined_blocks H (d ∷ ds))
 some_joined H d [] = refl
 some_joined H d (e ∷ ds) = ap (joined H (Some d)) (some_joined H e ds)
 
-old_joined : (H : List ℕ → List ℕ) (F : ℕ → Option (List ℕ)) (n : ℕ) (es : List (List ℕ)) → 0 < n → map F (balanced_roots n) ≡ map Some es → old_root H F n ≡ Some (joined_blocks H es)
+old_joined : (H : List ℕ → List ℕ) (F : ℕ → Option (List ℕ)) (n : ℕ) (es : List (List ℕ)) → 0 < n
+    → map F (balanced_roots n) ≡ map Some es → old_root H F n ≡ Some (joined_blocks H es)
 old_joined H F n [] some held = let f = rw (has_first_over 0 n some).2 at held in absurd (cc)
 old_joined H F n (e ∷ es) some held = old_root-joined H F n some ∙ ap (joined_all H) held ∙ some_joined H e es
 
-pub blocks_root : (H : List ℕ → List ℕ) (b : Blocks) → length b.digests ≡ length (balanced_roots b.len) → 0 < b.len → old_root H (block_at b) b.len ≡ Some (joined_blocks H b.digests)
+pub blocks_root : (H : List ℕ → List ℕ) (b : Blocks) → length b.digests ≡ length (balanced_roots b.len) → 0 < b.len
+    → old_root H (block_at b) b.len ≡ Some (joined_blocks H b.digests)
 blocks_root H b len some = old_joined H (block_at b) b.len b.digests some (blocks_held b len)
 
-pub none_root : (H : List ℕ → List ℕ) (ds : List (List ℕ)) → length ds ≡ length (balanced_roots 0) → joined_blocks H ds ≡ H []
+pub none_root : (H : List ℕ → List ℕ) (ds : List (List ℕ)) → length ds ≡ length (balanced_roots 0) → joined_blocks H ds
+    ≡ H []
 none_root H ds len = ap (joined_blocks H) (nil_from_length ds (len ∙ rw balanced_none refl))
 
 -- the root of blocks that stand for leaves
-pub stands_root : (H : List ℕ → List ℕ) (b : Blocks) (ds : List (List ℕ)) → StandsFor H b ds → joined_blocks H b.digests ≡ root_of H ds
-stands_root H b [] stands = none_root H b.digests (ap length stands.roots ∙ length-map (balanced_roots b.len) (λ t. root_of H (leaves_below t [])) ∙ rw (← stands.count) refl)
+pub stands_root : (H : List ℕ → List ℕ) (b : Blocks) (ds : List (List ℕ)) → StandsFor H b ds → joined_blocks H b.digests
+    ≡ root_of H ds
+stands_root H b [] stands = none_root H b.digests
+    (ap length stands.roots ∙ length-map (balanced_roots b.len) (λ t. root_of H (leaves_below t []))
+    ∙ rw (← stands.count) refl)
 stands_root H b (e ∷ es) stands =
     let ds = e ∷ es in
     let count : length ds ≡ b.len = stands.count in
-    let own = all_weaken (λ t. end_of t ≤ length ds) (λ t. own_digest H ds t ≡ Some (root_of H (leaves_below t ds))) (λ t ends. rw (le-leb (end_of t) (length ds) ends) refl) (balanced_roots b.len) (roots_end b.len (length ds) (omega arith)) in
-    let held : map (own_digest H ds) (balanced_roots b.len) ≡ map Some b.digests = map_same _ _ (balanced_roots b.len) own ∙ sym (map-map Some (λ t. root_of H (leaves_below t ds)) (balanced_roots b.len)) ∙ ap (λ l. map Some l) (sym stands.roots) in
+    let own = all_weaken (λ t. end_of t ≤ length ds) (λ t. own_digest H ds t ≡ Some (root_of H (leaves_below t ds)))
+    (λ t ends. rw (le-leb (end_of t) (length ds) ends) refl) (balanced_roots b.len)
+    (roots_end b.len (length ds) (omega arith)) in
+    let held : map (own_digest H ds) (balanced_roots b.len) ≡ map Some b.digests =
+    map_same _ _ (balanced_roots b.len) own
+    ∙ sym (map-map Some (λ t. root_of H (leaves_below t ds)) (balanced_roots b.len))
+    ∙ ap (λ l. map Some l) (sym stands.roots) in
     let joins = old_joined H (own_digest H ds) b.len b.digests (omega arith) held in
-    let root : old_root H (own_digest H ds) b.len ≡ Some (root_of H ds) = own_root H ds b.len (omega arith) (sym count) in
+    let root : old_root H (own_digest H ds) b.len ≡ Some (root_of H ds) = own_root H ds b.len (omega arith)
+    (sym count) in
     let both : Some (joined_blocks H b.digests) ≡ Some (root_of H ds) = sym joins ∙ root in
     cc
 
@@ -181,12 +249,14 @@ pub joined_none : (H : List ℕ → List ℕ) (blocks : List (List ℕ)) → len
 joined_none H [] lt = refl
 joined_none H (d ∷ ds) lt = absurd (omega arith)
 
-pub joined_one : (H : List ℕ → List ℕ) (blocks : List (List ℕ)) (d : List ℕ) → length blocks < 2 → 1 ≤ length blocks → d ≡ get_or blocks 0 d → d ≡ joined_blocks H blocks
+pub joined_one : (H : List ℕ → List ℕ) (blocks : List (List ℕ)) (d : List ℕ) → length blocks < 2 → 1 ≤ length blocks
+    → d ≡ get_or blocks 0 d → d ≡ joined_blocks H blocks
 joined_one H [] d lt le is = absurd (omega arith)
 joined_one H (e ∷ []) d lt le is = is
 joined_one H (e ∷ f ∷ ds) d lt le is = absurd (omega arith)
 
-pub joined_more : (H : List ℕ → List ℕ) (blocks : List (List ℕ)) (d : List ℕ) (n : ℕ) → 2 ≤ length blocks → length blocks ≤ n + 1 → d ≡ get_or blocks 0 d
+pub joined_more : (H : List ℕ → List ℕ) (blocks : List (List ℕ)) (d : List ℕ) (n : ℕ) → 2 ≤ length blocks
+    → length blocks ≤ n + 1 → d ≡ get_or blocks 0 d
     → branch H d (joined_blocks H (take n (drop 1 blocks))) ≡ joined_blocks H blocks
 joined_more H [] d n le all is = absurd (omega arith)
 joined_more H (e ∷ []) d n le all is = absurd (omega arith)

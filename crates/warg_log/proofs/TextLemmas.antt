@@ -11,35 +11,47 @@ use Rattle.warg_log.specs.Text.{length_and_digits, SpellsCheckpoint}
 use Rattle.warg_log.proofs.DecimalLemmas.{decimal_without}
 
 -- a text parts at its first space
-parts_at_space : (text : List ℕ) (n : ℕ) (digits : List ℕ) (r : Option (Bor (List ℕ) × Bor (List ℕ))) → IsSplitOnceResult 32 text r → n < 2 ^ 64 → text ≡ length_and_digits n digits
+parts_at_space : (text : List ℕ) (n : ℕ) (digits : List ℕ) (r : Option (Bor (List ℕ) × Bor (List ℕ)))
+    → IsSplitOnceResult 32 text r → n < 2 ^ 64 → text ≡ length_and_digits n digits
     → MatchOption r ⊥ (λ x. (x.0.now ≡ decimal n) × (x.1.now ≡ digits))
 parts_at_space text n digits r cut small is =
-    split_after 32 text (decimal n) digits r cut (omega arith) is (λ i inside. decimal_without n 32 i small (λ a b. omega arith) inside)
+    split_after 32 text (decimal n) digits r cut (omega arith) is
+    (λ i inside. decimal_without n 32 i small (λ a b. omega arith) inside)
 
 -- a text that is no length and digits is refused
-refused : {E : Type 0} (e : E) (text : List ℕ) → ((n : ℕ) (digits : List ℕ) → n < 2 ^ 64 → text ≡ length_and_digits n digits → length digits ≡ 64 → AllPass is_hex_digit digits → ⊥)
+refused : {E : Type 0} (e : E) (text : List ℕ)
+    → ((n : ℕ) (digits : List ℕ) → n < 2 ^ 64 → text ≡ length_and_digits n digits → length digits ≡ 64
+    → AllPass is_hex_digit digits → ⊥)
     → SpellsCheckpoint text (Err e)
 refused e text none = record { value = tt; exactly = (λ ok. cc, λ s. absurd (none s.0 s.1 s.2 s.3 s.4 s.5)) }
 
-pub without_space : {E : Type 0} (e : E) (text : List ℕ) (r : Option (Bor (List ℕ) × Bor (List ℕ))) → IsSplitOnceResult 32 text r → r ≡ None → SpellsCheckpoint text (Err e)
-without_space e text r cut is = refused e text (λ n digits small same size all. rw is at (parts_at_space text n digits r cut small same))
+pub without_space : {E : Type 0} (e : E) (text : List ℕ) (r : Option (Bor (List ℕ) × Bor (List ℕ)))
+    → IsSplitOnceResult 32 text r → r ≡ None → SpellsCheckpoint text (Err e)
+without_space e text r cut is =
+    refused e text (λ n digits small same size all. rw is at (parts_at_space text n digits r cut small same))
 
-pub without_length : {E : Type 0} (e : E) (text : List ℕ) (before behind : Bor (List ℕ)) → IsSplitOnceResult 32 text (Some (before, behind))
+pub without_length : {E : Type 0} (e : E) (text : List ℕ) (before behind : Bor (List ℕ))
+    → IsSplitOnceResult 32 text (Some (before, behind))
     → ((n : ℕ) → n < 2 ^ 64 → before.now ≢ decimal n) → SpellsCheckpoint text (Err e)
 without_length e text before behind cut none =
-    refused e text (λ n digits small same size all. none n small (parts_at_space text n digits (Some (before, behind)) cut small same).0)
+    refused e text (λ n digits small same size all. none n small
+    (parts_at_space text n digits (Some (before, behind)) cut small same).0)
 
-pub without_root : {E F : Type 0} (e : E) (f : F) (text : List ℕ) (before behind : Bor (List ℕ)) → IsSplitOnceResult 32 text (Some (before, behind))
+pub without_root : {E F : Type 0} (e : E) (f : F) (text : List ℕ) (before behind : Bor (List ℕ))
+    → IsSplitOnceResult 32 text (Some (before, behind))
     → SpellsHash {E = F} behind.now (Err f) → SpellsCheckpoint text (Err e)
 without_root e f text before behind cut spells =
     refused e text (λ n digits small same size all.
     let digits_are : behind.now ≡ digits = (parts_at_space text n digits (Some (before, behind)) cut small same).1 in
     let ok = spells.exactly.1 (ap length digits_are ∙ size, rw digits_are all) in cc)
 
-pub with_both : {E F : Type 0} (text : List ℕ) (before behind : Bor (List ℕ)) (n : ℕ) (root : List ℕ) (c : RootAndLength) → IsSplitOnceResult 32 text (Some (before, behind))
-    → n < 2 ^ 64 → before.now ≡ decimal n → SpellsHash {E = F} behind.now (Ok root) → c.root ≡ root → c.length ≡ n → SpellsCheckpoint {E = E} text (Ok c)
+pub with_both : {E F : Type 0} (text : List ℕ) (before behind : Bor (List ℕ)) (n : ℕ) (root : List ℕ)
+    (c : RootAndLength) → IsSplitOnceResult 32 text (Some (before, behind))
+    → n < 2 ^ 64 → before.now ≡ decimal n → SpellsHash {E = F} behind.now (Ok root) → c.root ≡ root → c.length ≡ n
+    → SpellsCheckpoint {E = E} text (Ok c)
 with_both text before behind n root c cut small is spells root_is length_is =
-    let same : text ≡ length_and_digits n behind.now = (split_parts 32 text (Some (before, behind)) cut (omega arith)).0 ∙ ap (λ l. l ++ 32 ∷ behind.now) is in
+    let same : text ≡ length_and_digits n behind.now = (split_parts 32 text (Some (before, behind)) cut (omega arith)).0
+    ∙ ap (λ l. l ++ 32 ∷ behind.now) is in
     let digits = spells.exactly.0 (cc) in
     record {
       value = (behind.now, rw length_is same, rw root_is spells.value);

@@ -40,9 +40,11 @@ target_decides t r =
     (λ e. let p = both.0 e in same_range r t p.0 p.1, λ same. both.1 (starts same, counts same))
 
 pub beside_decides : (t r : Range) → Decides (is_beside t r) (IsBeside t r)
-beside_decides t r = Decides-or _ _ (leb-true (r.start + r.count) t.start, le-leb (r.start + r.count) t.start) (leb-true (t.start + t.count) r.start, le-leb (t.start + t.count) r.start)
+beside_decides t r = Decides-or _ _ (leb-true (r.start + r.count) t.start, le-leb (r.start + r.count) t.start)
+    (leb-true (t.start + t.count) r.start, le-leb (t.start + t.count) r.start)
 
-read_decides : (t r : Range) (h : ℕ) → Decides (r.count == 2 ^ suc h && is_beside t r) ((r.count ≡ 2 ^ suc h) × IsTrue (is_beside t r))
+read_decides : (t r : Range) (h : ℕ) → Decides (r.count == 2 ^ suc h && is_beside t r)
+    ((r.count ≡ 2 ^ suc h) × IsTrue (is_beside t r))
 read_decides t r h = Decides-and _ _ (Decides-eqb r.count (2 ^ suc h)) (λ e. e, λ e. e)
 
 pub refuted : {P : Type 0} (b : Bool) → Decides b P → (P → ⊥) → b ≡ false
@@ -51,7 +53,8 @@ refuted b decides other = false_from_ne_true b (λ e. other (decides.0 e))
 -- the recursion without a height
 way_at : (t : Range) (h : ℕ) (r : Range) → r.count ≤ 2 ^ h → way_over t r ≡ way_within t h r
 unfolding way_within
-way_at t h r le = settled_at (λ k. way_within t k r) r.count r.count h (λ k low. rw (le-leb r.count (2 ^ k) low) refl) (omega (arith, below_pow)) le
+way_at t h r le = settled_at (λ k. way_within t k r) r.count r.count h (λ k low. rw (le-leb r.count (2 ^ k) low) refl)
+    (omega (arith, below_pow)) le
 
 way_more : (t r : Range) (h : ℕ) → 2 ^ h < r.count → r.count ≤ 2 ^ suc h
     → way_over t r ≡ (if is_target t r
@@ -61,28 +64,38 @@ way_more : (t r : Range) (h : ℕ) → 2 ^ h < r.count → r.count ≤ 2 ^ suc h
     else at_parts (is_beside t (first h r)) (way_over t (first h r)) (way_over t (behind h r)))
 unfolding way_within
 way_more t r h more most =
-    rw (way_at t h (first h r) (omega arith), way_at t h (behind h r) (omega (arith, pow-suc))) (way_at t (suc h) r most ∙ rw (lt-leb r.count (2 ^ h) more) refl)
+    rw (way_at t h (first h r) (omega arith), way_at t h (behind h r) (omega (arith, pow-suc)))
+    (way_at t (suc h) r most ∙ rw (lt-leb r.count (2 ^ h) more) refl)
 
 -- the target's own range
 pub way_over_target : (t : Range) → way_over t t ≡ at_target
 unfolding way_within
 way_over_target t =
     let yes : is_target t t ≡ true = (target_decides t t).1 refl in
-    ⊎_elim (λ more. let f = front_is t.count more in way_more t t f.0 f.2 f.3 ∙ rw yes refl) (λ low. way_at t 0 t low ∙ rw yes refl) (cases_lt 1 t.count)
+    ⊎_elim (λ more. let f = front_is t.count more in way_more t t f.0 f.2 f.3 ∙ rw yes refl)
+    (λ low. way_at t 0 t low ∙ rw yes refl) (cases_lt 1 t.count)
 
 -- a range that is read
-pub way_over-read : (t r : Range) → (r ≡ t → ⊥) → (r.count ≡ 1) ⊎ (IsFull r.count × IsTrue (is_beside t r)) → way_over t r ≡ at_node (node_over r.start r.count)
+pub way_over-read : (t r : Range) → (r ≡ t → ⊥) → (r.count ≡ 1) ⊎ (IsFull r.count × IsTrue (is_beside t r))
+    → way_over t r ≡ at_node (node_over r.start r.count)
 unfolding way_within
 way_over-read t r other (inl one) = way_at t 0 r (omega arith) ∙ rw (refuted _ (target_decides t r) other) refl
-way_over-read t r other (inr ((zero, one), beside)) = way_at t 0 r (omega arith) ∙ rw (refuted _ (target_decides t r) other) refl
+way_over-read t r other (inr ((zero, one), beside)) = way_at t 0 r (omega arith)
+    ∙ rw (refuted _ (target_decides t r) other) refl
 way_over-read t r other (inr ((suc k, width), beside)) =
-    way_more t r k (omega (arith, pow_pos, pow-suc)) (omega arith) ∙ rw (refuted _ (target_decides t r) other, (read_decides t r k).1 (width, beside)) refl
+    way_more t r k (omega (arith, pow_pos, pow-suc)) (omega arith)
+    ∙ rw (refuted _ (target_decides t r) other, (read_decides t r k).1 (width, beside)) refl
 
 -- any other range
-pub way_over-split : (t r : Range) (h : ℕ) → 2 ^ h < r.count → r.count ≤ 2 ^ suc h → (r ≡ t → ⊥) → (r.count ≡ 2 ^ suc h → IsTrue (is_beside t r) → ⊥)
+pub way_over-split : (t r : Range) (h : ℕ) → 2 ^ h < r.count → r.count ≤ 2 ^ suc h → (r ≡ t → ⊥)
+    → (r.count ≡ 2 ^ suc h → IsTrue (is_beside t r) → ⊥)
     → way_over t r ≡ at_parts (is_beside t (first h r)) (way_over t (first h r)) (way_over t (behind h r))
 way_over-split t r h more most other apart =
-    way_more t r h more most ∙ rw (refuted _ (target_decides t r) other, refuted _ (read_decides t r h) (λ p. apart p.0 p.1)) refl
+    way_more t r h more most ∙ rw (
+      refuted _ (target_decides t r) other,
+      refuted _ (read_decides t r h)
+          (λ p. apart p.0 p.1),
+    ) refl
 
 pub way_over_parts : (t r : Range) → 1 < r.count → (r ≡ t → ⊥) → (IsFull r.count → IsTrue (is_beside t r) → ⊥)
     → way_over t r ≡ at_parts (is_beside t (front_part r)) (way_over t (front_part r)) (way_over t (rest_part r))
@@ -95,19 +108,25 @@ way_over_parts t r more other apart =
 pub record Rule (t : Range) (o : ℕ) (P : Range → Way → Type 0) : Type 0 where
   pub target : 0 < t.count → P t at_target
   pub node : (k c a : ℕ) → a ≡ o + c * 2 ^ k → P (leaves_from a (2 ^ k)) (at_node (node_over a (2 ^ k)))
-  pub parts : (h : ℕ) (r : Range) (left right : Way) → 2 ^ h < r.count → r.count ≤ 2 ^ suc h → (r.count ≡ 2 ^ suc h → IsTrue (is_beside t r) → ⊥) → P (first h r) left → P (behind h r) right
+  pub parts : (h : ℕ) (r : Range) (left right : Way) → 2 ^ h < r.count → r.count ≤ 2 ^ suc h
+      → (r.count ≡ 2 ^ suc h → IsTrue (is_beside t r) → ⊥) → P (first h r) left → P (behind h r) right
       → P r (at_parts (is_beside t (first h r)) left right)
 
-at_end : (t : Range) (o : ℕ) (P : Range → Way → Type 0) → Rule t o P → (r : Range) → 0 < r.count → is_target t r ≡ true → P r at_target
+at_end : (t : Range) (o : ℕ) (P : Range → Way → Type 0) → Rule t o P → (r : Range) → 0 < r.count → is_target t r ≡ true
+    → P r at_target
 at_end t o P R r some e = let same = (target_decides t r).0 e in rw same (R.target (rw same at some))
 
-read_at : (t : Range) (o : ℕ) (P : Range → Way → Type 0) → Rule t o P → (k c : ℕ) (r : Range) → r.start ≡ o + c * 2 ^ k → r.count ≡ 2 ^ k → P r (at_node (node_over r.start r.count))
-read_at t o P R k c r start width = let same : r ≡ leaves_from r.start (2 ^ k) = ap (leaves_from r.start) width in rw same (R.node k c r.start start)
+read_at : (t : Range) (o : ℕ) (P : Range → Way → Type 0) → Rule t o P → (k c : ℕ) (r : Range) → r.start ≡ o + c * 2 ^ k
+    → r.count ≡ 2 ^ k → P r (at_node (node_over r.start r.count))
+read_at t o P R k c r start width = let same : r ≡ leaves_from r.start (2 ^ k) = ap (leaves_from r.start) width in
+    rw same (R.node k c r.start start)
 
-pub ways : (t : Range) (o : ℕ) (P : Range → Way → Type 0) → Rule t o P → (h c : ℕ) (r : Range) → r.start ≡ o + c * 2 ^ h → 0 < r.count → r.count ≤ 2 ^ h → P r (way_over t r)
+pub ways : (t : Range) (o : ℕ) (P : Range → Way → Type 0) → Rule t o P → (h c : ℕ) (r : Range) → r.start ≡ o + c * 2 ^ h
+    → 0 < r.count → r.count ≤ 2 ^ h → P r (way_over t r)
 unfolding way_within
 ways t o P R zero c r start some most =
-    rw (way_at t 0 r most) (cond_both (is_target t r) at_target (at_node (node_over r.start r.count)) (P r) (at_end t o P R r some) (λ _. read_at t o P R 0 c r start (omega arith)))
+    rw (way_at t 0 r most) (cond_both (is_target t r) at_target (at_node (node_over r.start r.count)) (P r)
+    (at_end t o P R r some) (λ _. read_at t o P R 0 c r start (omega arith)))
 ways t o P R (suc h) c r start some most =
     let twice : 2 ^ suc h ≡ 2 ^ h * 2 = pow-suc 2 h in
     let at_left : r.start ≡ o + 2 * c * 2 ^ h = start ∙ rw twice (omega arith) in
@@ -121,5 +140,6 @@ ways t o P R (suc h) c r start some most =
     (λ low. ways t o P R h (2 * c) r at_left some low)
     (cases_lt (2 ^ h) r.count)
 
-pub ways_from : (t : Range) (o : ℕ) (P : Range → Way → Type 0) → Rule t o P → (n : ℕ) → 0 < n → P (leaves_from o n) (way_over t (leaves_from o n))
+pub ways_from : (t : Range) (o : ℕ) (P : Range → Way → Type 0) → Rule t o P → (n : ℕ) → 0 < n
+    → P (leaves_from o n) (way_over t (leaves_from o n))
 ways_from t o P R n some = ways t o P R n 0 (leaves_from o n) (omega arith) some (omega (arith, below_pow))

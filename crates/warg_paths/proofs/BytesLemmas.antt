@@ -8,7 +8,8 @@ use Rattle.warg_paths.specs.Pieces.{pieces, hashes_of}
 
 -- one piece more
 pub one_more : (hashes : List (List ℕ)) (piece rest : List ℕ) → length piece ≡ 32
-    → (hashes ++ piece ∷ []) ++ pieces (length rest / 32) rest ≡ hashes ++ pieces (length (piece ++ rest) / 32) (piece ++ rest)
+    → (hashes ++ piece ∷ []) ++ pieces (length rest / 32) rest ≡ hashes ++ pieces (length (piece ++ rest) / 32)
+    (piece ++ rest)
 unfolding pieces
 one_more hashes piece rest size =
     let count : length (piece ++ rest) / 32 ≡ suc (length rest / 32) = omega (arith, length-append piece rest, size) in
@@ -16,7 +17,8 @@ one_more hashes piece rest size =
     ∙ rw (count, take_at piece rest 32 size, drop_at piece rest 32 size) refl
 
 -- no piece is left
-pub none_left : (hashes : List (List ℕ)) (rest : List ℕ) → length rest ≡ 0 → hashes ++ pieces (length rest / 32) rest ≡ hashes
+pub none_left : (hashes : List (List ℕ)) (rest : List ℕ) → length rest ≡ 0 → hashes ++ pieces (length rest / 32) rest
+    ≡ hashes
 unfolding pieces
 none_left hashes rest none = rw none (append-nil hashes)
 
@@ -34,10 +36,12 @@ unfolding pieces
 pieces_back [] all = refl
 pieces_back (d ∷ ds) all =
     let one : length (d ∷ ds) ≡ suc (length ds) = omega arith in
-    ap (λ n. pieces n (d ++ flat_map (λ e. e) ds)) one ∙ first_piece d (flat_map (λ e. e) ds) (length ds) all.0 ∙ ap (λ l. d ∷ l) (pieces_back ds all.1)
+    ap (λ n. pieces n (d ++ flat_map (λ e. e) ds)) one ∙ first_piece d (flat_map (λ e. e) ds) (length ds) all.0
+    ∙ ap (λ l. d ∷ l) (pieces_back ds all.1)
 
 pub hashes_back : (ds : List (List ℕ)) → AreHashes ds → hashes_of (flat_map (λ d. d) ds) ≡ Some ds
 hashes_back ds all =
     let size = flat_size ds all in
     let count : length (flat_map (λ d. d) ds) / 32 ≡ length ds = omega (arith, size) in
-    rw (eq-eqb (length (flat_map (λ d. d) ds) % 32) 0 (omega (arith, size))) (ap Some (ap (λ n. pieces n (flat_map (λ d. d) ds)) count ∙ pieces_back ds all))
+    rw (eq-eqb (length (flat_map (λ d. d) ds) % 32) 0 (omega (arith, size)))
+    (ap Some (ap (λ n. pieces n (flat_map (λ d. d) ds)) count ∙ pieces_back ds all))

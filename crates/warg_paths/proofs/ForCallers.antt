@@ -16,33 +16,41 @@ use Rattle.warg_paths.proofs.PathLemmas as paths
 use Rattle.warg_paths.proofs.MakeLemmas as makes
 
 -- of one leaf, no digests lead to its own
-pub root_one : (H : List ℕ → List ℕ) (m : ℕ) (x : List ℕ) (path : List (List ℕ)) → length path ≡ 0 → root_down H m 1 x (reverse path) ≡ Some x
+pub root_one : (H : List ℕ → List ℕ) (m : ℕ) (x : List ℕ) (path : List (List ℕ)) → length path ≡ 0
+    → root_down H m 1 x (reverse path) ≡ Some x
 root_one = paths.root_one
 
 -- of one leaf, any digests lead nowhere
-pub root_long : (H : List ℕ → List ℕ) (m : ℕ) (x : List ℕ) (path : List (List ℕ)) → (length path ≡ 0 → ⊥) → root_down H m 1 x (reverse path) ≡ None
+pub root_long : (H : List ℕ → List ℕ) (m : ℕ) (x : List ℕ) (path : List (List ℕ)) → (length path ≡ 0 → ⊥)
+    → root_down H m 1 x (reverse path) ≡ None
 root_long = paths.root_long
 
 -- of more leaves, no digests lead nowhere
-pub root_short : (H : List ℕ → List ℕ) (m n : ℕ) (x : List ℕ) (path : List (List ℕ)) → 1 < n → length path ≡ 0 → root_down H m n x (reverse path) ≡ None
+pub root_short : (H : List ℕ → List ℕ) (m n : ℕ) (x : List ℕ) (path : List (List ℕ)) → 1 < n → length path ≡ 0
+    → root_down H m n x (reverse path) ≡ None
 root_short = paths.root_short
 
 -- the roots by a path, where both lengths are one
-pub both_one : (H : List ℕ → List ℕ) (old : Option (List ℕ)) (n : ℕ) (path : List (List ℕ)) → roots_down H old n n (reverse path) ≡ twice (one_root old path)
+pub both_one : (H : List ℕ → List ℕ) (old : Option (List ℕ)) (n : ℕ) (path : List (List ℕ))
+    → roots_down H old n n (reverse path) ≡ twice (one_root old path)
 both_one = paths.both_one
 
 -- lengths that differ need a digest
-pub both_short : (H : List ℕ → List ℕ) (old : Option (List ℕ)) (m n : ℕ) (path : List (List ℕ)) → m < n → length path ≡ 0 → roots_down H old m n (reverse path) ≡ None
+pub both_short : (H : List ℕ → List ℕ) (old : Option (List ℕ)) (m n : ℕ) (path : List (List ℕ)) → m < n
+    → length path ≡ 0 → roots_down H old m n (reverse path) ≡ None
 both_short = paths.both_short
 
 -- the roots by a path, where the old leaves end in the first part
-pub both_front : (H : List ℕ → List ℕ) (old : Option (List ℕ)) (m n : ℕ) (top : List ℕ) (below : List (List ℕ)) → m < n → m ≤ front_of n
+pub both_front : (H : List ℕ → List ℕ) (old : Option (List ℕ)) (m n : ℕ) (top : List ℕ) (below : List (List ℕ)) → m < n
+    → m ≤ front_of n
     → roots_down H old m n (reverse (below ++ top ∷ [])) ≡ grown H (roots_down H old m (front_of n) (reverse below)) top
 both_front = paths.both_front
 
 -- the roots by a path, where the old leaves end in the rest
-pub both_rest : (H : List ℕ → List ℕ) (old : Option (List ℕ)) (m n : ℕ) (top : List ℕ) (below : List (List ℕ)) → m < n → front_of n < m
-    → roots_down H old m n (reverse (below ++ top ∷ [])) ≡ both_over H top (roots_down H None (m - front_of n) (n - front_of n) (reverse below))
+pub both_rest : (H : List ℕ → List ℕ) (old : Option (List ℕ)) (m n : ℕ) (top : List ℕ) (below : List (List ℕ)) → m < n
+    → front_of n < m
+    → roots_down H old m n (reverse (below ++ top ∷ []))
+    ≡ both_over H top (roots_down H None (m - front_of n) (n - front_of n) (reverse below))
 both_rest = paths.both_rest
 
 -- hashes, one after the other, have 32 bytes each, and are read as these
@@ -53,27 +61,34 @@ pub hashes_back : (ds : List (List ℕ)) → AreHashes ds → hashes_of (flat_ma
 hashes_back = bytes.hashes_back
 
 -- roots of more ranges make the same paths
-pub inclusion_more : (R S : Range → Option (List ℕ)) → ((r : Range) (d : List ℕ) → R r ≡ Some d → S r ≡ Some d) → (m n : ℕ) (path : List (List ℕ)) → inclusion_of R m n ≡ Some path → inclusion_of S m n ≡ Some path
+pub inclusion_more : (R S : Range → Option (List ℕ)) → ((r : Range) (d : List ℕ) → R r ≡ Some d → S r ≡ Some d)
+    → (m n : ℕ) (path : List (List ℕ)) → inclusion_of R m n ≡ Some path → inclusion_of S m n ≡ Some path
 inclusion_more = makes.inclusion_more
 
-pub consistency_more : (R S : Range → Option (List ℕ)) → ((r : Range) (d : List ℕ) → R r ≡ Some d → S r ≡ Some d) → (m n : ℕ) (path : List (List ℕ)) → consistency_of R m n ≡ Some path → consistency_of S m n ≡ Some path
+pub consistency_more : (R S : Range → Option (List ℕ)) → ((r : Range) (d : List ℕ) → R r ≡ Some d → S r ≡ Some d)
+    → (m n : ℕ) (path : List (List ℕ)) → consistency_of R m n ≡ Some path → consistency_of S m n ≡ Some path
 consistency_more = makes.consistency_more
 
 -- a log's own paths lead to its roots
 pub own_inclusion_leads : (H : List ℕ → List ℕ) (ds : List (List ℕ)) (m n : ℕ) → m < n → n ≤ length ds
-    → led_to H m n (slice_index_or ds m []) (inclusion_of (old_over H (own_digest H ds)) m n) ≡ Some (root_of H (take n ds))
+    → led_to H m n (slice_index_or ds m []) (inclusion_of (old_over H (own_digest H ds)) m n)
+    ≡ Some (root_of H (take n ds))
 own_inclusion_leads = leads.own_leads
 
 pub own_consistency_leads : (H : List ℕ → List ℕ) (ds : List (List ℕ)) (m n : ℕ) → 0 < m → m ≤ n → n ≤ length ds
-    → led_to_both H m n (root_of H (take m ds)) (consistency_of (old_over H (own_digest H ds)) m n) ≡ Some (root_of H (take m ds), root_of H (take n ds))
+    → led_to_both H m n (root_of H (take m ds)) (consistency_of (old_over H (own_digest H ds)) m n)
+    ≡ Some (root_of H (take m ds), root_of H (take n ds))
 own_consistency_leads = growth.own_roots
 
 -- whoever knows the digests that a proof needs has the path, and of a consistency proof the old root
-pub inclusion_known : (H : List ℕ → List ℕ) (F : ℕ → Option (List ℕ)) (m n : ℕ) → m < n → IsKnown F (needed (2 * m) n) → IsSome (inclusion_of (old_over H F) m n)
+pub inclusion_known : (H : List ℕ → List ℕ) (F : ℕ → Option (List ℕ)) (m n : ℕ) → m < n → IsKnown F (needed (2 * m) n)
+    → IsSome (inclusion_of (old_over H F) m n)
 inclusion_known = known.inclusion_known
 
-pub consistency_known : (H : List ℕ → List ℕ) (F : ℕ → Option (List ℕ)) (m n : ℕ) → 0 < m → m ≤ n → IsKnown F (needed_between m n) → IsSome (consistency_of (old_over H F) m n)
+pub consistency_known : (H : List ℕ → List ℕ) (F : ℕ → Option (List ℕ)) (m n : ℕ) → 0 < m → m ≤ n
+    → IsKnown F (needed_between m n) → IsSome (consistency_of (old_over H F) m n)
 consistency_known = known.consistency_known
 
-pub old_root_known : (H : List ℕ → List ℕ) (F : ℕ → Option (List ℕ)) (m n : ℕ) → 0 < m → IsKnown F (needed_between m n) → IsSome (old_over H F (leaves_from 0 m))
+pub old_root_known : (H : List ℕ → List ℕ) (F : ℕ → Option (List ℕ)) (m n : ℕ) → 0 < m → IsKnown F (needed_between m n)
+    → IsSome (old_over H F (leaves_from 0 m))
 old_root_known = known.old_root_known

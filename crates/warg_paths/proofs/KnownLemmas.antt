@@ -23,8 +23,10 @@ follow_inside : (a e : ℕ) (ts : List ℕ) → Follow a e ts → (a ≤ e) × A
 follow_inside a e [] same = (omega (arith, same), tt)
 follow_inside a e (t ∷ ts) follow =
     let rest = follow_inside (end_of t) e ts follow.1 in
-    let ends : start_of t ≤ end_of t = omega arith in
-    (omega (arith, follow.0, ends, rest.0), ((omega (arith, follow.0), rest.0), wider (end_of t) a e ts (omega (arith, follow.0, ends)) rest.1))
+    let ends : start_of t ≤ end_of t = omega arith in (
+      omega (arith, follow.0, ends, rest.0),
+      ((omega (arith, follow.0), rest.0), wider (end_of t) a e ts (omega (arith, follow.0, ends)) rest.1),
+    )
   where
     wider : (b a e : ℕ) (ts : List ℕ) → a ≤ b → AllByRecursion (Inside b e) ts → AllByRecursion (Inside a e) ts
     wider b a e [] less all = tt
@@ -44,49 +46,72 @@ module _ (H : List ℕ → List ℕ) (F : ℕ → Option (List ℕ)) where
   Knows r b = IsSome (F b) × IsSome (cut_over H (at b) r)
 
   -- both parts of a range around a node
-  halves : (r : Range) (e b : ℕ) → 1 < r.count → e < r.start + r.count → Inside r.start e b → IsSome (cut_over H (at b) r)
+  halves : (r : Range) (e b : ℕ) → 1 < r.count → e < r.start + r.count → Inside r.start e b
+      → IsSome (cut_over H (at b) r)
       → IsSome (cut_over H (at b) (front_part r)) × IsSome (cut_over H (at b) (rest_part r))
   halves r e b more short inside known =
       let some : 0 < 2 ^ height_of b = pow_pos (height_of b) in
       let ends : start_of b + 2 ^ height_of b ≤ e = omega (arith, inside.1) in
       let parts = cut_parts H (at b) r more (λ same. omega (arith, starts same, counts same, ends, short))
-      (λ full misses. elim misses [ inl behind ↦ omega (arith, behind, ends, short, some) | inr before ↦ omega (arith, before, inside.0, some) ]) in
+      (λ full misses. elim misses [
+        | inl behind ↦ omega (arith, behind, ends, short, some)
+        | inr before ↦ omega
+            (arith, before, inside.0, some)
+      ]) in
       joined_some H (cut_over H (at b) (front_part r)) (cut_over H (at b) (rest_part r)) (subst IsSome parts known)
 
-  in_front : (r : Range) (e : ℕ) (bs : List ℕ) → 1 < r.count → e < r.start + r.count → AllByRecursion (Inside r.start e) bs → AllByRecursion (Knows r) bs → AllByRecursion (Knows (front_part r)) bs
+  in_front : (r : Range) (e : ℕ) (bs : List ℕ) → 1 < r.count → e < r.start + r.count
+      → AllByRecursion (Inside r.start e) bs → AllByRecursion (Knows r) bs → AllByRecursion (Knows (front_part r)) bs
   in_front r e [] more short inside all = tt
-  in_front r e (b ∷ bs) more short inside all = ((all.0.0, (halves r e b more short inside.0 all.0.1).0), in_front r e bs more short inside.1 all.1)
+  in_front r e (b ∷ bs) more short inside all = (
+    (all.0.0, (halves r e b more short inside.0 all.0.1).0),
+    in_front r e bs more short inside.1 all.1,
+  )
 
-  in_rest : (r : Range) (e : ℕ) (bs : List ℕ) → 1 < r.count → e < r.start + r.count → AllByRecursion (Inside (r.start + front_of r.count) e) bs → AllByRecursion (Knows r) bs → AllByRecursion (Knows (rest_part r)) bs
+  in_rest : (r : Range) (e : ℕ) (bs : List ℕ) → 1 < r.count → e < r.start + r.count
+      → AllByRecursion (Inside (r.start + front_of r.count) e) bs → AllByRecursion (Knows r) bs
+      → AllByRecursion (Knows (rest_part r)) bs
   in_rest r e [] more short inside all = tt
-  in_rest r e (b ∷ bs) more short inside all =
-      ((all.0.0, (halves r e b more short (omega (arith, inside.0.0), inside.0.1) all.0.1).1), in_rest r e bs more short inside.1 all.1)
+  in_rest r e (b ∷ bs) more short inside all = (
+    (all.0.0, (halves r e b more short (omega (arith, inside.0.0), inside.0.1) all.0.1).1),
+    in_rest r e bs more short inside.1 all.1,
+  )
 
   -- the part beside the nodes
-  rest_beside : (r : Range) (e : ℕ) (bs : List ℕ) → 1 < r.count → r.start < e → e ≤ r.start + front_of r.count → e < r.start + r.count → Follow r.start e bs → AllByRecursion (Knows r) bs → IsSome (old_over H F (rest_part r))
+  rest_beside : (r : Range) (e : ℕ) (bs : List ℕ) → 1 < r.count → r.start < e → e ≤ r.start + front_of r.count
+      → e < r.start + r.count → Follow r.start e bs → AllByRecursion (Knows r) bs → IsSome (old_over H F (rest_part r))
   rest_beside r e [] more some low short follow all = absurd (omega (arith, follow, some))
   rest_beside r e (b ∷ bs) more some low short follow all =
       let inside = (follow_inside r.start e (b ∷ bs) follow).1.0 in
       let front = front_is_greatest r.count more in
-      subst IsSome (cut_old H (at b) (rest_part r) (pow_pos (height_of b)) (omega (arith, front.1)) (inr (omega (arith, inside.1, low)))) (halves r e b more short inside all.0.1).1
+      subst IsSome (cut_old H (at b) (rest_part r) (pow_pos (height_of b)) (omega (arith, front.1))
+      (inr (omega (arith, inside.1, low)))) (halves r e b more short inside all.0.1).1
 
-  front_beside : (r : Range) (e : ℕ) (bs : List ℕ) → 1 < r.count → r.start + front_of r.count < e → e < r.start + r.count → Follow (r.start + front_of r.count) e bs → AllByRecursion (Knows r) bs → IsSome (old_over H F (front_part r))
+  front_beside : (r : Range) (e : ℕ) (bs : List ℕ) → 1 < r.count → r.start + front_of r.count < e
+      → e < r.start + r.count → Follow (r.start + front_of r.count) e bs → AllByRecursion (Knows r) bs
+      → IsSome (old_over H F (front_part r))
   front_beside r e [] more some short follow all = absurd (omega (arith, follow, some))
   front_beside r e (b ∷ bs) more some short follow all =
       let inside = (follow_inside (r.start + front_of r.count) e (b ∷ bs) follow).1.0 in
       let full = (front_is_greatest r.count more).0 in
-      subst IsSome (cut_old H (at b) (front_part r) (pow_pos (height_of b)) (omega (arith, full, pow_pos full.0)) (inl inside.0)) (halves r e b more short (omega (arith, inside.0), inside.1) all.0.1).0
+      subst IsSome (cut_old H (at b) (front_part r) (pow_pos (height_of b)) (omega (arith, full, pow_pos full.0))
+      (inl inside.0)) (halves r e b more short (omega (arith, inside.0), inside.1) all.0.1).0
 
   -- the path over leaves that are all old
-  ends : (whole : Bool) (r : Range) → (whole ≡ false → IsFull r.count) → AllByRecursion (Knows r) (balanced_over r.start r.count) → IsSome (path_at_end (old_over H F) whole r)
+  ends : (whole : Bool) (r : Range) → (whole ≡ false → IsFull r.count)
+      → AllByRecursion (Knows r) (balanced_over r.start r.count) → IsSome (path_at_end (old_over H F) whole r)
   ends true r full all = refl
   ends false r full all =
       let is = full refl in
-      beside_some (Some []) (old_over H F r) refl (subst IsSome (sym (old_full H F r is)) (subst (AllByRecursion (Knows r)) (balanced_full r.start r.count is) all).0.0)
+      beside_some (Some []) (old_over H F r) refl
+      (subst IsSome (sym (old_full H F r is))
+      (subst (AllByRecursion (Knows r)) (balanced_full r.start r.count is) all).0.0)
 
   -- the path from the first m leaves of a range to all of them
-  grown : (steps k c m : ℕ) (whole : Bool) (r : Range) → 0 < m → m ≤ r.count → r.count ≤ steps → r.start ≡ c * 2 ^ k → r.count ≤ 2 ^ k
-      → (whole ≡ false → m ≡ r.count → IsFull r.count) → AllByRecursion (Knows r) (balanced_over r.start m) → IsSome (consistency_over (old_over H F) whole m r)
+  grown : (steps k c m : ℕ) (whole : Bool) (r : Range) → 0 < m → m ≤ r.count → r.count ≤ steps → r.start ≡ c * 2 ^ k
+      → r.count ≤ 2 ^ k
+      → (whole ≡ false → m ≡ r.count → IsFull r.count) → AllByRecursion (Knows r) (balanced_over r.start m)
+      → IsSome (consistency_over (old_over H F) whole m r)
   grown zero k c m whole r some order most start high full all = absurd (omega arith)
   grown (suc steps) k c m whole r some order most start high full all = elim (cases_lt m r.count) [
     | inr last ↦
@@ -107,47 +132,67 @@ module _ (H : List ℕ → List ℕ) (F : ℕ → Option (List ℕ)) where
         elim (cases_lt (front_of r.count) m) [
           | inr low ↦
               let bs = balanced_over r.start m in
-              let follow = subst (λ a. Follow a (a + m) (balanced_over a m)) (sym begins) (over_follow j d m (omega (arith, low, front))) in
+              let follow = subst (λ a. Follow a (a + m) (balanced_over a m)) (sym begins)
+              (over_follow j d m (omega (arith, low, front))) in
               let inside = (follow_inside r.start (r.start + m) bs follow).1 in
-              let path = grown steps j d m whole (front_part r) some low (omega (arith, f.1)) begins (omega (arith, front)) (λ _ _. f.0) (in_front r (r.start + m) bs more short inside all) in
+              let path = grown steps j d m whole (front_part r) some low (omega (arith, f.1)) begins
+              (omega (arith, front)) (λ _ _. f.0) (in_front r (r.start + m) bs more short inside all) in
               let rest = rest_beside r (r.start + m) bs more (omega arith) (omega (arith, low)) short follow all in
-              subst IsSome (sym (consistency_front (old_over H F) whole m r some less low)) (beside_some (consistency_over (old_over H F) whole m (front_part r)) (old_over H F (rest_part r)) path rest)
+              subst IsSome (sym (consistency_front (old_over H F) whole m r some less low))
+              (beside_some (consistency_over (old_over H F) whole m (front_part r))
+              (old_over H F (rest_part r)) path rest)
           | inl wide ↦
               let top : m ≤ 2 ^ suc j = omega (arith, less, f.2, front, pow-suc 2 j) in
               let same : front_of m ≡ front_of r.count = front_of_is j m (omega (arith, wide, front)) top ∙ sym front in
-              let part : IsFull m → ⊥ = λ is. omega (arith, pow_below_pow j is.0 (omega (arith, is.1, wide, front)), pow_below_pow is.0 (suc j) (omega (arith, is.1, less, f.2, front, pow-suc 2 j))) in
+              let part : IsFull m → ⊥ = λ is. omega (
+                arith,
+                pow_below_pow j is.0 (omega (arith, is.1, wide, front)),
+                pow_below_pow is.0 (suc j) (omega (arith, is.1, less, f.2, front, pow-suc 2 j)),
+              ) in
               let a = r.start + front_of r.count in
               let n = m - front_of r.count in
               let bs = balanced_over a n in
-              let parts : balanced_over r.start m ≡ node_over r.start (front_of r.count) ∷ bs = subst (λ h. balanced_over r.start m ≡ node_over r.start h ∷ balanced_over (r.start + h) (m - h)) same (balanced_parts r.start m (omega arith) part) in
+              let parts : balanced_over r.start m ≡ node_over r.start (front_of r.count) ∷ bs =
+              subst (λ h. balanced_over r.start m ≡ node_over r.start h ∷ balanced_over (r.start + h) (m - h)) same
+              (balanced_parts r.start m (omega arith) part) in
               let known = (subst (AllByRecursion (Knows r)) parts all).1 in
               let next : a ≡ (d + 1) * 2 ^ j = omega (arith, begins, front) in
               let fits : n ≤ 2 ^ j = omega (arith, top, front, pow-suc 2 j) in
-              let follow = subst (λ b. Follow b (b + n) (balanced_over b n)) (sym next) (over_follow j (d + 1) n fits) in
+              let follow = subst (λ b. Follow b (b + n) (balanced_over b n)) (sym next)
+              (over_follow j (d + 1) n fits) in
               let inside = (follow_inside a (a + n) bs follow).1 in
               let end : a + n < r.start + r.count = omega (arith, wide, less) in
-              let path = grown steps j (d + 1) n false (rest_part r) (omega (arith, wide)) (omega arith) (omega (arith, front, pow_pos j)) next (omega (arith, f.2, front)) (λ _ last. absurd (omega (arith, last, wide, less, f.1))) (in_rest r (a + n) bs more end inside known) in
+              let path = grown steps j (d + 1) n false (rest_part r) (omega (arith, wide)) (omega arith)
+              (omega (arith, front, pow_pos j)) next (omega (arith, f.2, front))
+              (λ _ last. absurd (omega (arith, last, wide, less, f.1)))
+              (in_rest r (a + n) bs more end inside known) in
               let beside = front_beside r (a + n) bs more (omega (arith, wide)) end follow known in
-              subst IsSome (sym (consistency_rest (old_over H F) whole m r less wide)) (beside_some (consistency_over (old_over H F) false n (rest_part r)) (old_over H F (front_part r)) path beside)
+              subst IsSome (sym (consistency_rest (old_over H F) whole m r less wide))
+              (beside_some (consistency_over (old_over H F) false n (rest_part r))
+              (old_over H F (front_part r)) path beside)
         ]
   ]
 
-  known_roots : (n : ℕ) (ts : List ℕ) → IsKnown F (flat_map (λ t. t ∷ needed t n) ts) → AllByRecursion (Knows (leaves_from 0 n)) ts
+  known_roots : (n : ℕ) (ts : List ℕ) → IsKnown F (flat_map (λ t. t ∷ needed t n) ts)
+      → AllByRecursion (Knows (leaves_from 0 n)) ts
   known_roots n [] known = tt
   known_roots n (t ∷ ts) known =
       let parts = known_parts F (needed t n) (flat_map (λ u. u ∷ needed u n) ts) known.1 in
       ((known.0, known_cut H F (H []) t n parts.0), known_roots n ts parts.1)
 
-  pub consistency_known : (m n : ℕ) → 0 < m → m ≤ n → IsKnown F (needed_between m n) → IsSome (consistency_of (old_over H F) m n)
+  pub consistency_known : (m n : ℕ) → 0 < m → m ≤ n → IsKnown F (needed_between m n)
+      → IsSome (consistency_of (old_over H F) m n)
   consistency_known m n some order known =
-      grown n n 0 m true (leaves_from 0 n) some order (omega arith) (omega arith) (omega (arith, below_pow n)) (λ is. absurd (true≢false is)) (known_roots n (balanced_roots m) known)
+      grown n n 0 m true (leaves_from 0 n) some order (omega arith) (omega arith) (omega (arith, below_pow n))
+      (λ is. absurd (true≢false is)) (known_roots n (balanced_roots m) known)
 
   led_some : (m n : ℕ) (x : List ℕ) (p : Option (List (List ℕ))) → IsSome (led_to H m n x p) → IsSome p
   led_some m n x (Some path) led = refl
   led_some m n x None led = led
 
   pub inclusion_known : (m n : ℕ) → m < n → IsKnown F (needed (2 * m) n) → IsSome (inclusion_of (old_over H F) m n)
-  inclusion_known m n inside known = led_some m n (H []) (inclusion_of (old_over H F) m n) (subst IsSome (sym (leads_as_proof H F m n (H []) inside)) (known_cut H F (H []) (2 * m) n known))
+  inclusion_known m n inside known = led_some m n (H []) (inclusion_of (old_over H F) m n)
+      (subst IsSome (sym (leads_as_proof H F m n (H []) inside)) (known_cut H F (H []) (2 * m) n known))
 
   joined_two : (p q : Option (List ℕ)) → IsSome p → IsSome q → IsSome (joined H p q)
   joined_two (Some p) (Some q) left right = refl
@@ -155,32 +200,46 @@ module _ (H : List ℕ → List ℕ) (F : ℕ → Option (List ℕ)) where
   joined_two None q left right = left
 
   -- where the balanced roots of a range are known, so is its old root
-  old_known : (steps : ℕ) (r : Range) → 0 < r.count → r.count ≤ steps → AllByRecursion (λ t. IsSome (F t)) (balanced_over r.start r.count) → IsSome (old_over H F r)
+  old_known : (steps : ℕ) (r : Range) → 0 < r.count → r.count ≤ steps
+      → AllByRecursion (λ t. IsSome (F t)) (balanced_over r.start r.count) → IsSome (old_over H F r)
   old_known zero r some enough known = absurd (omega arith)
   old_known (suc steps) r some enough known = elim (cases_lt 1 r.count) [
     | inr one ↦
         let full : IsFull r.count = (0, omega arith) in
-        subst IsSome (sym (old_full H F r full)) (subst (AllByRecursion (λ t. IsSome (F t))) (balanced_full r.start r.count full) known).0
+        subst IsSome (sym (old_full H F r full))
+        (subst (AllByRecursion (λ t. IsSome (F t))) (balanced_full r.start r.count full) known).0
     | inl more ↦
         let f = front_is_greatest r.count more in
         let j = f.0.0 in
         elim (cases_lt r.count (2 * front_of r.count)) [
           | inr twice ↦
               let full : IsFull r.count = (suc j, omega (arith, twice, f.2, f.0.1, pow-suc 2 j)) in
-              subst IsSome (sym (old_full H F r full)) (subst (AllByRecursion (λ t. IsSome (F t))) (balanced_full r.start r.count full) known).0
+              subst IsSome (sym (old_full H F r full))
+              (subst (AllByRecursion (λ t. IsSome (F t))) (balanced_full r.start r.count full) known).0
           | inl less ↦
-              let part : IsFull r.count → ⊥ = λ is. omega (arith, pow_below_pow j is.0 (omega (arith, is.1, f.1, f.0.1)), pow_below_pow is.0 (suc j) (omega (arith, is.1, less, f.0.1, pow-suc 2 j))) in
+              let part : IsFull r.count → ⊥ =
+              λ is. omega (
+                arith,
+                pow_below_pow j is.0 (omega (arith, is.1, f.1, f.0.1)),
+                pow_below_pow is.0 (suc j) (omega (arith, is.1, less, f.0.1, pow-suc 2 j)),
+              ) in
               let parts = subst (AllByRecursion (λ t. IsSome (F t))) (balanced_parts r.start r.count more part) known in
-              let front : IsSome (old_over H F (front_part r)) = subst IsSome (sym (old_full H F (front_part r) f.0)) parts.0 in
-              let rest : IsSome (old_over H F (rest_part r)) = old_known steps (rest_part r) (omega (arith, f.1)) (omega (arith, f.0.1, pow_pos j)) parts.1 in
-              subst IsSome (sym (old_parts H F r more part)) (joined_two (old_over H F (front_part r)) (old_over H F (rest_part r)) front rest)
+              let front : IsSome (old_over H F (front_part r)) = subst IsSome (sym (old_full H F (front_part r) f.0))
+              parts.0 in
+              let rest : IsSome (old_over H F (rest_part r)) = old_known steps (rest_part r) (omega (arith, f.1))
+              (omega (arith, f.0.1, pow_pos j)) parts.1 in
+              subst IsSome (sym (old_parts H F r more part))
+              (joined_two (old_over H F (front_part r)) (old_over H F (rest_part r)) front rest)
         ]
   ]
 
-  roots_known : (n : ℕ) (ts : List ℕ) → IsKnown F (flat_map (λ t. t ∷ needed t n) ts) → AllByRecursion (λ t. IsSome (F t)) ts
+  roots_known : (n : ℕ) (ts : List ℕ) → IsKnown F (flat_map (λ t. t ∷ needed t n) ts)
+      → AllByRecursion (λ t. IsSome (F t)) ts
   roots_known n [] known = tt
-  roots_known n (t ∷ ts) known = (known.0, roots_known n ts (known_parts F (needed t n) (flat_map (λ u. u ∷ needed u n) ts) known.1).1)
+  roots_known n (t ∷ ts) known =
+      (known.0, roots_known n ts (known_parts F (needed t n) (flat_map (λ u. u ∷ needed u n) ts) known.1).1)
 
   -- whoever knows what a consistency proof needs knows the old root
   pub old_root_known : (m n : ℕ) → 0 < m → IsKnown F (needed_between m n) → IsSome (old_over H F (leaves_from 0 m))
-  old_root_known m n some known = old_known m (leaves_from 0 m) some (omega arith) (roots_known n (balanced_roots m) known)
+  old_root_known m n some known = old_known m (leaves_from 0 m) some (omega arith)
+      (roots_known n (balanced_roots m) known)

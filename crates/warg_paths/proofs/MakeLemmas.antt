@@ -11,7 +11,8 @@ pub parts_fewer : (n : ℕ) → 1 < n → (0 < front_of n) × (front_of n < n) �
 parts_fewer n more = let f = front_is_greatest n more in (omega (arith, f.2), f.1, omega (arith, f.2, f.1))
 
 -- a step more than there are leaves changes nothing
-path_enough : (R : Range → Option (List ℕ)) (s t m : ℕ) (r : Range) → r.count ≤ s → r.count ≤ t → path_within R s m r ≡ path_within R t m r
+path_enough : (R : Range → Option (List ℕ)) (s t m : ℕ) (r : Range) → r.count ≤ s → r.count ≤ t → path_within R s m r
+    ≡ path_within R t m r
 unfolding path_within
 path_enough R zero zero m r low high = refl
 path_enough R zero (suc t) m r low high = rw (le-leb r.count 1 (omega arith)) refl
@@ -19,7 +20,11 @@ path_enough R (suc s) zero m r low high = rw (le-leb r.count 1 (omega arith)) re
 path_enough R (suc s) (suc t) m r low high = elim (cases_lt 1 r.count) [
   | inl more ↦
       let few = parts_fewer r.count more in
-      rw (lt-leb r.count 1 more, path_enough R s t m (front_part r) (omega arith) (omega arith), path_enough R s t (m - front_of r.count) (rest_part r) (omega arith) (omega arith)) refl
+      rw (
+        lt-leb r.count 1 more,
+        path_enough R s t m (front_part r) (omega arith) (omega arith),
+        path_enough R s t (m - front_of r.count) (rest_part r) (omega arith) (omega arith),
+      ) refl
   | inr one ↦ rw (le-leb r.count 1 one) refl
 ]
 
@@ -30,7 +35,12 @@ unfolding path_within
 inclusion_front R m r more front =
     let few = parts_fewer r.count more in
     path_enough R r.count (suc r.count) m r (omega arith) (omega arith)
-    ∙ rw (lt-leb r.count 1 more, lt-ltb m (front_of r.count) front, path_enough R r.count (front_of r.count) m (front_part r) (omega arith) (omega arith)) refl
+    ∙ rw (
+      lt-leb r.count 1 more,
+      lt-ltb m (front_of r.count) front,
+      path_enough R r.count (front_of r.count) m
+          (front_part r) (omega arith) (omega arith),
+    ) refl
 
 -- the path of a leaf in the rest
 pub inclusion_rest : (R : Range → Option (List ℕ)) (m : ℕ) (r : Range) → 1 < r.count → front_of r.count ≤ m
@@ -39,9 +49,15 @@ unfolding path_within
 inclusion_rest R m r more rest =
     let few = parts_fewer r.count more in
     path_enough R r.count (suc r.count) m r (omega arith) (omega arith)
-    ∙ rw (lt-leb r.count 1 more, le-ltb m (front_of r.count) rest, path_enough R r.count (r.count - front_of r.count) (m - front_of r.count) (rest_part r) (omega arith) (omega arith)) refl
+    ∙ rw (
+      lt-leb r.count 1 more,
+      le-ltb m (front_of r.count) rest,
+      path_enough R r.count (r.count - front_of r.count)
+          (m - front_of r.count) (rest_part r) (omega arith) (omega arith),
+    ) refl
 
-growth_enough : (R : Range → Option (List ℕ)) (s t : ℕ) (whole : Bool) (m : ℕ) (r : Range) → 0 < m → m ≤ r.count → r.count ≤ s → r.count ≤ t
+growth_enough : (R : Range → Option (List ℕ)) (s t : ℕ) (whole : Bool) (m : ℕ) (r : Range) → 0 < m → m ≤ r.count
+    → r.count ≤ s → r.count ≤ t
     → growth_within R s whole m r ≡ growth_within R t whole m r
 unfolding growth_within
 growth_enough R zero t whole m r some order low high = absurd (omega arith)
@@ -50,77 +66,107 @@ growth_enough R (suc s) (suc t) whole m r some order low high = elim (cases_lt m
   | inl less ↦
       let few = parts_fewer r.count (omega arith) in
       rw (ne_eqb m r.count (λ e. omega arith)) (elim (cases_lt (front_of r.count) m) [
-        | inl rest ↦ rw (lt-leb m (front_of r.count) rest, growth_enough R s t false (m - front_of r.count) (rest_part r) (omega arith) (omega arith) (omega arith) (omega arith)) refl
-        | inr front ↦ rw (le-leb m (front_of r.count) front, growth_enough R s t whole m (front_part r) some front (omega arith) (omega arith)) refl
+        | inl rest ↦ rw (
+          lt-leb m (front_of r.count) rest,
+          growth_enough R s t false (m - front_of r.count)
+              (rest_part r) (omega arith) (omega arith) (omega arith) (omega arith),
+        ) refl
+        | inr front ↦ rw (
+          le-leb m (front_of r.count) front,
+          growth_enough R s t whole m (front_part r) some front
+              (omega arith) (omega arith),
+        ) refl
       ])
   | inr whole ↦ rw (eq-eqb m r.count (omega arith)) refl
 ]
 
 -- at the end of the old leaves nothing is left, or the digest over them
-pub consistency_end : (R : Range → Option (List ℕ)) (whole : Bool) (m : ℕ) (r : Range) → 0 < m → m ≡ r.count → consistency_over R whole m r ≡ path_at_end R whole r
+pub consistency_end : (R : Range → Option (List ℕ)) (whole : Bool) (m : ℕ) (r : Range) → 0 < m → m ≡ r.count
+    → consistency_over R whole m r ≡ path_at_end R whole r
 unfolding growth_within
-consistency_end R whole m r some all = growth_enough R r.count (suc r.count) whole m r some (omega arith) (omega arith) (omega arith) ∙ rw (eq-eqb m r.count all) refl
+consistency_end R whole m r some all = growth_enough R r.count (suc r.count) whole m r some (omega arith) (omega arith)
+    (omega arith) ∙ rw (eq-eqb m r.count all) refl
 
 -- the path where the old leaves end in the first part
-pub consistency_front : (R : Range → Option (List ℕ)) (whole : Bool) (m : ℕ) (r : Range) → 0 < m → m < r.count → m ≤ front_of r.count
+pub consistency_front : (R : Range → Option (List ℕ)) (whole : Bool) (m : ℕ) (r : Range) → 0 < m → m < r.count
+    → m ≤ front_of r.count
     → consistency_over R whole m r ≡ beside (consistency_over R whole m (front_part r)) (R (rest_part r))
 unfolding growth_within
 consistency_front R whole m r some less front =
     let few = parts_fewer r.count (omega arith) in
-    let below = growth_enough R r.count (front_of r.count) whole m (front_part r) some front (omega arith) (omega arith) in
-    growth_enough R r.count (suc r.count) whole m r some (omega arith) (omega arith) (omega arith) ∙ rw (ne_eqb m r.count (λ e. omega arith), le-leb m (front_of r.count) front, below) refl
+    let below = growth_enough R r.count (front_of r.count) whole m (front_part r) some front (omega arith)
+    (omega arith) in
+    growth_enough R r.count (suc r.count) whole m r some (omega arith) (omega arith) (omega arith)
+    ∙ rw (ne_eqb m r.count (λ e. omega arith), le-leb m (front_of r.count) front, below) refl
 
 -- the path where the old leaves end in the rest
-pub consistency_rest : (R : Range → Option (List ℕ)) (whole : Bool) (m : ℕ) (r : Range) → m < r.count → front_of r.count < m
-    → consistency_over R whole m r ≡ beside (consistency_over R false (m - front_of r.count) (rest_part r)) (R (front_part r))
+pub consistency_rest : (R : Range → Option (List ℕ)) (whole : Bool) (m : ℕ) (r : Range) → m < r.count
+    → front_of r.count < m
+    → consistency_over R whole m r ≡ beside (consistency_over R false (m - front_of r.count) (rest_part r))
+    (R (front_part r))
 unfolding growth_within
 consistency_rest R whole m r less rest =
     let few = parts_fewer r.count (omega arith) in
-    let below = growth_enough R r.count (r.count - front_of r.count) false (m - front_of r.count) (rest_part r) (omega arith) (omega arith) (omega arith) (omega arith) in
-    growth_enough R r.count (suc r.count) whole m r (omega arith) (omega arith) (omega arith) (omega arith) ∙ rw (ne_eqb m r.count (λ e. omega arith), lt-leb m (front_of r.count) rest, below) refl
+    let below = growth_enough R r.count (r.count - front_of r.count) false (m - front_of r.count) (rest_part r)
+    (omega arith) (omega arith) (omega arith) (omega arith) in
+    growth_enough R r.count (suc r.count) whole m r (omega arith) (omega arith) (omega arith) (omega arith)
+    ∙ rw (ne_eqb m r.count (λ e. omega arith), lt-leb m (front_of r.count) rest, below) refl
 
 -- the path of one leaf is empty
 pub inclusion_one : (R : Range → Option (List ℕ)) (m : ℕ) (r : Range) → r.count ≡ 1 → inclusion_over R m r ≡ Some []
 unfolding path_within
-inclusion_one R m r one = path_enough R r.count (suc r.count) m r (omega arith) (omega arith) ∙ rw (le-leb r.count 1 (omega arith)) refl
+inclusion_one R m r one = path_enough R r.count (suc r.count) m r (omega arith) (omega arith)
+    ∙ rw (le-leb r.count 1 (omega arith)) refl
 
 -- what holds of both cases of a test holds of the test
-either : {T : Type 0} (b : Bool) {p q s t : T} {path : T} → (p ≡ path → s ≡ path) → (q ≡ path → t ≡ path) → (if b then p else q) ≡ path → (if b then s else t) ≡ path
+either : {T : Type 0} (b : Bool) {p q s t : T} {path : T} → (p ≡ path → s ≡ path) → (q ≡ path → t ≡ path)
+    → (if b then p else q) ≡ path → (if b then s else t) ≡ path
 either true then_case else_case is = then_case is
 either false then_case else_case is = else_case is
 
 -- Roots of more ranges make the same path.
-beside_more : (p q : Option (List (List ℕ))) (s t : Option (List ℕ)) → ((path : List (List ℕ)) → p ≡ Some path → q ≡ Some path) → ((d : List ℕ) → s ≡ Some d → t ≡ Some d)
+beside_more : (p q : Option (List (List ℕ))) (s t : Option (List ℕ))
+    → ((path : List (List ℕ)) → p ≡ Some path → q ≡ Some path) → ((d : List ℕ) → s ≡ Some d → t ≡ Some d)
     → (path : List (List ℕ)) → beside p s ≡ Some path → beside q t ≡ Some path
 beside_more (Some p) q (Some s) t below top path is = rw (below p refl, top s refl) is
 beside_more (Some p) q None t below top path is = absurd (cc)
 beside_more None q s t below top path is = absurd (cc)
 
 module _ (R S : Range → Option (List ℕ)) (more : (r : Range) (d : List ℕ) → R r ≡ Some d → S r ≡ Some d) where
-  path_more : (steps m : ℕ) (r : Range) (path : List (List ℕ)) → path_within R steps m r ≡ Some path → path_within S steps m r ≡ Some path
+  path_more : (steps m : ℕ) (r : Range) (path : List (List ℕ)) → path_within R steps m r ≡ Some path
+      → path_within S steps m r ≡ Some path
   unfolding path_within
   path_more zero m r path is = is
   path_more (suc steps) m r path is =
-      let front = beside_more (path_within R steps m (front_part r)) (path_within S steps m (front_part r)) (R (rest_part r)) (S (rest_part r)) (path_more steps m (front_part r)) (more (rest_part r)) path in
+      let front = beside_more (path_within R steps m (front_part r)) (path_within S steps m (front_part r))
+      (R (rest_part r)) (S (rest_part r)) (path_more steps m (front_part r)) (more (rest_part r)) path in
       let k : ℕ = m - front_of r.count in
-      let rest = beside_more (path_within R steps k (rest_part r)) (path_within S steps k (rest_part r)) (R (front_part r)) (S (front_part r)) (path_more steps k (rest_part r)) (more (front_part r)) path in
+      let rest = beside_more (path_within R steps k (rest_part r)) (path_within S steps k (rest_part r))
+      (R (front_part r)) (S (front_part r)) (path_more steps k (rest_part r)) (more (front_part r)) path in
       either (nat_le r.count 1) (λ e. e) (either (nat_lt m (front_of r.count)) front rest) is
 
-  pub inclusion_more : (m n : ℕ) (path : List (List ℕ)) → inclusion_of R m n ≡ Some path → inclusion_of S m n ≡ Some path
+  pub inclusion_more : (m n : ℕ) (path : List (List ℕ)) → inclusion_of R m n ≡ Some path → inclusion_of S m n
+      ≡ Some path
   inclusion_more m n = path_more n m (leaves_from 0 n)
 
-  end_more : (whole : Bool) (r : Range) (path : List (List ℕ)) → path_at_end R whole r ≡ Some path → path_at_end S whole r ≡ Some path
+  end_more : (whole : Bool) (r : Range) (path : List (List ℕ)) → path_at_end R whole r ≡ Some path
+      → path_at_end S whole r ≡ Some path
   end_more true r path is = is
   end_more false r path is = beside_more (Some []) (Some []) (R r) (S r) (λ q e. e) (more r) path is
 
-  growth_more : (steps : ℕ) (whole : Bool) (m : ℕ) (r : Range) (path : List (List ℕ)) → growth_within R steps whole m r ≡ Some path → growth_within S steps whole m r ≡ Some path
+  growth_more : (steps : ℕ) (whole : Bool) (m : ℕ) (r : Range) (path : List (List ℕ)) → growth_within R steps whole m r
+      ≡ Some path → growth_within S steps whole m r ≡ Some path
   unfolding growth_within
   growth_more zero whole m r path is = is
   growth_more (suc steps) whole m r path is =
-      let front = beside_more (growth_within R steps whole m (front_part r)) (growth_within S steps whole m (front_part r)) (R (rest_part r)) (S (rest_part r)) (growth_more steps whole m (front_part r)) (more (rest_part r)) path in
+      let front = beside_more (growth_within R steps whole m (front_part r))
+      (growth_within S steps whole m (front_part r)) (R (rest_part r)) (S (rest_part r))
+      (growth_more steps whole m (front_part r)) (more (rest_part r)) path in
       let k : ℕ = m - front_of r.count in
-      let rest = beside_more (growth_within R steps false k (rest_part r)) (growth_within S steps false k (rest_part r)) (R (front_part r)) (S (front_part r)) (growth_more steps false k (rest_part r)) (more (front_part r)) path in
+      let rest = beside_more (growth_within R steps false k (rest_part r)) (growth_within S steps false k (rest_part r))
+      (R (front_part r)) (S (front_part r)) (growth_more steps false k (rest_part r)) (more (front_part r)) path in
       either (m == r.count) (end_more whole r path) (either (nat_le m (front_of r.count)) front rest) is
 
-  pub consistency_more : (m n : ℕ) (path : List (List ℕ)) → consistency_of R m n ≡ Some path → consistency_of S m n ≡ Some path
+  pub consistency_more : (m n : ℕ) (path : List (List ℕ)) → consistency_of R m n ≡ Some path → consistency_of S m n
+      ≡ Some path
   consistency_more m n = growth_more n true m (leaves_from 0 n)

@@ -7,13 +7,15 @@ use Rattle.warg_log.specs.Cut.{joined}
 use Rattle.warg_paths.specs.Paths.{root_down, roots_down, one_root, twice, grown, both_over}
 
 -- of one leaf, no digests lead to its own
-pub root_one : (H : List ℕ → List ℕ) (m : ℕ) (x : List ℕ) (path : List (List ℕ)) → length path ≡ 0 → root_down H m 1 x (reverse path) ≡ Some x
+pub root_one : (H : List ℕ → List ℕ) (m : ℕ) (x : List ℕ) (path : List (List ℕ)) → length path ≡ 0
+    → root_down H m 1 x (reverse path) ≡ Some x
 unfolding root_down
 root_one H m x [] none = refl
 root_one H m x (top ∷ above) none = absurd (omega arith)
 
 -- of one leaf, any digests lead nowhere
-pub root_long : (H : List ℕ → List ℕ) (m : ℕ) (x : List ℕ) (path : List (List ℕ)) → (length path ≡ 0 → ⊥) → root_down H m 1 x (reverse path) ≡ None
+pub root_long : (H : List ℕ → List ℕ) (m : ℕ) (x : List ℕ) (path : List (List ℕ)) → (length path ≡ 0 → ⊥)
+    → root_down H m 1 x (reverse path) ≡ None
 unfolding root_down
 root_long H m x path some = down (reverse path) (λ none. some (sym (length-reverse path) ∙ none))
   where
@@ -22,28 +24,34 @@ root_long H m x path some = down (reverse path) (λ none. some (sym (length-reve
     down (top ∷ below) some = refl
 
 -- of more leaves, no digests lead nowhere
-pub root_short : (H : List ℕ → List ℕ) (m n : ℕ) (x : List ℕ) (path : List (List ℕ)) → 1 < n → length path ≡ 0 → root_down H m n x (reverse path) ≡ None
+pub root_short : (H : List ℕ → List ℕ) (m n : ℕ) (x : List ℕ) (path : List (List ℕ)) → 1 < n → length path ≡ 0
+    → root_down H m n x (reverse path) ≡ None
 unfolding root_down
 root_short H m n x [] more none = rw (ne_eqb n 1 (λ e. omega arith)) refl
 root_short H m n x (top ∷ above) more none = absurd (omega arith)
 
 -- the leaf is in the first part
 pub root_front : (H : List ℕ → List ℕ) (m n : ℕ) (x top : List ℕ) (below : List (List ℕ)) → 1 < n → m < front_of n
-    → root_down H m n x (reverse (below ++ top ∷ [])) ≡ joined H (root_down H m (front_of n) x (reverse below)) (Some top)
+    → root_down H m n x (reverse (below ++ top ∷ [])) ≡ joined H (root_down H m (front_of n) x (reverse below))
+    (Some top)
 unfolding root_down
-root_front H m n x top below more front = rw (reverse-append below (top ∷ [])) (rw (lt-leb n 1 more, lt-ltb m (front_of n) front) refl)
+root_front H m n x top below more front = rw (reverse-append below (top ∷ []))
+    (rw (lt-leb n 1 more, lt-ltb m (front_of n) front) refl)
 
 -- the leaf is in the rest
 pub root_rest : (H : List ℕ → List ℕ) (m n : ℕ) (x top : List ℕ) (below : List (List ℕ)) → 1 < n → front_of n ≤ m
-    → root_down H m n x (reverse (below ++ top ∷ [])) ≡ joined H (Some top) (root_down H (m - front_of n) (n - front_of n) x (reverse below))
+    → root_down H m n x (reverse (below ++ top ∷ [])) ≡ joined H (Some top)
+    (root_down H (m - front_of n) (n - front_of n) x (reverse below))
 unfolding root_down
-root_rest H m n x top below more rest = rw (reverse-append below (top ∷ [])) (rw (lt-leb n 1 more, le-ltb m (front_of n) rest) refl)
+root_rest H m n x top below more rest = rw (reverse-append below (top ∷ []))
+    (rw (lt-leb n 1 more, le-ltb m (front_of n) rest) refl)
 
 -- the one root is the same from below and from the top
 pub one_turned : (old : Option (List ℕ)) (path : List (List ℕ)) → one_root old (reverse path) ≡ one_root old path
 one_turned old [] = refl
 one_turned old (h ∷ []) = refl
-one_turned old (h ∷ k ∷ hs) = two_or_more old (reverse (h ∷ k ∷ hs)) (omega (arith, length-reverse (h ∷ k ∷ hs))) ∙ sym (two_or_more old (h ∷ k ∷ hs) (omega arith))
+one_turned old (h ∷ k ∷ hs) = two_or_more old (reverse (h ∷ k ∷ hs)) (omega (arith, length-reverse (h ∷ k ∷ hs)))
+    ∙ sym (two_or_more old (h ∷ k ∷ hs) (omega arith))
   where
     two_or_more : (old : Option (List ℕ)) (hs : List (List ℕ)) → 1 < length hs → one_root old hs ≡ None
     two_or_more old [] more = absurd (omega arith)
@@ -52,7 +60,8 @@ one_turned old (h ∷ k ∷ hs) = two_or_more old (reverse (h ∷ k ∷ hs)) (om
     two_or_more None (h ∷ k ∷ hs) more = refl
 
 -- both lengths are one, and the path is read
-pub both_one : (H : List ℕ → List ℕ) (old : Option (List ℕ)) (n : ℕ) (path : List (List ℕ)) → roots_down H old n n (reverse path) ≡ twice (one_root old path)
+pub both_one : (H : List ℕ → List ℕ) (old : Option (List ℕ)) (n : ℕ) (path : List (List ℕ))
+    → roots_down H old n n (reverse path) ≡ twice (one_root old path)
 unfolding roots_down
 both_one H old n path = down (reverse path) ∙ ap twice (one_turned old path)
   where
@@ -61,19 +70,25 @@ both_one H old n path = down (reverse path) ∙ ap twice (one_turned old path)
     down (h ∷ hs) = rw (eq-eqb n n refl) refl
 
 -- lengths that differ need a digest
-pub both_short : (H : List ℕ → List ℕ) (old : Option (List ℕ)) (m n : ℕ) (path : List (List ℕ)) → m < n → length path ≡ 0 → roots_down H old m n (reverse path) ≡ None
+pub both_short : (H : List ℕ → List ℕ) (old : Option (List ℕ)) (m n : ℕ) (path : List (List ℕ)) → m < n
+    → length path ≡ 0 → roots_down H old m n (reverse path) ≡ None
 unfolding roots_down
 both_short H old m n [] less none = rw (ne_eqb m n (λ e. omega arith)) refl
 both_short H old m n (top ∷ above) less none = absurd (omega arith)
 
 -- the old log ends in the first part
-pub both_front : (H : List ℕ → List ℕ) (old : Option (List ℕ)) (m n : ℕ) (top : List ℕ) (below : List (List ℕ)) → m < n → m ≤ front_of n
+pub both_front : (H : List ℕ → List ℕ) (old : Option (List ℕ)) (m n : ℕ) (top : List ℕ) (below : List (List ℕ)) → m < n
+    → m ≤ front_of n
     → roots_down H old m n (reverse (below ++ top ∷ [])) ≡ grown H (roots_down H old m (front_of n) (reverse below)) top
 unfolding roots_down
-both_front H old m n top below less front = rw (reverse-append below (top ∷ [])) (rw (ne_eqb m n (λ e. omega arith), le-leb m (front_of n) front) refl)
+both_front H old m n top below less front = rw (reverse-append below (top ∷ []))
+    (rw (ne_eqb m n (λ e. omega arith), le-leb m (front_of n) front) refl)
 
 -- the old log ends in the rest
-pub both_rest : (H : List ℕ → List ℕ) (old : Option (List ℕ)) (m n : ℕ) (top : List ℕ) (below : List (List ℕ)) → m < n → front_of n < m
-    → roots_down H old m n (reverse (below ++ top ∷ [])) ≡ both_over H top (roots_down H None (m - front_of n) (n - front_of n) (reverse below))
+pub both_rest : (H : List ℕ → List ℕ) (old : Option (List ℕ)) (m n : ℕ) (top : List ℕ) (below : List (List ℕ)) → m < n
+    → front_of n < m
+    → roots_down H old m n (reverse (below ++ top ∷ []))
+    ≡ both_over H top (roots_down H None (m - front_of n) (n - front_of n) (reverse below))
 unfolding roots_down
-both_rest H old m n top below less rest = rw (reverse-append below (top ∷ [])) (rw (ne_eqb m n (λ e. omega arith), lt-leb m (front_of n) rest) refl)
+both_rest H old m n top below less rest = rw (reverse-append below (top ∷ []))
+    (rw (ne_eqb m n (λ e. omega arith), lt-leb m (front_of n) rest) refl)

@@ -18,14 +18,17 @@ MessageStands schema bytes (Err e) = FaultStands schema bytes e
 
 -- what stands in the bytes, in the words of messages
 said : {M : Type 0} (schema : Schema M) (bytes : List ℕ) (r : Result (List Field) WireError)
-    → AllStand SpellsField FieldFault (check_by schema.table) bytes r → MessageStands schema bytes (r >>= λ fs. Ok (schema.message fs))
+    → AllStand SpellsField FieldFault (check_by schema.table) bytes r
+    → MessageStands schema bytes (r >>= λ fs. Ok (schema.message fs))
 said schema bytes r stands = grind arith
 
 -- reading gives what stands in the bytes
-pub message_met : {M : Type 0} (schema : Schema M) (bytes : List ℕ) (r : Result M WireError) → MessageStands schema bytes r
+pub message_met : {M : Type 0} (schema : Schema M) (bytes : List ℕ) (r : Result M WireError)
+    → MessageStands schema bytes r
     → message_of schema bytes ≡ r
 unfolding message_of
-message_met schema bytes (Ok m) s = rw (all_met (check_by schema.table) fields bytes (Ok s.fields) (s.spelled, s.checked), s.is) refl
+message_met schema bytes (Ok m) s =
+    rw (all_met (check_by schema.table) fields bytes (Ok s.fields) (s.spelled, s.checked), s.is) refl
 message_met schema bytes (Err e) f =
     let first : AllStand SpellsField FieldFault (check_by schema.table) bytes (Err e) = grind arith in
     rw (all_met (check_by schema.table) fields bytes (Err e) first) refl
@@ -36,7 +39,8 @@ pub message_is : {M : Type 0} (schema : Schema M) (bytes : List ℕ) (r : Result
 unfolding message_of
 message_is schema bytes r = (
   message_met schema bytes r,
-  λ e. subst (MessageStands schema bytes) e (said schema bytes (fields_of schema bytes) (all_stand (check_by schema.table) fields bytes)),
+  λ e. subst (MessageStands schema bytes) e
+      (said schema bytes (fields_of schema bytes) (all_stand (check_by schema.table) fields bytes)),
 )
 
 pub other_type : {M : Type 0} (schema : Schema M) (p : Payload) → wire_type p ≢ 2

@@ -17,14 +17,16 @@ use Rattle.warg_protobuf.proofs.Varints.{varints, varint_not_empty}
 -- ---- so many bytes
 
 -- what holds of going on behind so many bytes, and where there are fewer
-bytes_on : {Y : Type 0} (P : Result Y WireError → Type 0) (len : ℕ) (bytes : List ℕ) (f : List ℕ × List ℕ → Result Y WireError)
+bytes_on : {Y : Type 0} (P : Result Y WireError → Type 0) (len : ℕ) (bytes : List ℕ) (f : List ℕ × List ℕ
+    → Result Y WireError)
     → ((inner rest : List ℕ) → length inner ≡ len → bytes ≡ inner ++ rest → P (f (inner, rest)))
     → (length bytes < len → P (Err errors.Truncated)) → P (bytes_at len bytes >>= f)
 bytes_on P len bytes f ok short =
     elim (cases_lt (length bytes) len) [
       | inl lt ↦ rw (lt-ltb (length bytes) len lt) (short lt)
       | inr le ↦
-          rw (le-ltb (length bytes) len le) (ok (take len bytes) (drop len bytes) (omega (arith, length-take len bytes)) (sym (take-append-drop len bytes)))
+          rw (le-ltb (length bytes) len le) (ok (take len bytes) (drop len bytes) (omega (arith, length-take len bytes))
+          (sym (take-append-drop len bytes)))
     ]
 
 bytes_again : (len : ℕ) (bytes rest : List ℕ) → length bytes ≡ len → bytes_at len (bytes ++ rest) ≡ Ok (bytes, rest)
@@ -57,7 +59,8 @@ payload_stands (suc zero) bytes =
     (λ inner rest long parts. record { front = inner; spelled = ((refl, long), refl); parts = parts }) below_eight
 payload_stands (suc (suc zero)) bytes =
     behind varints (PayloadStands 2 bytes) bytes (λ len. bytes_at len.0 len.1 >>= λ x. Ok (delimited x.0, x.1))
-    (λ len after b. bytes_on (PayloadStands 2 bytes) len after (λ x. Ok (delimited x.0, x.1)) (λ inner rest long parts. record {
+    (λ len after b. bytes_on (PayloadStands 2 bytes) len after (λ x. Ok (delimited x.0, x.1))
+    (λ inner rest long parts. record {
       front = b.front ++ inner;
       spelled = ((b.front, subst (IsVarint b.front) (sym long) b.spelled, refl), refl);
       parts = parts_joined bytes b.front inner after rest b.parts parts;
@@ -78,7 +81,12 @@ unfolding payload_at
 payload_again bytes (varint n) rest h = rw (varints.again bytes n rest h) refl
 payload_again bytes (fixed64 found) rest h = rw (h.0, bytes_again 8 found rest h.1) refl
 payload_again bytes (delimited found) rest h =
-    rw (h.2, append_assoc, varints.again h.0 (length found) (found ++ rest) h.1, bytes_again (length found) found rest refl) refl
+    rw (
+      h.2,
+      append_assoc,
+      varints.again h.0 (length found) (found ++ rest) h.1,
+      bytes_again (length found) found rest refl,
+    ) refl
 payload_again bytes (fixed32 found) rest h = rw (h.0, bytes_again 4 found rest h.1) refl
 
 fault_payload : (kind : ℕ) (bytes : List ℕ) (e : WireError) → PayloadFault bytes kind e → payload_at kind bytes ≡ Err e
@@ -119,11 +127,14 @@ FieldStands bytes r = Stands SpellsField FieldFault bytes r
 field_stands : (bytes : List ℕ) → FieldStands bytes (field_at bytes)
 unfolding field_at
 field_stands bytes =
-    behind varints (FieldStands bytes) bytes (λ tag. cond (leb (2 ^ 32) tag.0 || eqb (tag.0 / 8) 0) (Err errors.BadTag) (with_payload tag))
+    behind varints (FieldStands bytes) bytes (λ tag. cond (leb (2 ^ 32) tag.0 || eqb (tag.0 / 8) 0) (Err errors.BadTag)
+    (with_payload tag))
     (λ n after b. elim (tag_cases n) [
       | inl out ↦ rw (tag_out n out) (bad_tag n after b out)
       | inr ok ↦
-          rw (tag_in n ok.0 ok.1) (read_on (SpellsKind (n % 8)) (λ rest e. PayloadFault rest (n % 8) e) after (FieldStands bytes) (payload_at (n % 8) after) (λ payload. Ok (record { number = n / 8; payload = payload.0 }, payload.1)) (payload_stands (n % 8) after)
+          rw (tag_in n ok.0 ok.1) (read_on (SpellsKind (n % 8)) (λ rest e. PayloadFault rest (n % 8) e) after
+          (FieldStands bytes) (payload_at (n % 8) after)
+          (λ payload. Ok (record { number = n / 8; payload = payload.0 }, payload.1)) (payload_stands (n % 8) after)
           (λ p rest q. record {
             front = b.front ++ q.front;
             spelled = field_spelled b.front q.front n p b.spelled ok.0 ok.1 q.spelled.0 q.spelled.1;
@@ -134,18 +145,26 @@ field_stands bytes =
 pub wire_type_small : (c : Payload) → wire_type c < 8
 wire_type_small c = grind arith
 
-field_again : (bytes : List ℕ) (f : Field) (rest : List ℕ) → SpellsField bytes f → field_at (bytes ++ rest) ≡ Ok (f, rest)
+field_again : (bytes : List ℕ) (f : Field) (rest : List ℕ) → SpellsField bytes f → field_at (bytes ++ rest)
+    ≡ Ok (f, rest)
 unfolding field_at
 field_again bytes f rest h =
     let tag : ℕ = f.number * 8 + wire_type f.payload in
     let tag_read = varints.again h.tag tag (h.payload ++ rest) h.tag_spelled in
-    grind (arith, append_assoc h.tag h.payload rest, wire_type_small f.payload, tag_read, payload_again h.payload f.payload rest h.payload_spelled)
+    grind (
+      arith,
+      append_assoc h.tag h.payload rest,
+      wire_type_small f.payload,
+      tag_read,
+      payload_again h.payload f.payload rest h.payload_spelled,
+    )
 
 fault_field : (bytes : List ℕ) (e : WireError) → FieldFault bytes e → field_at bytes ≡ Err e
 unfolding field_at
 fault_field bytes e (in_tag fault v) = grind (arith, varints.fails)
 fault_field bytes e (bad_tag tag rest b out) = grind (arith, begins varints bytes tag rest b)
-fault_field bytes e (in_payload tag rest fault b low has p) = grind (arith, begins varints bytes tag rest b, fault_payload)
+fault_field bytes e (in_payload tag rest fault b low has p) =
+    grind (arith, begins varints bytes tag rest b, fault_payload)
 
 field_not_empty : (bytes : List ℕ) (f : Field) → SpellsField bytes f → 0 < length bytes
 field_not_empty bytes f h = grind (arith, common_steps, varint_not_empty)

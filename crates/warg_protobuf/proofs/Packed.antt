@@ -42,15 +42,22 @@ fault_number bytes e (too_large n rest b le) = inr (n, rest, b, grind arith)
 
 -- numbers that stand there and check are packed numbers, and the other way round
 numbers_packed : (bytes ns : List ℕ) → AreThere IsVarint is_uint32 bytes ns → IsPacked bytes ns
-numbers_packed bytes ns there = grind (arith, All-from_recursion IsLow ns (all_weaken Checks IsLow (λ n h. grind arith) ns there.1))
+numbers_packed bytes ns there =
+    grind (arith, All-from_recursion IsLow ns (all_weaken Checks IsLow (λ n h. grind arith) ns there.1))
 
 packed_numbers : (bytes ns : List ℕ) → IsPacked bytes ns → AreThere IsVarint is_uint32 bytes ns
-packed_numbers bytes ns p = (p.spelled, all_weaken IsLow Checks (λ n h. grind arith) ns (recursion_from_All IsLow ns p.fit))
+packed_numbers bytes ns p = (
+  p.spelled,
+  all_weaken IsLow Checks (λ n h. grind arith) ns
+      (recursion_from_All IsLow ns p.fit),
+)
 
-packed : (bytes : List ℕ) (r : Result (List ℕ) WireError) → AllStand IsVarint VarintFault is_uint32 bytes r → PackedStands bytes r
+packed : (bytes : List ℕ) (r : Result (List ℕ) WireError) → AllStand IsVarint VarintFault is_uint32 bytes r
+    → PackedStands bytes r
 packed bytes r stands = grind (arith, numbers_packed, number_fault)
 
-unpacked : (bytes : List ℕ) (r : Result (List ℕ) WireError) → PackedStands bytes r → AllStand IsVarint VarintFault is_uint32 bytes r
+unpacked : (bytes : List ℕ) (r : Result (List ℕ) WireError) → PackedStands bytes r
+    → AllStand IsVarint VarintFault is_uint32 bytes r
 unpacked bytes r stands = grind (arith, packed_numbers, fault_number)
 
 pub packed_is : (bytes : List ℕ) (r : Result (List ℕ) WireError) → PackedStands bytes r ↔ (packed_uint32s bytes ≡ r)

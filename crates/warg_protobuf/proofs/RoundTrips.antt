@@ -1,4 +1,5 @@
--- The written form of each message is read as that message: its parts are written, and `simp` reads each part's values, where
+-- The written form of each message is read as that message: its parts are written, and `simp` reads each part's values,
+-- where
 -- `other` lets it pass over the parts of other numbers.
 use Rattle.std.proofs.Common.{◌≡◌, Some, None, false, refl, arith}
 use Rattle.std.proofs.lemmas.List.{append-nil, length-append}
@@ -38,7 +39,8 @@ logs_again m fits short =
     let v2 = packed_value 2 m.consistent_lengths fits.consistent_lengths in
     let v3 = packed_value 3 m.included_indices fits.included_indices in
     let v4 = nested_value entry_schema entry_fields 4 m.hashes read in
-    written_spelled log_schema (log_fields m) m (all_append _ _ _ (all_append _ _ _ (all_append _ _ _ length lengths) indices) hashes)
+    written_spelled log_schema (log_fields m) m
+    (all_append _ _ _ (all_append _ _ _ (all_append _ _ _ length lengths) indices) hashes)
     (simp (values-append, other_one, other_repeated, append-nil, v1, v2, v3, v4)) short
 
 pub stacks_again : ReadsAgain stack_schema stack_fields StackFits
@@ -50,7 +52,14 @@ stacks_again m fits short =
     let length = uint32_written stack_schema 1 m.length (refl, λ p. refl) fits.length in
     let roots = nested_written stack_schema entry_schema entry_fields 2 (refl, λ p. refl) m.stack read in
     written_spelled stack_schema (stack_fields m) m (all_append _ _ _ length roots)
-    (simp (values-append, other_one, other_repeated, append-nil, uint32_value 1 m.length fits.length, nested_value entry_schema entry_fields 2 m.stack read)) short
+    (simp (
+      values-append,
+      other_one,
+      other_repeated,
+      append-nil,
+      uint32_value 1 m.length fits.length,
+      nested_value entry_schema entry_fields 2 m.stack read,
+    )) short
 
 pub vecs_again : ReadsAgain vec_schema vec_fields VecFits
 unfolding vec_schema vec_fields
@@ -59,7 +68,14 @@ vecs_again m fits short =
     let length = uint32_written vec_schema 1 m.length (refl, λ p. refl) fits.length in
     let tree = repeated_written vec_schema 2 m.tree (refl, λ p. refl) in
     written_spelled vec_schema (vec_fields m) m (all_append _ _ _ length tree)
-    (simp (values-append, other_one, other_repeated, append-nil, uint32_value 1 m.length fits.length, repeated_value 2 m.tree)) short
+    (simp (
+      values-append,
+      other_one,
+      other_repeated,
+      append-nil,
+      uint32_value 1 m.length fits.length,
+      repeated_value 2 m.tree,
+    )) short
 
 -- Every value can be written.
 abbrev pub Anything : {M : Type 0} → M → Type 0
@@ -90,4 +106,5 @@ maps_again m fits short =
     let absences = nested_written map_schema proof_schema proof_fields 2 (refl, λ p. refl) m.absences absent in
     let v1 = nested_value proof_schema proof_fields 1 m.proofs held in
     let v2 = nested_value proof_schema proof_fields 2 m.absences absent in
-    written_spelled map_schema (map_fields m) m (all_append _ _ _ proofs absences) (simp (values-append, other_repeated, append-nil, v1, v2)) short
+    written_spelled map_schema (map_fields m) m (all_append _ _ _ proofs absences)
+    (simp (values-append, other_repeated, append-nil, v1, v2)) short

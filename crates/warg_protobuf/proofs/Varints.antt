@@ -71,13 +71,18 @@ StandsIn more bytes r = Stands (IsNumberIn more) (VarintFaultIn more) bytes r
 -- a last byte is a number by itself
 one_byte : (more b : ℕ) (rest : List ℕ) → b < 128 → b < 2 * 128 ^ more → BeginsWith (IsNumberIn more) (b ∷ rest) b rest
 one_byte more b rest last below =
-    record { front = b ∷ []; spelled = record { groups = (last, refl); short = omega arith; below = below }; parts = refl }
+    record {
+      front = b ∷ [];
+      spelled = record { groups = (last, refl); short = omega arith; below = below };
+      parts = refl;
+    }
 
 -- a byte that goes on moves the fault one byte back
 goes_on : (more b : ℕ) (bytes : List ℕ) (e : WireError) → 128 ≤ b → VarintFaultIn more bytes e
     → VarintFaultIn (suc more) (b ∷ bytes) e
 goes_on more b bytes e le (ends_in short on) = ends_in (omega arith) (le, on)
-goes_on more b bytes e le (last_in front rest last long on above parts) = last_in (b ∷ front) rest last (omega arith) (le, on) above cc
+goes_on more b bytes e le (last_in front rest last long on above parts) = last_in (b ∷ front) rest last (omega arith)
+    (le, on) above cc
 
 varint_stands_in : (more : ℕ) (bytes : List ℕ) → StandsIn more bytes (varint_in more bytes)
 unfolding varint_in
@@ -94,19 +99,29 @@ varint_stands_in (suc more) (b ∷ bytes) =
     elim (cases_lt b 128) [
       | inl lt ↦ rw (lt-ltb b 128 lt) (one_byte (suc more) b bytes lt (omega arith))
       | inr le ↦
-          rw (le-ltb b 128 le) (read_on (IsNumberIn more) (VarintFaultIn more) bytes (StandsIn (suc more) (b ∷ bytes)) (varint_in more bytes) (λ high. Ok (b % 128 + 128 * high.0, high.1)) (varint_stands_in more bytes)
+          rw (le-ltb b 128 le) (read_on (IsNumberIn more) (VarintFaultIn more) bytes (StandsIn (suc more) (b ∷ bytes))
+          (varint_in more bytes) (λ high. Ok (b % 128 + 128 * high.0, high.1)) (varint_stands_in more bytes)
           (λ high rest s. record {
             front = b ∷ s.front;
-            spelled = record { groups = groups_more b s.front (b % 128 + 128 * high) high le refl s.spelled.groups; short = omega (arith, s.spelled.short); below = omega (arith, s.spelled.below) };
+            spelled = record {
+              groups = groups_more b s.front (b % 128 + 128 * high) high le refl s.spelled.groups;
+              short = omega (arith, s.spelled.short);
+              below = omega (arith, s.spelled.below);
+            };
             parts = ap (λ (l : List ℕ). b ∷ l) s.parts;
           }) (λ e f. goes_on more b bytes e le f))
     ]
 
 -- ten bytes at most
-varint_stands : (bytes : List ℕ) (r : Result (ℕ × List ℕ) WireError) → StandsIn 9 bytes r → Stands IsVarint VarintFault bytes r
+varint_stands : (bytes : List ℕ) (r : Result (ℕ × List ℕ) WireError) → StandsIn 9 bytes r
+    → Stands IsVarint VarintFault bytes r
 varint_stands bytes (Ok x) s = record {
   front = s.front;
-  spelled = record { groups = s.spelled.groups; short = omega (arith, s.spelled.short); fits = omega (arith, s.spelled.below) };
+  spelled = record {
+    groups = s.spelled.groups;
+    short = omega (arith, s.spelled.short);
+    fits = omega (arith, s.spelled.below);
+  };
   parts = s.parts;
 }
 varint_stands bytes (Err e) (ends_in short on) = ends short on
@@ -121,10 +136,12 @@ varint_again_in more [] n rest g short below = absurd g
 varint_again_in zero (b ∷ []) n rest g short below = grind arith
 varint_again_in zero (b ∷ c ∷ text) n rest g short below = absurd (omega arith)
 varint_again_in (suc more) (b ∷ []) n rest g short below = grind arith
-varint_again_in (suc more) (b ∷ c ∷ text) n rest g short below = grind (arith, pow-succ' 128 more, varint_again_in more (c ∷ text) g.1 rest g.3)
+varint_again_in (suc more) (b ∷ c ∷ text) n rest g short below =
+    grind (arith, pow-succ' 128 more, varint_again_in more (c ∷ text) g.1 rest g.3)
 
 -- each fault is the one that reading names
-ends_read : (more : ℕ) (bytes : List ℕ) → length bytes < suc more → AllGoOn bytes → varint_in more bytes ≡ Err errors.Truncated
+ends_read : (more : ℕ) (bytes : List ℕ) → length bytes < suc more → AllGoOn bytes → varint_in more bytes
+    ≡ Err errors.Truncated
 unfolding varint_in
 ends_read zero [] short on = refl
 ends_read (suc more) [] short on = refl
@@ -162,11 +179,17 @@ varint_bytes_is_in : (more n : ℕ) → n < 2 * 128 ^ more
     → IsGroups (varint_bytes_in more n) n × (length (varint_bytes_in more n) ≤ suc more)
 unfolding varint_bytes_in
 varint_bytes_is_in zero n below = ((omega arith, refl), omega arith)
-varint_bytes_is_in (suc more) n below = grind (arith, pow-succ' 128 more, varint_bytes_is_in more (n / 128), groups_more)
+varint_bytes_is_in (suc more) n below = grind (
+  arith,
+  pow-succ' 128 more,
+  varint_bytes_is_in more (n / 128),
+  groups_more,
+)
 
 pub varint_bytes_is : (n : ℕ) → n < 2 ^ 64 → IsVarint (varint_bytes n) n
 unfolding varint_bytes
-varint_bytes_is n lt = let h = varint_bytes_is_in 9 n (omega arith) in record { groups = h.0; short = omega (arith, h.1); fits = lt }
+varint_bytes_is n lt = let h = varint_bytes_is_in 9 n (omega arith) in
+    record { groups = h.0; short = omega (arith, h.1); fits = lt }
 
 varint_shortest_in : (more n : ℕ) (other : List ℕ) → n < 2 * 128 ^ more → IsGroups other n
     → length (varint_bytes_in more n) ≤ length other
@@ -174,7 +197,8 @@ unfolding varint_bytes_in
 varint_shortest_in more n [] below g = absurd g
 varint_shortest_in zero n (b ∷ other) below g = omega arith
 varint_shortest_in (suc more) n (b ∷ []) below g = grind arith
-varint_shortest_in (suc more) n (b ∷ c ∷ other) below g = grind (arith, pow-succ' 128 more, varint_shortest_in more g.1 (c ∷ other), g.2, g.3)
+varint_shortest_in (suc more) n (b ∷ c ∷ other) below g =
+    grind (arith, pow-succ' 128 more, varint_shortest_in more g.1 (c ∷ other), g.2, g.3)
 
 pub varint_shortest : (n : ℕ) (other : List ℕ) → IsVarint other n → length (varint_bytes n) ≤ length other
 unfolding varint_bytes

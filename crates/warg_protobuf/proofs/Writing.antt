@@ -49,12 +49,23 @@ payload_spelled (fixed32 inner) fits short = (refl, fits)
 
 field_spelled : {M : Type 0} (schema : Schema M) (f : Field) → IsWritten schema f → length (field_bytes f) < 2 ^ 64
     → SpellsField (field_bytes f) f
-field_spelled schema f is short = grind (arith, common_steps, wire_type_small f.payload, payload_spelled f.payload is.fits, varint_bytes_is (f.number * 8 + wire_type f.payload))
+field_spelled schema f is short = grind (
+  arith,
+  common_steps,
+  wire_type_small f.payload,
+  payload_spelled f.payload is.fits,
+  varint_bytes_is (f.number * 8 + wire_type f.payload),
+)
 
 fields_spelled : {M : Type 0} (schema : Schema M) (fs : List Field) → AreWritten schema fs
     → length (fields_bytes fs) < 2 ^ 64 → SpellsAll SpellsField (fields_bytes fs) fs
 fields_spelled schema [] are short = refl
-fields_spelled schema (f ∷ fs) are short = grind (arith, common_steps, field_spelled schema f are.0, fields_spelled schema fs are.1)
+fields_spelled schema (f ∷ fs) are short = grind (
+  arith,
+  common_steps,
+  field_spelled schema f are.0,
+  fields_spelled schema fs are.1,
+)
 
 -- the written form of fields spells what they say
 pub written_spelled : {M : Type 0} (schema : Schema M) (fs : List Field) (m : M) → AreWritten schema fs
@@ -71,7 +82,8 @@ written_spelled schema fs m are says short = record {
 -- The schema has a field of this number, which a tag can hold, and its payload checks so.
 abbrev pub HasField : {M : Type 0} → Schema M → ℕ → Check Payload → Type 0
 HasField schema k check =
-    IsTrue (nat_lt 0 k && nat_lt k (2 ^ 29)) × ((p : Payload) → check_by schema.table (record { number = k; payload = p }) ≡ check p)
+    IsTrue (nat_lt 0 k && nat_lt k (2 ^ 29))
+    × ((p : Payload) → check_by schema.table (record { number = k; payload = p }) ≡ check p)
 
 pub field_written : {M : Type 0} (schema : Schema M) (k : ℕ) (check : Check Payload) → HasField schema k check
     → (p : Payload) → PayloadFits p → check p ≡ Ok tt → IsWritten schema (record { number = k; payload = p })
@@ -95,11 +107,17 @@ repeated_written schema k (inner ∷ inners) has = grind (arith, repeated_writte
 
 packed_spelled : (ns : List ℕ) → All (λ n. n < 2 ^ 32) ns → SpellsAll IsVarint (flat_map varint_bytes ns) ns
 packed_spelled [] fit = refl
-packed_spelled (n ∷ ns) fit = grind (arith, All-head (λ k. k < 2 ^ 32) n ns fit, varint_bytes_is n, packed_spelled ns (All-tail (λ k. k < 2 ^ 32) n ns fit))
+packed_spelled (n ∷ ns) fit = grind (
+  arith,
+  All-head (λ k. k < 2 ^ 32) n ns fit,
+  varint_bytes_is n,
+  packed_spelled ns (All-tail (λ k. k < 2 ^ 32) n ns fit),
+)
 
 -- packed numbers are read from their written form
 packed_again : (ns : List ℕ) → All (λ n. n < 2 ^ 32) ns → packed_uint32s (flat_map varint_bytes ns) ≡ Ok ns
-packed_again ns fit = (packed_is (flat_map varint_bytes ns) (Ok ns)).0 (record { spelled = packed_spelled ns fit; fit = fit })
+packed_again ns fit = (packed_is (flat_map varint_bytes ns) (Ok ns)).0
+    (record { spelled = packed_spelled ns fit; fit = fit })
 
 pub packed_written : {M : Type 0} (schema : Schema M) (k : ℕ) (ns : List ℕ) → HasField schema k uint32s
     → All (λ n. n < 2 ^ 32) ns → AreWritten schema (packed_fields k ns)
@@ -159,15 +177,19 @@ pub all_read : {M : Type 0} (schema : Schema M) (fields : M → List Field) (Fit
 all_read schema fields Fits again k [] fits short = tt
 all_read schema fields Fits again k (m ∷ ms) fits short =
     let sizes = simp length-append at short in
-    let spelled = again m (All-head Fits m ms fits) (omega arith) in
-    (message_met schema (fields_bytes (fields m)) (Ok m) spelled, all_read schema fields Fits again k ms (All-tail Fits m ms fits) (omega arith))
+    let spelled = again m (All-head Fits m ms fits) (omega arith) in (
+      message_met schema (fields_bytes (fields m)) (Ok m) spelled,
+      all_read schema fields Fits again k ms
+          (All-tail Fits m ms fits) (omega arith),
+    )
 
 pub nested_written : {O M : Type 0} (outer : Schema O) (schema : Schema M) (fields : M → List Field) (k : ℕ)
     → HasField outer k (message schema) → (ms : List M) → AllRead schema fields ms
     → AreWritten outer (message_fields k fields ms)
 unfolding message_in
 nested_written outer schema fields k has [] read = tt
-nested_written outer schema fields k has (m ∷ ms) read = grind (arith, nested_written outer schema fields k has ms read.1)
+nested_written outer schema fields k has (m ∷ ms) read =
+    grind (arith, nested_written outer schema fields k has ms read.1)
 
 pub nested_value : {M : Type 0} (schema : Schema M) (fields : M → List Field) (k : ℕ) (ms : List M)
     → AllRead schema fields ms → values k (each (message_in schema)) (message_fields k fields ms) ≡ ms

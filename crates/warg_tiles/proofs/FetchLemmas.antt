@@ -22,8 +22,10 @@ use Rattle.warg_tiles.proofs.TileLemmas.{place_in_level_is, width_most}
 use Rattle.warg_tiles.proofs.OwnLemmas.{leaves_by_tile}
 
 -- a tile that serves nodes serves more of them
-serves_more : (xs ys : List ℕ) (tiles : List TileAt) → AllByRecursion (λ t. serves xs t ≡ true) tiles → AllByRecursion (λ t. serves (xs ++ ys) t ≡ true) tiles
-serves_more xs ys tiles all = all_weaken (λ t. serves xs t ≡ true) (λ t. serves (xs ++ ys) t ≡ true) (λ t is. list_any-append (has_below t) xs ys ∙ rw is refl) tiles all
+serves_more : (xs ys : List ℕ) (tiles : List TileAt) → AllByRecursion (λ t. serves xs t ≡ true) tiles
+    → AllByRecursion (λ t. serves (xs ++ ys) t ≡ true) tiles
+serves_more xs ys tiles all = all_weaken (λ t. serves xs t ≡ true) (λ t. serves (xs ++ ys) t ≡ true)
+    (λ t is. list_any-append (has_below t) xs ys ∙ rw is refl) tiles all
 
 -- or with what is true
 or_true : (b : Bool) → (b || true) ≡ true
@@ -31,68 +33,106 @@ or_true true = refl
 or_true false = refl
 
 serves_last : (xs : List ℕ) (x : ℕ) (t : TileAt) → has_below t x ≡ true → serves (xs ++ x ∷ []) t ≡ true
-serves_last xs x t has = list_any-append (has_below t) xs (x ∷ []) ∙ (let last : list_any (has_below t) (x ∷ []) ≡ true = rw has refl in rw last (or_true (list_any (has_below t) xs)))
+serves_last xs x t has = list_any-append (has_below t) xs (x ∷ [])
+    ∙ (let last : list_any (has_below t) (x ∷ []) ≡ true = rw has refl in rw last (or_true (list_any (has_below t) xs)))
 
 -- no tiles were added for no nodes
 pub added_none : (n : ℕ) (tiles : List TileAt) → IsAdded n tiles tiles []
-added_none n tiles = record { tiles_of = λ are. are; serve = λ before all. serves_more before [] tiles all; keep = λ x given. given; give = tt }
+added_none n tiles = record {
+  tiles_of = λ are. are;
+  serve = λ before all. serves_more before [] tiles all;
+  keep = λ x given. given;
+  give = tt;
+}
 
 -- nor for a node that the tiles give
 pub added_known : (n x : ℕ) (tiles : List TileAt) → gives tiles x ≡ true → IsAdded n tiles tiles (x ∷ [])
-added_known n x tiles given = record { tiles_of = λ are. are; serve = λ before all. serves_more before (x ∷ []) tiles all; keep = λ x given. given; give = (given, tt) }
+added_known n x tiles given = record {
+  tiles_of = λ are. are;
+  serve = λ before all. serves_more before
+      (x ∷ []) tiles all;
+  keep = λ x given. given;
+  give = (given, tt);
+}
 
 -- and one for a node that they don't
-pub added_new : (n x : ℕ) (tiles : List TileAt) (t : TileAt) → gives tiles x ≡ false → IsTileOf n t → has_below t x ≡ true → IsAdded n tiles (tiles ++ t ∷ []) (x ∷ [])
+pub added_new : (n x : ℕ) (tiles : List TileAt) (t : TileAt) → gives tiles x ≡ false → IsTileOf n t
+    → has_below t x ≡ true → IsAdded n tiles (tiles ++ t ∷ []) (x ∷ [])
 added_new n x tiles t none of_length has = record {
   tiles_of = λ are. record {
     of_length = all_push (IsTileOf n) tiles t are.of_length of_length;
     once = all_pairs_push (λ (s u : TileAt). s ≢ u) tiles t are.once
-        (λ k d inside same. true≢false (sym (list_any_at (λ s. has_below s x) tiles k d inside (ap (λ s. has_below s x) same ∙ has)) ∙ none));
+        (λ k d inside same. true≢false
+        (sym (list_any_at (λ s. has_below s x) tiles k d inside (ap (λ s. has_below s x) same ∙ has)) ∙ none));
   };
-  serve = λ before all. all_push (λ t. serves (before ++ x ∷ []) t ≡ true) tiles t (serves_more before (x ∷ []) tiles all) (serves_last before x t has);
+  serve = λ before all. all_push (λ t. serves (before ++ x ∷ []) t ≡ true) tiles t
+      (serves_more before (x ∷ []) tiles all) (serves_last before x t has);
   keep = λ y given. list_any-append (λ s. has_below s y) tiles (t ∷ []) ∙ rw given refl;
   give = (list_any-append (λ s. has_below s x) tiles (t ∷ []) ∙ rw (none, has) refl, tt);
 }
 
 -- what was added after what was added
-pub added_append : (n : ℕ) (first second third : List TileAt) (xs ys : List ℕ) → IsAdded n first second xs → IsAdded n second third ys → IsAdded n first third (xs ++ ys)
+pub added_append : (n : ℕ) (first second third : List TileAt) (xs ys : List ℕ) → IsAdded n first second xs
+    → IsAdded n second third ys → IsAdded n first third (xs ++ ys)
 added_append n first second third xs ys one two = record {
   tiles_of = λ are. two.tiles_of (one.tiles_of are);
-  serve = λ before all. subst (λ l. AllByRecursion (λ t. serves l t ≡ true) third) (append_assoc before xs ys) (two.serve (before ++ xs) (one.serve before all));
+  serve = λ before all. subst (λ l. AllByRecursion (λ t. serves l t ≡ true) third) (append_assoc before xs ys)
+      (two.serve (before ++ xs) (one.serve before all));
   keep = λ x given. two.keep x (one.keep x given);
-  give = all_append (λ x. gives third x ≡ true) xs ys (all_weaken (λ x. gives second x ≡ true) (λ x. gives third x ≡ true) two.keep xs one.give) two.give;
+  give = all_append (λ x. gives third x ≡ true) xs ys
+      (all_weaken (λ x. gives second x ≡ true) (λ x. gives third x ≡ true) two.keep xs one.give) two.give;
 }
 
 -- what was added to no tiles
 pub added_first : (n : ℕ) (tiles : List TileAt) (nodes : List ℕ) → IsAdded n [] tiles nodes → AreFor n tiles nodes
-added_first n tiles nodes added = record { tiles_of = added.tiles_of (record { of_length = tt; once = λ i j d less inside. absurd (omega arith) }); give = added.give; serve = added.serve [] tt }
+added_first n tiles nodes added =
+    record {
+      tiles_of = added.tiles_of (record { of_length = tt; once = λ i j d less inside. absurd (omega arith) });
+      give = added.give;
+      serve = added.serve [] tt;
+    }
 
 -- the tiles give the digests of the nodes
-first_given : (H : List ℕ → List ℕ) (t : TileAt × List (List ℕ)) (x : ℕ) (rest : Option (List ℕ)) (b : Bool) → has_below t.0 x ≡ b → (b ≡ false → IsSome rest) → IsSome (option_or (digest_of H t x) rest)
+first_given : (H : List ℕ → List ℕ) (t : TileAt × List (List ℕ)) (x : ℕ) (rest : Option (List ℕ)) (b : Bool)
+    → has_below t.0 x ≡ b → (b ≡ false → IsSome rest) → IsSome (option_or (digest_of H t x) rest)
 first_given H t x rest true has others = rw has refl
 first_given H t x rest false has others = rw has (others refl)
 
-gives_digest : (H : List ℕ → List ℕ) (tiles : Tiles) (x : ℕ) → gives (map (λ (t : TileAt × List (List ℕ)). t.0) tiles) x ≡ true → IsSome (digest_by H tiles x)
+gives_digest : (H : List ℕ → List ℕ) (tiles : Tiles) (x : ℕ) → gives (map (λ (t : TileAt × List (List ℕ)). t.0) tiles) x
+    ≡ true → IsSome (digest_by H tiles x)
 gives_digest H [] x is = absurd (true≢false (sym is))
 gives_digest H (t ∷ tiles) x is = first_given H t x (digest_by H tiles x) (has_below t.0 x) refl
-    (λ none. gives_digest H tiles x (ap (λ b. b || gives (map (λ (t : TileAt × List (List ℕ)). t.0) tiles) x) (sym none) ∙ is))
+    (λ none. gives_digest H tiles x (ap (λ b. b || gives (map (λ (t : TileAt × List (List ℕ)). t.0) tiles) x) (sym none)
+    ∙ is))
 
-pub all_known : (H : List ℕ → List ℕ) (tiles : Tiles) (nodes : List ℕ) → AllByRecursion (λ x. gives (map (λ (t : TileAt × List (List ℕ)). t.0) tiles) x ≡ true) nodes → IsKnown (digest_by H tiles) nodes
+pub all_known : (H : List ℕ → List ℕ) (tiles : Tiles) (nodes : List ℕ)
+    → AllByRecursion (λ x. gives (map (λ (t : TileAt × List (List ℕ)). t.0) tiles) x ≡ true) nodes
+    → IsKnown (digest_by H tiles) nodes
 all_known H tiles [] all = tt
 all_known H tiles (x ∷ nodes) all = (gives_digest H tiles x all.0, all_known H tiles nodes all.1)
 
 -- a node of a log has its digests among those of its level at the log's length
 pub least_there : (x n : ℕ) (least : TileAt) → least ≡ tile_over x → ExistsAt x n → n ≤ 2 ^ 63
-    → (8 * least.level < 64) × (256 * least.number + least.width ≤ n / 2 ^ (8 * least.level)) × (0 < least.width) × (least.width ≤ 256)
+    → (8 * least.level < 64) × (256 * least.number + least.width ≤ n / 2 ^ (8 * least.level)) × (0 < least.width)
+    × (least.width ≤ 256)
 least_there x n least is there small =
     let leaves = leaves_by_tile x (height_of x / 8) refl in
     let height : height_of x < 64 = pow_below_pow (height_of x) 64 (omega (arith, pow_pos (height_of x))) in
-    let within = le-div (place_in_level x + 2 ^ (height_of x % 8)) n (2 ^ (8 * (height_of x / 8))) (pow_pos (8 * (height_of x / 8))) (omega (arith, leaves.0, leaves.2)) in
-    rw is (omega arith, omega arith, omega (arith, pow_pos (height_of x % 8)), rw (place_in_level_is x) (width_most (place_of x) (height_of x % 8) (omega arith)))
+    let within = le-div (place_in_level x + 2 ^ (height_of x % 8)) n (2 ^ (8 * (height_of x / 8)))
+    (pow_pos (8 * (height_of x / 8))) (omega (arith, leaves.0, leaves.2)) in
+    rw is (
+      omega arith,
+      omega arith,
+      omega (arith, pow_pos (height_of x % 8)),
+      rw (place_in_level_is x) (width_most (place_of x) (height_of x % 8) (omega arith)),
+    )
 
--- a tile of the least one's level and number that is as wide as the length allows is one of the length, and has all digests
+-- a tile of the least one's level and number that is as wide as the length allows is one of the length, and has all
+-- digests
 -- below the node
-pub tile_made_for : (x n : ℕ) (t least : TileAt) → t ≡ record least { width = t.width } → t.width ≡ min (n / 2 ^ (8 * least.level) - 256 * least.number) 256 → least ≡ tile_over x → ExistsAt x n → n ≤ 2 ^ 63
+pub tile_made_for : (x n : ℕ) (t least : TileAt) → t ≡ record least { width = t.width }
+    → t.width ≡ min (n / 2 ^ (8 * least.level) - 256 * least.number) 256 → least ≡ tile_over x → ExistsAt x n
+    → n ≤ 2 ^ 63
     → (0 < t.width) × IsTileOf n t × (has_below t x ≡ true)
 tile_made_for x n t least at wide is there small =
     let facts = least_there x n least is there small in
@@ -102,28 +142,40 @@ tile_made_for x n t least at wide is there small =
       omega (arith, facts),
       record { some = omega (arith, facts); width = rw (level, number) wide },
       ap (λ (o : TileAt). t.level == o.level && (t.number == o.number && nat_le o.width t.width)) (sym is)
-          ∙ rw (eq-eqb t.level least.level level, eq-eqb t.number least.number number, le-leb least.width t.width enough) refl,
+          ∙ rw (
+            eq-eqb t.level least.level level,
+            eq-eqb t.number least.number number,
+            le-leb least.width t.width enough,
+          ) refl,
     )
 
 -- what holds of each node's number
-pub all_numbers : (P : ℕ → Type 0) (nodes : List Node) → AllByRecursion P (map (λ x. x.0) nodes) → AllByRecursion (λ (node : Node). P node.0) nodes
+pub all_numbers : (P : ℕ → Type 0) (nodes : List Node) → AllByRecursion P (map (λ x. x.0) nodes)
+    → AllByRecursion (λ (node : Node). P node.0) nodes
 all_numbers P [] all = tt
 all_numbers P (x ∷ nodes) all = (all.0, all_numbers P nodes all.1)
 
 -- a balanced root of a length is there at each length from it on
-pub root_there : (old n : ℕ) (roots : List Node) (i : ℕ) (d : Node) → old ≤ n → map (λ x. x.0) roots ≡ balanced_roots old → i < length roots → ExistsAt (get_or roots i d).0 n × (0 < n)
+pub root_there : (old n : ℕ) (roots : List Node) (i : ℕ) (d : Node) → old ≤ n → map (λ x. x.0) roots
+    ≡ balanced_roots old → i < length roots → ExistsAt (get_or roots i d).0 n × (0 < n)
 root_there old n roots i d order is inside =
-    let there = all_at (λ (node : Node). end_of node.0 ≤ old) roots i d (all_numbers (λ t. end_of t ≤ old) roots (rw is (roots_exist old))) inside in
+    let there = all_at (λ (node : Node). end_of node.0 ≤ old) roots i d
+    (all_numbers (λ t. end_of t ≤ old) roots (rw is (roots_exist old))) inside in
     (omega arith, omega (arith, pow_pos (height_of (get_or roots i d).0)))
 
 -- a balanced root more
 pub added_root : (n : ℕ) (tiles more : List TileAt) (roots : List Node) (i : ℕ) (d : Node) → i < length roots
-    → IsAdded n [] tiles (flat_map (λ t. t ∷ needed t n) (map (λ x. x.0) (take i roots))) → IsAdded n tiles more ((get_or roots i d).0 ∷ needed (get_or roots i d).0 n)
+    → IsAdded n [] tiles (flat_map (λ t. t ∷ needed t n) (map (λ x. x.0) (take i roots)))
+    → IsAdded n tiles more ((get_or roots i d).0 ∷ needed (get_or roots i d).0 n)
     → IsAdded n [] more (flat_map (λ t. t ∷ needed t n) (map (λ x. x.0) (take (i + 1) roots)))
 added_root n tiles more roots i d inside so_far added =
     let before = map (λ (x : Node). x.0) (take i roots) in
     let root = (get_or roots i d).0 in
-    rw (map_more (λ (x : Node). x.0) roots i d inside, flat_map-append (λ t. t ∷ needed t n) before (root ∷ []), append-nil (root ∷ needed root n))
+    rw (
+      map_more (λ (x : Node). x.0) roots i d inside,
+      flat_map-append (λ t. t ∷ needed t n) before (root ∷ []),
+      append-nil (root ∷ needed root n),
+    )
     (added_append n [] tiles more (flat_map (λ t. t ∷ needed t n) before) (root ∷ needed root n) so_far added)
 
 -- the tests of a tile that covers another one
@@ -134,7 +186,11 @@ covers_parts t u is =
     (eqb-true t.level u.level level.0, eqb-true t.number u.number number.0, leb-true u.width t.width number.1)
 
 covers_from : (t u : TileAt) → t.level ≡ u.level → t.number ≡ u.number → u.width ≤ t.width → covers t u ≡ true
-covers_from t u level number width = rw (eq-eqb t.level u.level level, eq-eqb t.number u.number number, le-leb u.width t.width width) refl
+covers_from t u level number width = rw (
+  eq-eqb t.level u.level level,
+  eq-eqb t.number u.number number,
+  le-leb u.width t.width width,
+) refl
 
 covers_then : (t u v : TileAt) → covers t u ≡ true → covers u v ≡ true → covers t v ≡ true
 covers_then t u v one two =
@@ -143,11 +199,13 @@ covers_then t u v one two =
     covers_from t v (a.0 ∙ b.0) (a.1 ∙ b.1) (omega (arith, a.2, b.2))
 
 -- a wider tile in a tile's place gives what that one gives
-pub wider_gives : (t wide : TileAt) (x : ℕ) → wide.level ≡ t.level → wide.number ≡ t.number → t.width ≤ wide.width → has_below t x ≡ true → has_below wide x ≡ true
+pub wider_gives : (t wide : TileAt) (x : ℕ) → wide.level ≡ t.level → wide.number ≡ t.number → t.width ≤ wide.width
+    → has_below t x ≡ true → has_below wide x ≡ true
 wider_gives t wide x level number more = covers_then wide t (tile_over x) (covers_from wide t level number more)
 
 -- tiles of which one covers a tile give what that one gives
-pub covered_gives : (tiles : Tiles) (t : TileAt) (x : ℕ) → covered_by tiles t ≡ true → has_below t x ≡ true → gives (map (λ (s : TileAt × List (List ℕ)). s.0) tiles) x ≡ true
+pub covered_gives : (tiles : Tiles) (t : TileAt) (x : ℕ) → covered_by tiles t ≡ true → has_below t x ≡ true
+    → gives (map (λ (s : TileAt × List (List ℕ)). s.0) tiles) x ≡ true
 covered_gives [] t x is has = absurd (true≢false (sym is))
 covered_gives (s ∷ tiles) t x is has = by_first (covers s.0 t) refl is (λ others. covered_gives tiles t x others has)
   where
@@ -158,7 +216,8 @@ covered_gives (s ∷ tiles) t x is has = by_first (covers s.0 t) refl is (λ oth
     by_first false none is others = rw (others is) (or_true (has_below s.0 x))
 
 -- a tile of level 0 that is as wide as an entry's place needs gives the entry's leaf
-pub leaf_given : (t : TileAt) (index : ℕ) → t.level ≡ 0 → t.number ≡ index / 256 → index % 256 + 1 ≤ t.width → has_below t (2 * index) ≡ true
+pub leaf_given : (t : TileAt) (index : ℕ) → t.level ≡ 0 → t.number ≡ index / 256 → index % 256 + 1 ≤ t.width
+    → has_below t (2 * index) ≡ true
 leaf_given t index level number wide =
     let x = 2 * index in
     let at = over_at 0 index in
@@ -166,5 +225,7 @@ leaf_given t index level number wide =
     let height : height_of x ≡ 0 = ap height_of (sym same) ∙ at.0 in
     let place : place_of x ≡ index = ap place_of (sym same) ∙ at.1 in
     let one : 2 ^ (height_of x % 8) ≡ 1 = ap (λ h. 2 ^ (h % 8)) height in
-    let in_level : place_in_level x ≡ index = place_in_level_is x ∙ omega (arith, place, ap (λ n. place_of x * n) one) in
-    covers_from t (tile_over x) (level ∙ sym (ap (λ h. h / 8) height)) (number ∙ sym (ap (λ n. n / 256) in_level)) (omega (arith, in_level, one, wide))
+    let in_level : place_in_level x ≡ index = place_in_level_is x
+    ∙ omega (arith, place, ap (λ n. place_of x * n) one) in
+    covers_from t (tile_over x) (level ∙ sym (ap (λ h. h / 8) height)) (number ∙ sym (ap (λ n. n / 256) in_level))
+    (omega (arith, in_level, one, wide))

@@ -28,23 +28,28 @@ pub partial_of : (n : ℕ) → n ≤ 2 ^ 63 → ArePartialOf n (partial_tiles n)
 partial_of = full.all_partial
 
 -- digests that a log has for a tile's nodes are the tile's
-pub own_tile : (H : List ℕ → List ℕ) (ds digests : List (List ℕ)) (t : TileAt) → IsTileBy (own_digest H ds) t digests → digests ≡ tile_digests H ds t
+pub own_tile : (H : List ℕ → List ℕ) (ds digests : List (List ℕ)) (t : TileAt) → IsTileBy (own_digest H ds) t digests
+    → digests ≡ tile_digests H ds t
 own_tile = opening.tile_same
 
 -- a bundle with one entry more
-pub bundle_more : (es : List (List ℕ)) (entry : List ℕ) → bundle_of (es ++ entry ∷ []) ≡ bundle_of es ++ (two_bytes (length entry) ++ entry)
+pub bundle_more : (es : List (List ℕ)) (entry : List ℕ) → bundle_of (es ++ entry ∷ [])
+    ≡ bundle_of es ++ (two_bytes (length entry) ++ entry)
 bundle_more = entries.bundle_of-push
 
 -- a log has each digest of a tile that ends within it
-pub tile_own : (H : List ℕ → List ℕ) (ds : List (List ℕ)) (t : TileAt) → tile_end t ≤ length ds → IsTileBy (own_digest H ds) t (tile_digests H ds t)
+pub tile_own : (H : List ℕ → List ℕ) (ds : List (List ℕ)) (t : TileAt) → tile_end t ≤ length ds
+    → IsTileBy (own_digest H ds) t (tile_digests H ds t)
 tile_own H ds t fits = (edges.own_tile H ds t fits).digests.0
 
 -- a checkpoint's text is read in one way
-pub text_once : (s t : Said) (a b : Option (List ℕ)) → CanBeSaid s → CanBeSaid t → text_before s a ≡ text_before t b → (s ≡ t) × (a ≡ b)
+pub text_once : (s t : Said) (a b : Option (List ℕ)) → CanBeSaid s → CanBeSaid t → text_before s a ≡ text_before t b
+    → (s ≡ t) × (a ≡ b)
 text_once = texts.text_once
 
 -- as many entries at the head of a bundle's bytes are the bundle's
-pub bundle_once : (xs ys : List (List ℕ)) (rest : List ℕ) → length xs ≡ length ys → bundle_of xs ++ rest ≡ bundle_of ys → xs ≡ ys
+pub bundle_once : (xs ys : List (List ℕ)) (rest : List ℕ) → length xs ≡ length ys → bundle_of xs ++ rest ≡ bundle_of ys
+    → xs ≡ ys
 bundle_once = entries.bundle_once
 
 -- a bundle's bytes are those of its entries alone
@@ -52,23 +57,29 @@ pub bundle_same : (xs ys : List (List ℕ)) → bundle_of xs ≡ bundle_of ys �
 bundle_same = entries.bundle_same
 
 -- whoever has the tiles for some nodes knows their digests
-pub given_known : (H : List ℕ → List ℕ) (tiles : Tiles) (nodes : List ℕ) → AllByRecursion (λ x. gives (map (λ t. t.0) tiles) x ≡ true) nodes → IsKnown (digest_by H tiles) nodes
+pub given_known : (H : List ℕ → List ℕ) (tiles : Tiles) (nodes : List ℕ)
+    → AllByRecursion (λ x. gives (map (λ t. t.0) tiles) x ≡ true) nodes → IsKnown (digest_by H tiles) nodes
 given_known = fetching.all_known
 
 -- a wider tile in a tile's place gives what that one gives
-pub wider_gives : (t wide : TileAt) (x : ℕ) → wide.level ≡ t.level → wide.number ≡ t.number → t.width ≤ wide.width → has_below t x ≡ true → has_below wide x ≡ true
+pub wider_gives : (t wide : TileAt) (x : ℕ) → wide.level ≡ t.level → wide.number ≡ t.number → t.width ≤ wide.width
+    → has_below t x ≡ true → has_below wide x ≡ true
 wider_gives = fetching.wider_gives
 
 -- tiles of which one covers a tile give what that one gives
-pub covered_gives : (tiles : Tiles) (t : TileAt) (x : ℕ) → covered_by tiles t ≡ true → has_below t x ≡ true → gives (map (λ (s : TileAt × List (List ℕ)). s.0) tiles) x ≡ true
+pub covered_gives : (tiles : Tiles) (t : TileAt) (x : ℕ) → covered_by tiles t ≡ true → has_below t x ≡ true
+    → gives (map (λ (s : TileAt × List (List ℕ)). s.0) tiles) x ≡ true
 covered_gives = fetching.covered_gives
 
 -- a tile of level 0 that is as wide as an entry's place needs gives the entry's leaf
-pub leaf_given : (t : TileAt) (index : ℕ) → t.level ≡ 0 → t.number ≡ index / 256 → index % 256 + 1 ≤ t.width → has_below t (2 * index) ≡ true
+pub leaf_given : (t : TileAt) (index : ℕ) → t.level ≡ 0 → t.number ≡ index / 256 → index % 256 + 1 ≤ t.width
+    → has_below t (2 * index) ≡ true
 leaf_given = fetching.leaf_given
 
 -- a digest that a log's own tiles give is the node's
-pub digest_by_own : (H : List ℕ → List ℕ) (ds : List (List ℕ)) (tiles : Tiles) (x : ℕ) (d : List ℕ) → AllByRecursion (λ t. IsTileBy (own_digest H ds) t.0 t.1) tiles → digest_by H tiles x ≡ Some d → own_digest H ds x ≡ Some d
+pub digest_by_own : (H : List ℕ → List ℕ) (ds : List (List ℕ)) (tiles : Tiles) (x : ℕ) (d : List ℕ)
+    → AllByRecursion (λ t. IsTileBy (own_digest H ds) t.0 t.1) tiles → digest_by H tiles x ≡ Some d
+    → own_digest H ds x ≡ Some d
 digest_by_own = own.digest_by_own
 
 -- a tile of a length up to 2 ^ 63 is of one of the eight levels

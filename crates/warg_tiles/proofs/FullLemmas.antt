@@ -27,47 +27,61 @@ none_alone : (R : TileAt → TileAt → Type 0) → AllPairs R []
 none_alone R i j d order inside = absurd (omega arith)
 
 -- tiles in an order that is strict are different
-pub once_by : (R : TileAt → TileAt → Type 0) → ((s t : TileAt) → R s t → s ≢ t) → (tiles : List TileAt) → AllPairs R tiles → AllPairs (λ (s t : TileAt). s ≢ t) tiles
+pub once_by : (R : TileAt → TileAt → Type 0) → ((s t : TileAt) → R s t → s ≢ t) → (tiles : List TileAt)
+    → AllPairs R tiles → AllPairs (λ (s t : TileAt). s ≢ t) tiles
 once_by R strict tiles all i j d order inside = strict _ _ (all i j d order inside)
 
 -- the tiles that an entry completes, by where they end
-completed_only : (k level count : ℕ) (t : TileAt) → 0 < count → Contains (completed_from k level count) t → (t.width ≡ 256) × (level ≤ t.level) × (tile_end t ≡ count * 2 ^ (8 * level))
+completed_only : (k level count : ℕ) (t : TileAt) → 0 < count → Contains (completed_from k level count) t
+    → (t.width ≡ 256) × (level ≤ t.level) × (tile_end t ≡ count * 2 ^ (8 * level))
 unfolding completed_from
 completed_only zero level count t some has = absurd (omega (arith, has.1))
-completed_only (suc k) level count t some has = (elim (cases_lt 0 (count % 256)) as (λ _. Contains (completed_from (suc k) level count) t → (t.width ≡ 256) × (level ≤ t.level) × (tile_end t ≡ count * 2 ^ (8 * level))) [
-  | inl rest ↦ rw (ne_eqb (count % 256) 0 (λ none. omega arith)) (λ has. absurd (omega (arith, has.1)))
-  | inr none ↦
-      let full : count % 256 ≡ 0 = omega arith in
-      let whole : count ≡ count / 256 * 256 = omega arith in
-      let up : count / 256 * 2 ^ (8 * (level + 1)) ≡ count * 2 ^ (8 * level) = omega (arith, ap (λ p. count / 256 * p) (pow_up level), ap (λ n. n * 2 ^ (8 * level)) whole) in
-      rw (eq-eqb (count % 256) 0 full) (λ has. elim (in_front _ t (completed_from k (level + 1) (count / 256)) has) [
-        | inl here ↦
-            let last : 256 * (count / 256 - 1) + 256 ≡ count = omega arith in
-            subst (λ (s : TileAt). (s.width ≡ 256) × (level ≤ s.level) × (tile_end s ≡ count * 2 ^ (8 * level))) here (refl, omega arith, ap (λ n. n * 2 ^ (8 * level)) last)
-        | inr there ↦ let f = completed_only k (level + 1) (count / 256) t (omega arith) there in (f.0, omega (arith, f.1), f.2 ∙ up)
-      ])
-]) has
+completed_only (suc k) level count t some has =
+    (elim (cases_lt 0 (count % 256)) as (λ _. Contains (completed_from (suc k) level count) t → (t.width ≡ 256)
+    × (level ≤ t.level) × (tile_end t ≡ count * 2 ^ (8 * level))) [
+      | inl rest ↦ rw (ne_eqb (count % 256) 0 (λ none. omega arith)) (λ has. absurd (omega (arith, has.1)))
+      | inr none ↦
+          let full : count % 256 ≡ 0 = omega arith in
+          let whole : count ≡ count / 256 * 256 = omega arith in
+          let up : count / 256 * 2 ^ (8 * (level + 1)) ≡ count * 2 ^ (8 * level) =
+          omega (arith, ap (λ p. count / 256 * p) (pow_up level), ap (λ n. n * 2 ^ (8 * level)) whole) in
+          rw (eq-eqb (count % 256) 0 full) (λ has. elim (in_front _ t (completed_from k (level + 1) (count / 256)) has) [
+            | inl here ↦
+                let last : 256 * (count / 256 - 1) + 256 ≡ count = omega arith in
+                subst (λ (s : TileAt). (s.width ≡ 256) × (level ≤ s.level) × (tile_end s ≡ count * 2 ^ (8 * level))) here
+                (refl, omega arith, ap (λ n. n * 2 ^ (8 * level)) last)
+            | inr there ↦ let f = completed_only k (level + 1) (count / 256) t (omega arith) there in
+                (f.0, omega (arith, f.1), f.2 ∙ up)
+          ])
+    ]) has
 
-in_completed : (k level count : ℕ) (t : TileAt) → t.width ≡ 256 → level ≤ t.level → t.level < level + k → tile_end t ≡ count * 2 ^ (8 * level) → Contains (completed_from k level count) t
+in_completed : (k level count : ℕ) (t : TileAt) → t.width ≡ 256 → level ≤ t.level → t.level < level + k
+    → tile_end t ≡ count * 2 ^ (8 * level) → Contains (completed_from k level count) t
 unfolding completed_from
 in_completed zero level count t full low high ends = absurd (omega arith)
 in_completed (suc k) level count t full low high ends =
     let p = 2 ^ (8 * level) in
     let unit : 0 < p = pow_pos (8 * level) in
-    let wide : (256 * t.number + 256) * 2 ^ (8 * t.level) ≡ count * p = ap (λ w. (256 * t.number + w) * 2 ^ (8 * t.level)) (sym full) ∙ ends in
+    let wide : (256 * t.number + 256) * 2 ^ (8 * t.level) ≡ count * p =
+    ap (λ w. (256 * t.number + w) * 2 ^ (8 * t.level)) (sym full) ∙ ends in
     elim (cases_lt level t.level) [
       | inr same ↦
           let here : t.level ≡ level = omega arith in
-          let last : 256 * t.number + 256 ≡ count = eq_of_mul-eq-mul_right p unit _ _ (ap (λ l. (256 * t.number + 256) * 2 ^ (8 * l)) (sym here) ∙ wide) in
-          rw (eq-eqb (count % 256) 0 (omega arith)) (zero, omega arith, sym (same_tile t level (count / 256 - 1) 256 here (omega arith) full))
+          let last : 256 * t.number + 256 ≡ count = eq_of_mul-eq-mul_right p unit _ _
+          (ap (λ l. (256 * t.number + 256) * 2 ^ (8 * l)) (sym here) ∙ wide) in
+          rw (eq-eqb (count % 256) 0 (omega arith))
+          (zero, omega arith, sym (same_tile t level (count / 256 - 1) 256 here (omega arith) full))
       | inl above ↦
           let q = 2 ^ (8 * (t.level - (level + 1))) in
           let parts : 8 * t.level ≡ 8 * (t.level - (level + 1)) + 8 * (level + 1) = omega arith in
-          let size : 2 ^ (8 * t.level) ≡ q * (256 * p) = ap (λ e. 2 ^ e) parts ∙ pow-add 2 (8 * (t.level - (level + 1))) (8 * (level + 1)) ∙ ap (λ u. q * u) (pow_up level) in
-          let product : 256 * ((256 * t.number + 256) * q) * p ≡ count * p = omega (arith, ap (λ u. (256 * t.number + 256) * u) size, wide) in
+          let size : 2 ^ (8 * t.level) ≡ q * (256 * p) = ap (λ e. 2 ^ e) parts ∙ pow-add 2 (8 * (t.level - (level + 1)))
+          (8 * (level + 1)) ∙ ap (λ u. q * u) (pow_up level) in
+          let product : 256 * ((256 * t.number + 256) * q) * p ≡ count * p =
+          omega (arith, ap (λ u. (256 * t.number + 256) * u) size, wide) in
           let whole : 256 * ((256 * t.number + 256) * q) ≡ count = eq_of_mul-eq-mul_right p unit _ _ product in
           let none : count % 256 ≡ 0 = omega arith in
-          let up : count * p ≡ count / 256 * 2 ^ (8 * (level + 1)) = let w : count ≡ count / 256 * 256 = omega arith in omega (arith, ap (λ u. count / 256 * u) (pow_up level), ap (λ n. n * p) w) in
+          let up : count * p ≡ count / 256 * 2 ^ (8 * (level + 1)) = let w : count ≡ count / 256 * 256 = omega arith in
+          omega (arith, ap (λ u. count / 256 * u) (pow_up level), ap (λ n. n * p) w) in
           let there = in_completed k (level + 1) (count / 256) t full (omega arith) (omega arith) (ends ∙ up) in
           rw (eq-eqb (count % 256) 0 none) (suc there.0, omega (arith, there.1), there.2)
     ]
@@ -75,55 +89,68 @@ in_completed (suc k) level count t full low high ends =
 completed_order : (k level count : ℕ) → 0 < count → AllPairs IsFilledBefore (completed_from k level count)
 unfolding completed_from
 completed_order zero level count some = none_alone IsFilledBefore
-completed_order (suc k) level count some = elim (cases_lt 0 (count % 256)) as (λ _. AllPairs IsFilledBefore (completed_from (suc k) level count)) [
-  | inl rest ↦ rw (ne_eqb (count % 256) 0 (λ none. omega arith)) (none_alone IsFilledBefore)
-  | inr none ↦
-      let full : count % 256 ≡ 0 = omega arith in
-      let first : TileAt = record { level = level; number = count / 256 - 1; width = 256 } in
-      let last : 256 * (count / 256 - 1) + 256 ≡ count = omega arith in
-      let ends : tile_end first ≡ count * 2 ^ (8 * level) = ap (λ n. n * 2 ^ (8 * level)) last in
-      let whole : count ≡ count / 256 * 256 = omega arith in
-      let up : count / 256 * 2 ^ (8 * (level + 1)) ≡ count * 2 ^ (8 * level) = omega (arith, ap (λ p. count / 256 * p) (pow_up level), ap (λ n. n * 2 ^ (8 * level)) whole) in
-      rw (eq-eqb (count % 256) 0 full) (all_pairs_append IsFilledBefore (first ∷ []) (completed_from k (level + 1) (count / 256)) (one_alone IsFilledBefore first) (completed_order k (level + 1) (count / 256) (omega arith))
-      (λ s t here there. elim (in_front first s [] here) [
-        | inl is ↦ let f = completed_only k (level + 1) (count / 256) t (omega arith) there in
-            subst (λ (s : TileAt). IsFilledBefore s t) is (inr (ends ∙ sym up ∙ sym f.2, omega (arith, f.1)))
-        | inr none ↦ absurd (omega (arith, none.1))
-      ]))
-]
+completed_order (suc k) level count some = elim (cases_lt 0 (count % 256)) as
+    (λ _. AllPairs IsFilledBefore (completed_from (suc k) level count)) [
+      | inl rest ↦ rw (ne_eqb (count % 256) 0 (λ none. omega arith)) (none_alone IsFilledBefore)
+      | inr none ↦
+          let full : count % 256 ≡ 0 = omega arith in
+          let first : TileAt = record { level = level; number = count / 256 - 1; width = 256 } in
+          let last : 256 * (count / 256 - 1) + 256 ≡ count = omega arith in
+          let ends : tile_end first ≡ count * 2 ^ (8 * level) = ap (λ n. n * 2 ^ (8 * level)) last in
+          let whole : count ≡ count / 256 * 256 = omega arith in
+          let up : count / 256 * 2 ^ (8 * (level + 1)) ≡ count * 2 ^ (8 * level) =
+          omega (arith, ap (λ p. count / 256 * p) (pow_up level), ap (λ n. n * 2 ^ (8 * level)) whole) in
+          rw (eq-eqb (count % 256) 0 full)
+          (all_pairs_append IsFilledBefore (first ∷ []) (completed_from k (level + 1) (count / 256))
+          (one_alone IsFilledBefore first) (completed_order k (level + 1) (count / 256) (omega arith))
+          (λ s t here there. elim (in_front first s [] here) [
+            | inl is ↦ let f = completed_only k (level + 1) (count / 256) t (omega arith) there in
+                subst (λ (s : TileAt). IsFilledBefore s t) is (inr (ends ∙ sym up ∙ sym f.2, omega (arith, f.1)))
+            | inr none ↦ absurd (omega (arith, none.1))
+          ]))
+    ]
 
 -- those between two lengths
 at_length : (n : ℕ) → n * 2 ^ (8 * 0) ≡ n
 at_length n = omega arith
 
 full_none : (old : ℕ) → full_between old (old + 0) ≡ []
-full_none old = let nothing : old + 0 - old ≡ 0 = omega arith in ap (λ k. flat_map completed_at (range_with_len (old + 1) k)) nothing
+full_none old = let nothing : old + 0 - old ≡ 0 = omega arith in
+    ap (λ k. flat_map completed_at (range_with_len (old + 1) k)) nothing
 
 full_next : (old d : ℕ) → full_between old (old + suc d) ≡ full_between old (old + d) ++ completed_at (old + d + 1)
-full_next old d = let next : old + suc d ≡ old + d + 1 = omega arith in ap (full_between old) next ∙ full_more old (old + d) (omega arith)
+full_next old d = let next : old + suc d ≡ old + d + 1 = omega arith in ap (full_between old) next
+    ∙ full_more old (old + d) (omega arith)
 
-full_only : (d old : ℕ) (t : TileAt) → Contains (full_between old (old + d)) t → (t.width ≡ 256) × (old < tile_end t) × (tile_end t ≤ old + d)
+full_only : (d old : ℕ) (t : TileAt) → Contains (full_between old (old + d)) t → (t.width ≡ 256) × (old < tile_end t)
+    × (tile_end t ≤ old + d)
 full_only zero old t has = let none = subst (λ l. Contains l t) (full_none old) has in absurd (omega (arith, none.1))
-full_only (suc d) old t has = elim (Contains-append_cases (full_between old (old + d)) (completed_at (old + d + 1)) t (subst (λ l. Contains l t) (full_next old d) has)) [
-  | inl before ↦ let f = full_only d old t before in (f.0, f.1, omega (arith, f.2))
-  | inr now ↦ let f = completed_only 8 0 (old + d + 1) t (omega arith) now in let ends = f.2 ∙ at_length (old + d + 1) in (f.0, omega arith, omega arith)
-]
+full_only (suc d) old t has = elim (Contains-append_cases (full_between old (old + d)) (completed_at (old + d + 1)) t
+    (subst (λ l. Contains l t) (full_next old d) has)) [
+      | inl before ↦ let f = full_only d old t before in (f.0, f.1, omega (arith, f.2))
+      | inr now ↦ let f = completed_only 8 0 (old + d + 1) t (omega arith) now in let ends = f.2
+          ∙ at_length (old + d + 1) in (f.0, omega arith, omega arith)
+    ]
 
-in_full : (d old : ℕ) (t : TileAt) → t.width ≡ 256 → t.level < 8 → old < tile_end t → tile_end t ≤ old + d → Contains (full_between old (old + d)) t
+in_full : (d old : ℕ) (t : TileAt) → t.width ≡ 256 → t.level < 8 → old < tile_end t → tile_end t ≤ old + d
+    → Contains (full_between old (old + d)) t
 in_full zero old t full low from to = absurd (omega arith)
 in_full (suc d) old t full low from to =
     subst (λ l. Contains l t) (sym (full_next old d))
     (elim (cases_lt (tile_end t) (old + d + 1)) [
-      | inl before ↦ Contains-append_left (full_between old (old + d)) (completed_at (old + d + 1)) t (in_full d old t full low from (omega arith))
+      | inl before ↦ Contains-append_left (full_between old (old + d)) (completed_at (old + d + 1)) t
+          (in_full d old t full low from (omega arith))
       | inr now ↦ let ends : tile_end t ≡ old + d + 1 = omega arith in
-          Contains-append_right (full_between old (old + d)) (completed_at (old + d + 1)) t (in_completed 8 0 (old + d + 1) t full (omega arith) (omega arith) (ends ∙ sym (at_length (old + d + 1))))
+          Contains-append_right (full_between old (old + d)) (completed_at (old + d + 1)) t
+          (in_completed 8 0 (old + d + 1) t full (omega arith) (omega arith) (ends ∙ sym (at_length (old + d + 1))))
     ])
 
 full_order : (d old : ℕ) → AllPairs IsFilledBefore (full_between old (old + d))
 full_order zero old = subst (AllPairs IsFilledBefore) (sym (full_none old)) (none_alone IsFilledBefore)
 full_order (suc d) old =
     subst (AllPairs IsFilledBefore) (sym (full_next old d))
-    (all_pairs_append IsFilledBefore (full_between old (old + d)) (completed_at (old + d + 1)) (full_order d old) (completed_order 8 0 (old + d + 1) (omega arith))
+    (all_pairs_append IsFilledBefore (full_between old (old + d)) (completed_at (old + d + 1)) (full_order d old)
+    (completed_order 8 0 (old + d + 1) (omega arith))
     (λ s t here there.
     let f = full_only d old s here in
     let g = completed_only 8 0 (old + d + 1) t (omega arith) there in
@@ -160,8 +187,13 @@ full_later old new order fits =
             (f.0, there_from new t f.0 (omega (arith, f.2)), λ older. omega (arith, f.1, end_there old t f.0 older)),
         λ is.
             let to = end_there new t is.0 is.1 in
-            let from : old < tile_end t = elim (cases_lt old (tile_end t)) [ inl more ↦ more | inr less ↦ absurd (is.2 (there_from old t is.0 less)) ] in
-            subst (λ n. Contains (full_between old n) t) whole (in_full (new - old) old t is.0 (low_level new t fits is.1) from (omega arith)),
+            let from : old < tile_end t = elim (cases_lt old (tile_end t)) [
+              | inl more ↦ more
+              | inr less ↦ absurd
+                  (is.2 (there_from old t is.0 less))
+            ] in
+            subst (λ n. Contains (full_between old n) t) whole
+            (in_full (new - old) old t is.0 (low_level new t fits is.1) from (omega arith)),
       );
       once = once_by IsFilledBefore differ_by_order (full_between old new) pairs;
       order = pairs;
@@ -186,50 +218,76 @@ all_full old new fits =
     elim (cases_lt new old) [ inl before ↦ full_before old new before | inr later ↦ full_later old new later fits ]
 
 -- the partial tiles from a level on
-partial_only : (k level n : ℕ) (t : TileAt) → level + k ≡ 8 → Contains (partial_from n level) t → (level ≤ t.level) × (IsTileOf n t × (t.width < 256))
-partial_only zero level n t last has = let eight : level ≡ 8 = omega arith in let none = subst (λ l. Contains (partial_from n l) t) eight has in absurd (omega (arith, none.1))
+partial_only : (k level n : ℕ) (t : TileAt) → level + k ≡ 8 → Contains (partial_from n level) t → (level ≤ t.level)
+    × (IsTileOf n t × (t.width < 256))
+partial_only zero level n t last has = let eight : level ≡ 8 = omega arith in
+    let none = subst (λ l. Contains (partial_from n l) t) eight has in absurd (omega (arith, none.1))
 partial_only (suc k) level n t last has = elim (cases_lt 0 (n / 2 ^ (8 * level) % 256)) [
-  | inl some ↦ elim (in_front (last_tile n level) t (partial_from n (level + 1)) (subst (λ l. Contains l t) (from_some n level (omega arith) some) has)) [
-    | inl here ↦ subst (λ (s : TileAt). (level ≤ s.level) × (IsTileOf n s × (s.width < 256))) here (omega arith, (record { some = some; width = omega arith }, omega arith))
-    | inr there ↦ let f = partial_only k (level + 1) n t (omega arith) there in (omega (arith, f.0), f.1)
-  ]
-  | inr none ↦ let f = partial_only k (level + 1) n t (omega arith) (subst (λ l. Contains l t) (from_none n level (omega arith) (omega arith)) has) in (omega (arith, f.0), f.1)
+  | inl some ↦ elim (in_front (last_tile n level) t (partial_from n (level + 1))
+      (subst (λ l. Contains l t) (from_some n level (omega arith) some) has)) [
+        | inl here ↦ subst (λ (s : TileAt). (level ≤ s.level) × (IsTileOf n s × (s.width < 256))) here
+            (omega arith, (record { some = some; width = omega arith }, omega arith))
+        | inr there ↦ let f = partial_only k (level + 1) n t (omega arith) there in (omega (arith, f.0), f.1)
+      ]
+  | inr none ↦ let f = partial_only k (level + 1) n t (omega arith)
+      (subst (λ l. Contains l t) (from_none n level (omega arith) (omega arith)) has) in (omega (arith, f.0), f.1)
 ]
 
-in_partial : (k level n : ℕ) (t : TileAt) → level + k ≡ 8 → level ≤ t.level → t.level < 8 → IsTileOf n t → t.width < 256 → Contains (partial_from n level) t
+in_partial : (k level n : ℕ) (t : TileAt) → level + k ≡ 8 → level ≤ t.level → t.level < 8 → IsTileOf n t → t.width < 256
+    → Contains (partial_from n level) t
 in_partial zero level n t last from to is few = absurd (omega arith)
 in_partial (suc k) level n t last from to is few = elim (cases_lt level t.level) [
   | inl above ↦
       let there = in_partial k (level + 1) n t (omega arith) (omega arith) to is few in
       elim (cases_lt 0 (n / 2 ^ (8 * level) % 256)) [
-        | inl some ↦ subst (λ l. Contains l t) (sym (from_some n level (omega arith) some)) (suc there.0, omega (arith, there.1), there.2)
+        | inl some ↦ subst (λ l. Contains l t) (sym (from_some n level (omega arith) some))
+            (suc there.0, omega (arith, there.1), there.2)
         | inr none ↦ subst (λ l. Contains l t) (sym (from_none n level (omega arith) (omega arith))) there
       ]
   | inr here ↦
       let same : t.level ≡ level = omega arith in
-      let width : t.width ≡ min (n / 2 ^ (8 * level) - 256 * t.number) 256 = is.width ∙ ap (λ l. min (n / 2 ^ (8 * l) - 256 * t.number) 256) same in
+      let width : t.width ≡ min (n / 2 ^ (8 * level) - 256 * t.number) 256 = is.width
+      ∙ ap (λ l. min (n / 2 ^ (8 * l) - 256 * t.number) 256) same in
       let some = is.some in
-      subst (λ l. Contains l t) (sym (from_some n level (omega arith) (omega arith))) (zero, omega arith, sym (same_tile t level (n / 2 ^ (8 * level) / 256) (n / 2 ^ (8 * level) % 256) same (omega arith) (omega arith)))
+      subst (λ l. Contains l t) (sym (from_some n level (omega arith) (omega arith))) (
+        zero,
+        omega arith,
+        sym (same_tile t level (n / 2 ^ (8 * level) / 256) (n / 2 ^ (8 * level) % 256) same
+            (omega arith) (omega arith)),
+      )
 ]
 
 partial_order : (k level n : ℕ) → level + k ≡ 8 → AllPairs (λ (s t : TileAt). s.level < t.level) (partial_from n level)
-partial_order zero level n last = let eight : level ≡ 8 = omega arith in subst (λ l. AllPairs (λ (s t : TileAt). s.level < t.level) (partial_from n l)) (sym eight) (none_alone (λ (s t : TileAt). s.level < t.level))
+partial_order zero level n last = let eight : level ≡ 8 = omega arith in
+    subst (λ l. AllPairs (λ (s t : TileAt). s.level < t.level) (partial_from n l)) (sym eight)
+    (none_alone (λ (s t : TileAt). s.level < t.level))
 partial_order (suc k) level n last =
     let Below : TileAt → TileAt → Type 0 = λ s t. s.level < t.level in
     elim (cases_lt 0 (n / 2 ^ (8 * level) % 256)) [
       | inl some ↦
           subst (AllPairs Below) (sym (from_some n level (omega arith) some))
-          (all_pairs_append Below (last_tile n level ∷ []) (partial_from n (level + 1)) (one_alone Below (last_tile n level)) (partial_order k (level + 1) n (omega arith))
+          (all_pairs_append Below (last_tile n level ∷ []) (partial_from n (level + 1))
+          (one_alone Below (last_tile n level)) (partial_order k (level + 1) n (omega arith))
           (λ s t here there. elim (in_front (last_tile n level) s [] here) [
-            | inl is ↦ omega (arith, (partial_only k (level + 1) n t (omega arith) there).0, ap (λ (x : TileAt). x.level) is)
+            | inl is ↦ omega (
+              arith,
+              (partial_only k (level + 1) n t (omega arith) there).0,
+              ap (λ (x : TileAt). x.level) is,
+            )
             | inr none ↦ absurd (omega (arith, none.1))
           ]))
-      | inr none ↦ subst (AllPairs Below) (sym (from_none n level (omega arith) (omega arith))) (partial_order k (level + 1) n (omega arith))
+      | inr none ↦ subst (AllPairs Below) (sym (from_none n level (omega arith) (omega arith)))
+          (partial_order k (level + 1) n (omega arith))
     ]
 
 pub all_partial : (n : ℕ) → n ≤ 2 ^ 63 → ArePartialOf n (partial_tiles n)
 all_partial n fits = record {
-  exactly = λ t. (λ has. (partial_only 8 0 n t refl has).1, λ is. in_partial 8 0 n t refl (omega arith) (low_level n t fits is.0) is.0 is.1);
-  once = once_by (λ (s t : TileAt). s.level < t.level) (λ s t less same. omega (arith, ap (λ (x : TileAt). x.level) same)) (partial_tiles n) (partial_order 8 0 n refl);
+  exactly = λ t. (
+    λ has. (partial_only 8 0 n t refl has).1,
+    λ is. in_partial 8 0 n t refl (omega arith)
+        (low_level n t fits is.0) is.0 is.1,
+  );
+  once = once_by (λ (s t : TileAt). s.level < t.level)
+      (λ s t less same. omega (arith, ap (λ (x : TileAt). x.level) same)) (partial_tiles n) (partial_order 8 0 n refl);
   order = partial_order 8 0 n refl;
 }

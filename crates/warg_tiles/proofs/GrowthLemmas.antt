@@ -13,7 +13,9 @@ use Rattle.warg_tiles.specs.Tiles.{TileAt}
 use Rattle.warg_tiles.specs.Between.{IsTileOf, filled, level_tiles, levels_from, tiles_between, AreNew}
 
 -- a level has no tiles where no node is new, and else those of a range of numbers
-by_level : (P : List TileAt → Type 0) (level old new : ℕ) → old ≤ new → (old ≡ new → P []) → (old < new → P (map (filled level new) (range_with_len (old / 256) ((new + 255) / 256 - old / 256)))) → P (level_tiles level old new)
+by_level : (P : List TileAt → Type 0) (level old new : ℕ) → old ≤ new → (old ≡ new → P [])
+    → (old < new → P (map (filled level new) (range_with_len (old / 256) ((new + 255) / 256 - old / 256))))
+    → P (level_tiles level old new)
 by_level P level old new order none some = elim (cases_lt old new) [
   | inl more ↦ rw (ne_eqb old new (λ e. omega arith)) (some more)
   | inr less ↦ let same : old ≡ new = omega arith in rw (eq-eqb old new same) (none same)
@@ -21,7 +23,8 @@ by_level P level old new order none some = elim (cases_lt old new) [
 
 -- a longer log has no fewer nodes of a level
 higher : (old new level : ℕ) → old ≤ new → old / 2 ^ (8 * level) ≤ new / 2 ^ (8 * level)
-higher old new level order = le-div (old / 2 ^ (8 * level)) new (2 ^ (8 * level)) (pow_pos (8 * level)) (omega (arith, div-mul-le_self old (2 ^ (8 * level))))
+higher old new level order = le-div (old / 2 ^ (8 * level)) new (2 ^ (8 * level)) (pow_pos (8 * level))
+    (omega (arith, div-mul-le_self old (2 ^ (8 * level))))
 
 -- a tile of a level's list is new
 pub level_only : (level old new : ℕ) (t : TileAt) → old ≤ new
@@ -30,59 +33,80 @@ pub level_only : (level old new : ℕ) (t : TileAt) → old ≤ new
 level_only level old new t order =
     let a = old / 2 ^ (8 * level) in
     let b = new / 2 ^ (8 * level) in
-    by_level (λ l. Contains l t → (t.level ≡ level) × (IsTileOf new t × (IsTileOf old t → ⊥))) level a b (higher old new level order) (λ same has. absurd (omega (arith, has.1)))
+    by_level (λ l. Contains l t → (t.level ≡ level) × (IsTileOf new t × (IsTileOf old t → ⊥))) level a b
+    (higher old new level order) (λ same has. absurd (omega (arith, has.1)))
     (λ more has.
-    let inside : has.0 < (b + 255) / 256 - a / 256 = omega (arith, has.1, length-map-range_with_len (filled level b) (a / 256) ((b + 255) / 256 - a / 256)) in
-    subst (λ (s : TileAt). (s.level ≡ level) × (IsTileOf new s × (IsTileOf old s → ⊥))) (sym (get_or-map-range_with_len (filled level b) (a / 256) _ has.0 (a / 256 + has.0) t inside refl) ∙ has.2)
+    let inside : has.0 < (b + 255) / 256 - a / 256 =
+    omega (arith, has.1, length-map-range_with_len (filled level b) (a / 256) ((b + 255) / 256 - a / 256)) in
+    subst (λ (s : TileAt). (s.level ≡ level) × (IsTileOf new s × (IsTileOf old s → ⊥)))
+    (sym (get_or-map-range_with_len (filled level b) (a / 256) _ has.0 (a / 256 + has.0) t inside refl) ∙ has.2)
     (refl, (record { some = omega arith; width = refl }, λ older. omega (arith, older.width))))
 
 -- a new tile stands in its level's list
-in_level : (old new : ℕ) (t : TileAt) → old ≤ new → IsTileOf new t → (IsTileOf old t → ⊥) → Contains (level_tiles t.level (old / 2 ^ (8 * t.level)) (new / 2 ^ (8 * t.level))) t
+in_level : (old new : ℕ) (t : TileAt) → old ≤ new → IsTileOf new t → (IsTileOf old t → ⊥)
+    → Contains (level_tiles t.level (old / 2 ^ (8 * t.level)) (new / 2 ^ (8 * t.level))) t
 in_level old new t order is isnt =
     let a = old / 2 ^ (8 * t.level) in
     let b = new / 2 ^ (8 * t.level) in
     let more_nodes = higher old new t.level order in
     let differ : t.width ≢ min (a - 256 * t.number) 256 = λ same. isnt (record { some = is.some; width = same }) in
-    by_level (λ l. Contains l t) t.level a b more_nodes (λ same. absurd (differ (is.width ∙ ap (λ n. min (n - 256 * t.number) 256) (sym same))))
+    by_level (λ l. Contains l t) t.level a b more_nodes
+    (λ same. absurd (differ (is.width ∙ ap (λ n. min (n - 256 * t.number) 256) (sym same))))
     (λ more.
     let from : a / 256 ≤ t.number = omega (arith, is.width, differ) in
     let to : t.number < (b + 255) / 256 = omega (arith, is.some, is.width) in (
       t.number - a / 256,
       omega (arith, length-map-range_with_len (filled t.level b) (a / 256) ((b + 255) / 256 - a / 256)),
-      get_or-map-range_with_len (filled t.level b) (a / 256) _ (t.number - a / 256) t.number t (omega arith) (omega arith) ∙ ap (λ w. record t { width = w }) (sym is.width),
+      get_or-map-range_with_len (filled t.level b) (a / 256) _ (t.number - a / 256) t.number t (omega arith)
+          (omega arith) ∙ ap (λ w. record t { width = w }) (sym is.width),
     ))
 
 -- a tile of the levels' lists is new
-levels_only : (k level old new : ℕ) (t : TileAt) → old ≤ new → Contains (levels_from k level old new) t → (level ≤ t.level) × (IsTileOf new t × (IsTileOf old t → ⊥))
+levels_only : (k level old new : ℕ) (t : TileAt) → old ≤ new → Contains (levels_from k level old new) t
+    → (level ≤ t.level) × (IsTileOf new t × (IsTileOf old t → ⊥))
 unfolding levels_from
 levels_only zero level old new t order has = absurd (omega (arith, has.1))
-levels_only (suc k) level old new t order has = elim (Contains-append_cases (level_tiles level (old / 2 ^ (8 * level)) (new / 2 ^ (8 * level))) (levels_from k (level + 1) old new) t has) [
-  | inl here ↦ let f = level_only level old new t order here in (omega (arith, f.0), f.1)
-  | inr there ↦ let f = levels_only k (level + 1) old new t order there in (omega (arith, f.0), f.1)
-]
+levels_only (suc k) level old new t order has =
+    elim (Contains-append_cases (level_tiles level (old / 2 ^ (8 * level)) (new / 2 ^ (8 * level)))
+    (levels_from k (level + 1) old new) t has) [
+      | inl here ↦ let f = level_only level old new t order here in (omega (arith, f.0), f.1)
+      | inr there ↦ let f = levels_only k (level + 1) old new t order there in (omega (arith, f.0), f.1)
+    ]
 
 -- a new tile stands in the levels' lists
-in_levels : (k level old new : ℕ) (t : TileAt) → old ≤ new → level ≤ t.level → t.level < level + k → IsTileOf new t → (IsTileOf old t → ⊥) → Contains (levels_from k level old new) t
+in_levels : (k level old new : ℕ) (t : TileAt) → old ≤ new → level ≤ t.level → t.level < level + k → IsTileOf new t
+    → (IsTileOf old t → ⊥) → Contains (levels_from k level old new) t
 unfolding levels_from
 in_levels zero level old new t order from to is isnt = absurd (omega arith)
 in_levels (suc k) level old new t order from to is isnt =
     let tiles : ℕ → List TileAt = λ l. level_tiles l (old / 2 ^ (8 * l)) (new / 2 ^ (8 * l)) in
     elim (cases_lt level t.level) [
-      | inl above ↦ Contains-append_right (tiles level) (levels_from k (level + 1) old new) t (in_levels k (level + 1) old new t order (omega arith) (omega arith) is isnt)
-      | inr here ↦ Contains-append_left (tiles level) (levels_from k (level + 1) old new) t (subst (λ l. Contains (tiles l) t) (omega arith) (in_level old new t order is isnt))
+      | inl above ↦ Contains-append_right (tiles level) (levels_from k (level + 1) old new) t
+          (in_levels k (level + 1) old new t order (omega arith) (omega arith) is isnt)
+      | inr here ↦ Contains-append_left (tiles level) (levels_from k (level + 1) old new) t
+          (subst (λ l. Contains (tiles l) t) (omega arith) (in_level old new t order is isnt))
     ]
 
 -- pairs of two lists
-pub all_pairs_append : (R : TileAt → TileAt → Type 0) (xs ys : List TileAt) → AllPairs R xs → AllPairs R ys → ((s t : TileAt) → Contains xs s → Contains ys t → R s t) → AllPairs R (xs ++ ys)
+pub all_pairs_append : (R : TileAt → TileAt → Type 0) (xs ys : List TileAt) → AllPairs R xs → AllPairs R ys
+    → ((s t : TileAt) → Contains xs s → Contains ys t → R s t) → AllPairs R (xs ++ ys)
 all_pairs_append R xs ys left right across i j d order inside =
     let count = length-append xs ys in
-    let low_at : (k : ℕ) → k < length xs → get_or xs k d ≡ get_or (xs ++ ys) k d = λ k low. sym (get_or-append xs ys d k low) in
-    let high_at : (k : ℕ) → length xs ≤ k → get_or ys (k - length xs) d ≡ get_or (xs ++ ys) k d = λ k high. sym (get_or-append_right xs ys (length xs) k d refl high) in
+    let low_at : (k : ℕ) → k < length xs → get_or xs k d ≡ get_or (xs ++ ys) k d =
+    λ k low. sym (get_or-append xs ys d k low) in
+    let high_at : (k : ℕ) → length xs ≤ k → get_or ys (k - length xs) d ≡ get_or (xs ++ ys) k d =
+    λ k high. sym (get_or-append_right xs ys (length xs) k d refl high) in
     elim (cases_lt j (length xs)) [
-      | inl low ↦ subst (λ s. R s (get_or (xs ++ ys) j d)) (low_at i (omega arith)) (subst (R (get_or xs i d)) (low_at j low) (left i j d order low))
+      | inl low ↦ subst (λ s. R s (get_or (xs ++ ys) j d)) (low_at i (omega arith))
+          (subst (R (get_or xs i d)) (low_at j low) (left i j d order low))
       | inr high ↦ elim (cases_lt i (length xs)) [
-        | inl low ↦ subst (λ s. R s (get_or (xs ++ ys) j d)) (low_at i low) (subst (R (get_or xs i d)) (high_at j high) (across (get_or xs i d) (get_or ys (j - length xs) d) (Contains-get_or xs i d low) (Contains-get_or ys (j - length xs) d (omega arith))))
-        | inr both ↦ subst (λ s. R s (get_or (xs ++ ys) j d)) (high_at i both) (subst (R (get_or ys (i - length xs) d)) (high_at j high) (right (i - length xs) (j - length xs) d (omega arith) (omega arith)))
+        | inl low ↦ subst (λ s. R s (get_or (xs ++ ys) j d)) (low_at i low)
+            (subst (R (get_or xs i d)) (high_at j high)
+            (across (get_or xs i d) (get_or ys (j - length xs) d) (Contains-get_or xs i d low)
+            (Contains-get_or ys (j - length xs) d (omega arith))))
+        | inr both ↦ subst (λ s. R s (get_or (xs ++ ys) j d)) (high_at i both)
+            (subst (R (get_or ys (i - length xs) d)) (high_at j high)
+            (right (i - length xs) (j - length xs) d (omega arith) (omega arith)))
       ]
     ]
 
@@ -94,15 +118,24 @@ once_level level old new order =
     let count = length-map-range_with_len (filled level new) a n in
     by_level (AllPairs (λ (s t : TileAt). s ≢ t)) level old new order (λ same i j d order inside. absurd (omega arith))
     (λ more i j d before inside same.
-    let at : (k : ℕ) → k < n → (get_or (map (filled level new) (range_with_len a n)) k d).number ≡ a + k = λ k low. ap (λ (t : TileAt). t.number) (get_or-map-range_with_len (filled level new) a n k (a + k) d low refl) in
+    let at : (k : ℕ) → k < n → (get_or (map (filled level new) (range_with_len a n)) k d).number ≡ a + k =
+    λ k low. ap (λ (t : TileAt). t.number)
+    (get_or-map-range_with_len (filled level new) a n k (a + k) d low refl) in
     omega (arith, at i (omega arith), at j (omega arith), ap (λ (t : TileAt). t.number) same))
 
 once_levels : (k level old new : ℕ) → old ≤ new → AllPairs (λ (s t : TileAt). s ≢ t) (levels_from k level old new)
 unfolding levels_from
 once_levels zero level old new order = λ i j d before inside same. omega arith
 once_levels (suc k) level old new order =
-    all_pairs_append (λ (s t : TileAt). s ≢ t) _ (levels_from k (level + 1) old new) (once_level level (old / 2 ^ (8 * level)) (new / 2 ^ (8 * level)) (higher old new level order)) (once_levels k (level + 1) old new order)
-    (λ s t here there same. omega (arith, (level_only level old new s order here).0, (levels_only k (level + 1) old new t order there).0, ap (λ (x : TileAt). x.level) same))
+    all_pairs_append (λ (s t : TileAt). s ≢ t) _ (levels_from k (level + 1) old new)
+    (once_level level (old / 2 ^ (8 * level)) (new / 2 ^ (8 * level)) (higher old new level order))
+    (once_levels k (level + 1) old new order)
+    (λ s t here there same. omega (
+      arith,
+      (level_only level old new s order here).0,
+      (levels_only k (level + 1) old new t order there).0,
+      ap (λ (x : TileAt). x.level) same,
+    ))
 
 -- a tile of a log stands below level 8
 pub low_level : (n : ℕ) (t : TileAt) → n ≤ 2 ^ 63 → IsTileOf n t → t.level < 8
@@ -116,6 +149,10 @@ low_level n t fits is = elim (cases_lt t.level 8) [
 
 pub all_new : (old new : ℕ) → old ≤ new → new ≤ 2 ^ 63 → AreNew old new (tiles_between old new)
 all_new old new order fits = record {
-  exactly = λ t. (λ has. (levels_only 8 0 old new t order has).1, λ is. in_levels 8 0 old new t order (omega arith) (low_level new t fits is.0) is.0 is.1);
+  exactly = λ t. (
+    λ has. (levels_only 8 0 old new t order has).1,
+    λ is. in_levels 8 0 old new t order (omega arith)
+        (low_level new t fits is.0) is.0 is.1,
+  );
   once = once_levels 8 0 old new order;
 }

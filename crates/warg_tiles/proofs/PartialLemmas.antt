@@ -14,12 +14,16 @@ use Rattle.warg_tiles.proofs.EdgeLemmas.{own_tile, are_append}
 abbrev pub partial_below : ℕ → ℕ → List TileAt
 partial_below n level = filter (λ t. nat_lt 0 t.width) (map (last_tile n) (range_with_len 0 level))
 
-more : (n level : ℕ) → partial_below n (level + 1) ≡ partial_below n level ++ cond (nat_lt 0 (last_tile n level).width) (last_tile n level ∷ []) []
+more : (n level : ℕ) → partial_below n (level + 1) ≡ partial_below n level ++ cond (nat_lt 0 (last_tile n level).width)
+    (last_tile n level ∷ []) []
 more n level = filter_of_map_range_with_len_more (λ t. nat_lt 0 t.width) (last_tile n) 0 level level (omega arith)
 
 -- the partial tiles with those of a level more
-pub partial_more : (H : List ℕ → List ℕ) (ds digests : List (List ℕ)) (n level : ℕ) (old new : Tiles) → length ds ≡ n → digests ≡ tile_digests H ds (last_tile n level)
-    → (n / 2 ^ (8 * level) % 256 ≡ 0 → new ≡ old) → (0 < n / 2 ^ (8 * level) % 256 → new ≡ old ++ (last_tile n level, digests) ∷ []) → AreTilesOf H ds (partial_below n level) old → AreTilesOf H ds (partial_below n (level + 1)) new
+pub partial_more : (H : List ℕ → List ℕ) (ds digests : List (List ℕ)) (n level : ℕ) (old new : Tiles) → length ds ≡ n
+    → digests ≡ tile_digests H ds (last_tile n level)
+    → (n / 2 ^ (8 * level) % 256 ≡ 0 → new ≡ old)
+    → (0 < n / 2 ^ (8 * level) % 256 → new ≡ old ++ (last_tile n level, digests) ∷ [])
+    → AreTilesOf H ds (partial_below n level) old → AreTilesOf H ds (partial_below n (level + 1)) new
 partial_more H ds digests n level old new count is none some are =
     let m = n / 2 ^ (8 * level) in
     let p = 2 ^ (8 * level) in
@@ -28,6 +32,7 @@ partial_more H ds digests n level old new count is none some are =
           let whole : m ≡ 256 * (m / 256) + m % 256 = omega arith in
           let rest : n ≡ m * p + n % p = omega arith in
           let own = own_tile H ds (last_tile n level) (omega (arith, ap (λ k. k * p) whole)) in
-          rw (more n level, lt-ltb 0 (m % 256) wide, some wide, is) (are_append H ds (partial_below n level) _ old _ are own)
+          rw (more n level, lt-ltb 0 (m % 256) wide, some wide, is)
+          (are_append H ds (partial_below n level) _ old _ are own)
       | inr few ↦ rw (more n level, le-ltb 0 (m % 256) few, append-nil (partial_below n level), none (omega arith)) are
     ]

@@ -184,7 +184,8 @@ levels_low (suc k) level old new t order has =
       | inr there ↦ let low = levels_low k (level + 1) old new t order there in omega arith
     ]
 
--- A log of more leaves than tiles of eight levels take, the last of another digest than all have: so many, and one behind.
+-- A log of more leaves than tiles of eight levels take, the last of another digest than all have: so many, and one
+-- behind.
 module _ (before : List (List ℕ)) (count : length before ≡ 2 ^ 64) (sizes : AreHashes before) where
   abbrev pub many : List (List ℕ)
   many = before ++ ones ∷ []

@@ -13,29 +13,35 @@ use Rattle.warg_tiles.specs.Placed.{IsPart, whole, front, rest, range_input, IsR
 use Rattle.warg_tiles.proofs.RootLemmas as roots
 
 -- a root over digests of 32 bytes has 32 bytes
-pub root_size : (H : List ℕ → List ℕ) → HasSize H → (ds : List (List ℕ)) → AreHashes ds → (a n : ℕ) → 0 < n → a + n ≤ length ds → length (root_over H ds a n) ≡ 32
+pub root_size : (H : List ℕ → List ℕ) → HasSize H → (ds : List (List ℕ)) → AreHashes ds → (a n : ℕ) → 0 < n
+    → a + n ≤ length ds → length (root_over H ds a n) ≡ 32
 root_size H gives ds hashes a n some fits = elim (cases_lt 1 n) [
   | inl more ↦ ap length (root_over_parts H ds a n more fits) ∙ gives _
   | inr few ↦
       let one : n ≡ 1 = omega arith in
-      ap (λ k. length (root_over H ds a k)) one ∙ ap length (root_over_one H ds a (omega arith)) ∙ all_at (λ (d : List ℕ). length d ≡ 32) ds a [] hashes (omega arith)
+      ap (λ k. length (root_over H ds a k)) one ∙ ap length (root_over_one H ds a (omega arith))
+      ∙ all_at (λ (d : List ℕ). length d ≡ 32) ds a [] hashes (omega arith)
 ]
 
 -- as many of the leaves as are left
 cut_short : (ys : List (List ℕ)) (a p c : ℕ) → c ≡ min p (length ys - a) → take c (drop a ys) ≡ take p (drop a ys)
 cut_short ys a p c is = elim (cases_lt p (length ys - a)) [
   | inl less ↦ let same : c ≡ p = omega arith in ap (λ n. take n (drop a ys)) same
-  | inr more ↦ take_all c (drop a ys) (omega (arith, length-drop a ys)) ∙ sym (take_all p (drop a ys) (omega (arith, length-drop a ys)))
+  | inr more ↦ take_all c (drop a ys) (omega (arith, length-drop a ys))
+      ∙ sym (take_all p (drop a ys) (omega (arith, length-drop a ys)))
 ]
 
-module _ (H : List ℕ → List ℕ) (digests : GivesHashes H) (xs ys : List (List ℕ)) (row : AreHashes xs) (leaves : AreHashes ys) (m : ℕ) where
+module _ (H : List ℕ → List ℕ) (digests : GivesHashes H) (xs ys : List (List ℕ)) (row : AreHashes xs)
+    (leaves : AreHashes ys) (m : ℕ) where
   -- Each of the digests from a up to an end is the root over its leaves.
   abbrev pub AreRoots : ℕ → ℕ → Type 0
   AreRoots a e = (i : ℕ) → a ≤ i → i < e → slice_index_or xs i [] ≡ root_of H (take (2 ^ m) (drop (i * 2 ^ m) ys))
 
   -- at a range of the recursion
-  at_range : (fuel a n c : ℕ) → n ≤ fuel → 0 < n → IsPart (length xs) a n → a + n ≤ length xs → c ≡ min (n * 2 ^ m) (length ys - a * 2 ^ m) → n * 2 ^ m < c + 2 ^ m
-      → root_over H xs a n ≡ root_over H ys (a * 2 ^ m) c → AreRoots a (a + n) ⊎ SomeCollision H (IsRowPlaced H xs (2 ^ m) ys)
+  at_range : (fuel a n c : ℕ) → n ≤ fuel → 0 < n → IsPart (length xs) a n → a + n ≤ length xs
+      → c ≡ min (n * 2 ^ m) (length ys - a * 2 ^ m) → n * 2 ^ m < c + 2 ^ m
+      → root_over H xs a n ≡ root_over H ys (a * 2 ^ m) c → AreRoots a (a + n)
+      ⊎ SomeCollision H (IsRowPlaced H xs (2 ^ m) ys)
   at_range zero a n c most some part fits is near e = absurd (omega arith)
   at_range (suc fuel) a n c most some part fits is near e = elim (cases_lt 1 n) [
     | inr few ↦
@@ -43,8 +49,10 @@ module _ (H : List ℕ → List ℕ) (digests : GivesHashes H) (xs ys : List (Li
         let short : c ≡ min (2 ^ m) (length ys - a * 2 ^ m) = omega (arith, ap (λ k. k * 2 ^ m) one) in
         inl (λ i low high.
         let here : a ≡ i = omega arith in
-        ap (λ j. slice_index_or xs j []) (sym here) ∙ sym (root_over_one H xs a (omega arith)) ∙ ap (root_over H xs a) (sym one) ∙ e
-        ∙ ap (root_of H) (cut_short ys (a * 2 ^ m) (2 ^ m) c short) ∙ ap (λ j. root_of H (take (2 ^ m) (drop (j * 2 ^ m) ys))) here)
+        ap (λ j. slice_index_or xs j []) (sym here) ∙ sym (root_over_one H xs a (omega arith))
+        ∙ ap (root_over H xs a) (sym one) ∙ e
+        ∙ ap (root_of H) (cut_short ys (a * 2 ^ m) (2 ^ m) c short)
+        ∙ ap (λ j. root_of H (take (2 ^ m) (drop (j * 2 ^ m) ys))) here)
     | inl more ↦
         let p = 2 ^ m in
         let unit : 0 < p = pow_pos m in
@@ -58,41 +66,62 @@ module _ (H : List ℕ → List ℕ) (digests : GivesHashes H) (xs ys : List (Li
         let least : 1 ≤ f = omega (arith, pow_pos h) in
         let some_front = mul-le-mul_left p least in
         let size : 2 ^ (h + m) ≡ f * p = pow-add 2 h m ∙ ap (λ k. k * p) (sym power) in
-        let twice : 2 ^ suc (h + m) ≡ 2 * (f * p) = ap (λ k. 2 ^ k) (let s : suc (h + m) ≡ 1 + (h + m) = omega arith in s) ∙ pow-add 2 1 (h + m) ∙ ap (λ k. 2 * k) size in
+        let twice : 2 ^ suc (h + m) ≡ 2 * (f * p) = ap (λ k. 2 ^ k) (let s : suc (h + m) ≡ 1 + (h + m) = omega arith in
+        s) ∙ pow-add 2 1 (h + m) ∙ ap (λ k. 2 * k) size in
         let at : front_of c ≡ f * p = front_of_is (h + m) c (omega arith) (omega arith) ∙ size in
         let many : 1 < c = omega arith in
         let inside : a * p + c ≤ length ys = omega arith in
         let next : (a + f) * p ≡ a * p + f * p = omega arith in
-        let others : (n - f) * p + f * p ≡ n * p = let whole : n ≡ (n - f) + f = omega arith in omega (arith, ap (λ k. k * p) whole) in
+        let others : (n - f) * p + f * p ≡ n * p = let whole : n ≡ (n - f) + f = omega arith in
+        omega (arith, ap (λ k. k * p) whole) in
         let left = ap (λ k. root_over H ys (a * p) k) at in
-        let right = ap (λ k. root_over H ys (a * p + k) (c - k)) at ∙ ap (λ b. root_over H ys b (c - f * p)) (sym next) in
+        let right = ap (λ k. root_over H ys (a * p + k) (c - k)) at ∙ ap (λ b. root_over H ys b (c - f * p))
+        (sym next) in
         let both = sym (root_over_parts H xs a n more fits) ∙ e ∙ root_over_parts H ys (a * p) c many inside in
         elim (same_or_not (range_input H xs a n) (range_input H ys (a * p) c)) [
           | inr differ ↦ inr (record {
             first = range_input H xs a n;
             second = range_input H ys (a * p) c;
             collide = record { differ = differ; same = both };
-            placed = record { from = a; count = n; part = part; more = more; by_row = refl; by_leaves = ap (range_input H ys (a * p)) is };
+            placed = record {
+              from = a;
+              count = n;
+              part = part;
+              more = more;
+              by_row = refl;
+              by_leaves = ap (range_input H ys (a * p)) is;
+            };
           })
           | inl same ↦
-              let parts = branch_parts _ _ _ _ (root_size H (sizes digests) xs row a f (omega arith) (omega arith) ∙ sym (root_size H (sizes digests) ys leaves (a * p) (front_of c) (omega arith) (omega arith))) same in
-              let first = at_range fuel a f (f * p) (omega arith) (omega arith) (front a n part more) (omega arith) (omega arith) (omega arith) (parts.0 ∙ left) in
-              let second = at_range fuel (a + f) (n - f) (c - f * p) (omega arith) (omega arith) (rest a n part more) (omega arith) (omega arith) (omega arith) (parts.1 ∙ right) in
+              let parts = branch_parts _ _ _ _ (root_size H (sizes digests) xs row a f (omega arith) (omega arith)
+              ∙ sym (root_size H (sizes digests) ys leaves (a * p) (front_of c) (omega arith) (omega arith)))
+              same in
+              let first = at_range fuel a f (f * p) (omega arith) (omega arith) (front a n part more) (omega arith)
+              (omega arith) (omega arith) (parts.0 ∙ left) in
+              let second = at_range fuel (a + f) (n - f) (c - f * p) (omega arith) (omega arith) (rest a n part more)
+              (omega arith) (omega arith) (omega arith) (parts.1 ∙ right) in
               elim first [
                 | inr collision ↦ inr collision
                 | inl front_are ↦ elim second [
                   | inr collision ↦ inr collision
-                  | inl rest_are ↦ inl (λ i low high. elim (cases_lt i (a + f)) [ inl before ↦ front_are i low before | inr behind ↦ rest_are i behind (omega arith) ])
+                  | inl rest_are ↦ inl (λ i low high. elim
+                      (cases_lt i (a + f)) [
+                        | inl before ↦ front_are i low before
+                        | inr behind ↦
+                            rest_are i behind (omega arith)
+                      ])
                 ]
               ]
         ]
   ]
 
   -- the digests are the roots over the leaves below them, or two byte lists collide
-  pub row_or_collides : 0 < length xs → length xs * 2 ^ m < length ys + 2 ^ m → length ys ≤ length xs * 2 ^ m → root_of H xs ≡ root_of H ys
+  pub row_or_collides : 0 < length xs → length xs * 2 ^ m < length ys + 2 ^ m → length ys ≤ length xs * 2 ^ m
+      → root_of H xs ≡ root_of H ys
       → AreRoots 0 (length xs) ⊎ SomeCollision H (IsRowPlaced H xs (2 ^ m) ys)
   row_or_collides some low high e =
       let start : 0 * 2 ^ m ≡ 0 = omega arith in
       let all : 0 + length xs ≡ length xs = omega arith in
       subst (λ k. AreRoots 0 k ⊎ SomeCollision H (IsRowPlaced H xs (2 ^ m) ys)) all
-      (at_range (length xs) 0 (length xs) (length ys) (omega arith) some whole (omega arith) (omega arith) low (roots.whole H xs ∙ e ∙ sym (ap (λ b. root_over H ys b (length ys)) start ∙ roots.whole H ys)))
+      (at_range (length xs) 0 (length xs) (length ys) (omega arith) some whole (omega arith) (omega arith) low
+      (roots.whole H xs ∙ e ∙ sym (ap (λ b. root_over H ys b (length ys)) start ∙ roots.whole H ys)))

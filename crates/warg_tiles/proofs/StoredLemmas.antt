@@ -34,20 +34,25 @@ pub some_hashes : (a n : ℕ) (ds : List (List ℕ)) → AreHashes ds → AreHas
 some_hashes a n ds all =
     let Size : List ℕ → Type 0 = λ d. length d ≡ 32 in
     let behind = (all_parts Size (take a ds) (drop a ds) (subst AreHashes (sym (take-append-drop a ds)) all)).1 in
-    (all_parts Size (take n (drop a ds)) (drop n (drop a ds)) (subst AreHashes (sym (take-append-drop n (drop a ds))) behind)).0
+    (all_parts Size (take n (drop a ds)) (drop n (drop a ds))
+    (subst AreHashes (sym (take-append-drop n (drop a ds))) behind)).0
 
 -- a log's own digest of a tile's node that is there
 pub own_at : (H : List ℕ → List ℕ) (ds : List (List ℕ)) (t : TileAt) (i : ℕ) (d : List ℕ)
     → (256 * t.number + i + 1) * 2 ^ (8 * t.level) ≤ length ds
-    → d ≡ root_over H ds ((256 * t.number + i) * 2 ^ (8 * t.level)) (2 ^ (8 * t.level)) → own_digest H ds (node_in t i) ≡ Some d
+    → d ≡ root_over H ds ((256 * t.number + i) * 2 ^ (8 * t.level)) (2 ^ (8 * t.level)) → own_digest H ds (node_in t i)
+    ≡ Some d
 own_at H ds t i d fits is =
     let at = over_at (8 * t.level) (256 * t.number + i) in
     let place : end_of (node_in t i) ≡ (256 * t.number + i + 1) * 2 ^ (8 * t.level) = rw (at.1, at.0) refl in
-    rw (le-leb (end_of (node_in t i)) (length ds) (omega arith)) (ap Some (node_root H ds (8 * t.level) (256 * t.number + i) ∙ sym is))
+    rw (le-leb (end_of (node_in t i)) (length ds) (omega arith))
+    (ap Some (node_root H ds (8 * t.level) (256 * t.number + i) ∙ sym is))
 
 -- digests of a tile whose root is a log's own digest of a node are the log's own
-pub tile_collides : (H : List ℕ → List ℕ) (ds : List (List ℕ)) (t : TileAt) (digests : List (List ℕ)) (x : ℕ) → GivesHashes H → AreHashes ds → AreHashes digests → length digests ≡ t.width
-    → has_below t x ≡ true → own_digest H ds x ≡ Some (root_below H digests x) → AreOwnBelow H ds t digests x ⊎ SomeCollision H (IsTilePlaced H digests x ds)
+pub tile_collides : (H : List ℕ → List ℕ) (ds : List (List ℕ)) (t : TileAt) (digests : List (List ℕ)) (x : ℕ)
+    → GivesHashes H → AreHashes ds → AreHashes digests → length digests ≡ t.width
+    → has_below t x ≡ true → own_digest H ds x ≡ Some (root_below H digests x) → AreOwnBelow H ds t digests x
+    ⊎ SomeCollision H (IsTilePlaced H digests x ds)
 tile_collides H ds t digests x gives leaf_hashes hashes count has is =
     let below = below_is t x has in
     let leaves = leaves_by_tile x (height_of x / 8) refl in
@@ -58,56 +63,73 @@ tile_collides H ds t digests x gives leaf_hashes hashes count has is =
     let some : 0 < c = pow_pos (height_of x % 8) in
     let one : 0 < unit = pow_pos (8 * (height_of x / 8)) in
     let left : length (drop p digests) ≡ t.width - p = length-drop p digests ∙ ap (λ n. n - p) count in
-    let size : length (digests_below digests x) ≡ c = length-take-le c (drop p digests) (omega (arith, left, below.2)) in
-    let wide : length (leaves_below x ds) ≡ 2 ^ height_of x = length-take-le (2 ^ height_of x) (drop (start_of x) ds) (omega (arith, own.0, length-drop (start_of x) ds)) in
+    let size : length (digests_below digests x) ≡ c = length-take-le c (drop p digests)
+    (omega (arith, left, below.2)) in
+    let wide : length (leaves_below x ds) ≡ 2 ^ height_of x = length-take-le (2 ^ height_of x) (drop (start_of x) ds)
+    (omega (arith, own.0, length-drop (start_of x) ds)) in
     let product : length (digests_below digests x) * unit ≡ 2 ^ height_of x = ap (λ n. n * unit) size ∙ sym leaves.2 in
     let whole : place_in_level x ≡ 256 * t.number + p = omega (arith, below.1) in
     let level : 2 ^ (8 * t.level) ≡ unit = ap (λ l. 2 ^ (8 * l)) below.0 in
-    elim (row_or_collides H gives (digests_below digests x) (leaves_below x ds) (some_hashes p c digests hashes) (some_hashes (start_of x) (2 ^ height_of x) ds leaf_hashes) (8 * (height_of x / 8))
+    elim (row_or_collides H gives (digests_below digests x) (leaves_below x ds) (some_hashes p c digests hashes)
+    (some_hashes (start_of x) (2 ^ height_of x) ds leaf_hashes) (8 * (height_of x / 8))
     (omega arith) (omega arith) (omega arith) own.1) [
       | inr collision ↦ inr collision
       | inl are ↦ inl (λ i low.
           let next : i + 1 ≤ c = omega arith in
           let within = mul-le-mul_left unit next in
           let inside : i * unit + unit ≤ 2 ^ height_of x = omega (arith, leaves.2) in
-          let at : start_of x + i * unit ≡ (256 * t.number + (p + i)) * unit = omega (arith, leaves.0, ap (λ n. n * unit) whole) in
+          let at : start_of x + i * unit ≡ (256 * t.number + (p + i)) * unit =
+          omega (arith, leaves.0, ap (λ n. n * unit) whole) in
           let ends : (256 * t.number + (p + i) + 1) * unit ≤ length ds = omega (arith, at, own.0) in
           own_at H ds t (p + i) (slice_index_or digests (p + i) [])
           (rw level ends)
-          (sym (get_or-take c (drop p digests) i [] low ∙ get_or-drop p digests i []) ∙ are i (omega arith) (omega arith)
-          ∙ ap (root_of H) (take_drop_take (i * unit) unit (2 ^ height_of x) (drop (start_of x) ds) inside) ∙ ap (λ l. root_of H (take unit l)) (drop-drop (i * unit) (start_of x) ds)
-          ∙ ap (λ b. root_over H ds b unit) at ∙ ap (λ u. root_over H ds ((256 * t.number + (p + i)) * u) u) (sym level)))
+          (sym (get_or-take c (drop p digests) i [] low ∙ get_or-drop p digests i [])
+          ∙ are i (omega arith) (omega arith)
+          ∙ ap (root_of H) (take_drop_take (i * unit) unit (2 ^ height_of x) (drop (start_of x) ds) inside)
+          ∙ ap (λ l. root_of H (take unit l)) (drop-drop (i * unit) (start_of x) ds)
+          ∙ ap (λ b. root_over H ds b unit) at ∙ ap (λ u. root_over H ds ((256 * t.number + (p + i)) * u) u)
+          (sym level)))
     ]
 
 -- the first of some tiles, by their places
 first_tile : (tiles : Tiles) (t : TileAt) (ts : List TileAt) → map (λ (t : TileAt × List (List ℕ)). t.0) tiles ≡ t ∷ ts
-    → (stored : List (List ℕ)) × (upper : Tiles) × (tiles ≡ (t, stored) ∷ upper) × (map (λ (t : TileAt × List (List ℕ)). t.0) upper ≡ ts)
+    → (stored : List (List ℕ)) × (upper : Tiles) × (tiles ≡ (t, stored) ∷ upper)
+    × (map (λ (t : TileAt × List (List ℕ)). t.0) upper ≡ ts)
 first_tile [] t ts is = cc
-first_tile ((u, stored) ∷ upper) t ts is = let first : u ≡ t = cc in let others : map (λ (t : TileAt × List (List ℕ)). t.0) upper ≡ ts = cc in (stored, upper, ap (λ w. (w, stored) ∷ upper) first, others)
+first_tile ((u, stored) ∷ upper) t ts is = let first : u ≡ t = cc in
+    let others : map (λ (t : TileAt × List (List ℕ)). t.0) upper ≡ ts = cc in
+    (stored, upper, ap (λ w. (w, stored) ∷ upper) first, others)
 
 no_places : (tiles : Tiles) → map (λ (t : TileAt × List (List ℕ)). t.0) tiles ≡ [] → tiles ≡ []
 no_places [] is = refl
 no_places (t ∷ tiles) is = cc
 
 drop_hashes : (a : ℕ) (ds : List (List ℕ)) → AreHashes ds → AreHashes (drop a ds)
-drop_hashes a ds all = (all_parts (λ (d : List ℕ). length d ≡ 32) (take a ds) (drop a ds) (subst AreHashes (sym (take-append-drop a ds)) all)).1
+drop_hashes a ds all = (all_parts (λ (d : List ℕ). length d ≡ 32) (take a ds) (drop a ds)
+    (subst AreHashes (sym (take-append-drop a ds)) all)).1
 
 -- the root over digests of 32 bytes has 32 bytes
-pub root_len : (H : List ℕ → List ℕ) → HasSize H → (ds : List (List ℕ)) → 0 < length ds → AreHashes ds → length (root_of H ds) ≡ 32
-root_len H gives ds some hashes = ap length (sym (roots.whole H ds)) ∙ root_size H gives ds hashes 0 (length ds) some (omega arith)
+pub root_len : (H : List ℕ → List ℕ) → HasSize H → (ds : List (List ℕ)) → 0 < length ds → AreHashes ds
+    → length (root_of H ds) ≡ 32
+root_len H gives ds some hashes = ap length (sym (roots.whole H ds)) ∙ root_size H gives ds hashes 0 (length ds) some
+    (omega arith)
 
 -- the root by tiles is there where a tile is
-root_there : (H : List ℕ → List ℕ) (behind : Option (List ℕ)) (tiles : Tiles) → 0 < length tiles → (r : List ℕ) × (root_on H behind tiles ≡ Some r)
+root_there : (H : List ℕ → List ℕ) (behind : Option (List ℕ)) (tiles : Tiles) → 0 < length tiles → (r : List ℕ)
+    × (root_on H behind tiles ≡ Some r)
 root_there H behind [] some = absurd (omega arith)
 root_there H behind (t ∷ []) some = (_, refl)
-root_there H behind (t ∷ u ∷ tiles) some = root_there H (Some (root_of H (t.1 ++ option_to_list behind))) (u ∷ tiles) (omega arith)
+root_there H behind (t ∷ u ∷ tiles) some = root_there H (Some (root_of H (t.1 ++ option_to_list behind))) (u ∷ tiles)
+    (omega arith)
 
 -- the root by tiles, and by more behind them
-root_on_append : (H : List ℕ → List ℕ) (behind : Option (List ℕ)) (xs ys : Tiles) → root_on H behind (xs ++ ys) ≡ root_on H (root_on H behind xs) ys
+root_on_append : (H : List ℕ → List ℕ) (behind : Option (List ℕ)) (xs ys : Tiles) → root_on H behind (xs ++ ys)
+    ≡ root_on H (root_on H behind xs) ys
 root_on_append H behind [] ys = refl
 root_on_append H behind (t ∷ xs) ys = root_on_append H (Some (root_of H (t.1 ++ option_to_list behind))) xs ys
 
-module _ (H : List ℕ → List ℕ) (digests : GivesHashes H) (ds : List (List ℕ)) (leaves : AreHashes ds) (n : ℕ) (count : length ds ≡ n) (small : n ≤ 2 ^ 63) where
+module _ (H : List ℕ → List ℕ) (digests : GivesHashes H) (ds : List (List ℕ)) (leaves : AreHashes ds) (n : ℕ)
+    (count : length ds ≡ n) (small : n ≤ 2 ^ 63) where
   -- What is behind a level's nodes has a root of 32 bytes exactly if there is anything.
   record HasBehind (level : ℕ) (behind : Option (List ℕ)) : Type 0 where
     none : n % 2 ^ (8 * level) ≡ 0 → behind ≡ None
@@ -124,7 +146,8 @@ module _ (H : List ℕ → List ℕ) (digests : GivesHashes H) (ds : List (List 
   own_behind level = root_if H (drop (n / 2 ^ (8 * level) * 2 ^ (8 * level)) ds)
 
   -- what is behind a level's nodes, by what is behind those of the next one
-  behind_next : (level : ℕ) → n % 2 ^ (8 * (level + 1)) ≡ n / 2 ^ (8 * level) % 256 * 2 ^ (8 * level) + n % 2 ^ (8 * level)
+  behind_next : (level : ℕ) → n % 2 ^ (8 * (level + 1)) ≡ n / 2 ^ (8 * level) % 256 * 2 ^ (8 * level) + n % 2 ^
+      (8 * level)
   behind_next level =
       let p = 2 ^ (8 * level) in
       let q = 2 ^ (8 * (level + 1)) in
@@ -134,9 +157,12 @@ module _ (H : List ℕ → List ℕ) (digests : GivesHashes H) (ds : List (List 
       omega (arith, tile_start level (n / p))
 
   -- a level with a tile
-  at_tile : (level : ℕ) (stored : List (List ℕ)) (behind : Option (List ℕ)) (lower upper : Tiles) → level < 8 → 0 < n / 2 ^ (8 * level) % 256 → length stored ≡ n / 2 ^ (8 * level) % 256 → AreHashes stored
-      → HasBehind level behind → behind ≡ root_on H None lower → Some (root_of H (stored ++ option_to_list behind)) ≡ own_behind (level + 1)
-      → (IsTileBy (own_digest H ds) (last_tile n level) stored × (behind ≡ own_behind level)) ⊎ SomeCollision H (IsEdgePlaced H (lower ++ (last_tile n level, stored) ∷ upper) ds)
+  at_tile : (level : ℕ) (stored : List (List ℕ)) (behind : Option (List ℕ)) (lower upper : Tiles) → level < 8
+      → 0 < n / 2 ^ (8 * level) % 256 → length stored ≡ n / 2 ^ (8 * level) % 256 → AreHashes stored
+      → HasBehind level behind → behind ≡ root_on H None lower → Some (root_of H (stored ++ option_to_list behind))
+      ≡ own_behind (level + 1)
+      → (IsTileBy (own_digest H ds) (last_tile n level) stored × (behind ≡ own_behind level))
+      ⊎ SomeCollision H (IsEdgePlaced H (lower ++ (last_tile n level, stored) ∷ upper) ds)
   at_tile level stored behind lower upper low some size hashes has made e =
       let p = 2 ^ (8 * level) in
       let m = n / p in
@@ -151,12 +177,17 @@ module _ (H : List ℕ → List ℕ) (digests : GivesHashes H) (ds : List (List 
       let least = mul-le-mul_left p some in
       let start : 256 * (m / 256) * p ≡ a = omega (arith, ap (λ k. m / 256 * k) (pow_up level)) in
       let same : root_of H (stored ++ option_to_list behind) ≡ root_of H ys =
-      let found : Some (root_of H (stored ++ option_to_list behind)) ≡ Some (root_of H ys) = e ∙ ap (λ b. root_if H (drop (b * 2 ^ (8 * (level + 1))) ds)) (sym (level_count n level)) ∙ root_if_some H ys (omega arith) in cc in
-      let tile : ((i : ℕ) → i < w → slice_index_or stored i [] ≡ root_of H (take p (drop (i * p) ys))) → IsTileBy (own_digest H ds) (last_tile n level) stored = λ are.
-      subst (IsTileBy (own_digest H ds) (last_tile n level)) (sym (fill_by_all (λ i. root_of H (leaves_below (node_in (last_tile n level) i) ds)) stored w [] size
+      let found : Some (root_of H (stored ++ option_to_list behind)) ≡ Some (root_of H ys) = e
+      ∙ ap (λ b. root_if H (drop (b * 2 ^ (8 * (level + 1))) ds)) (sym (level_count n level))
+      ∙ root_if_some H ys (omega arith) in cc in
+      let tile : ((i : ℕ) → i < w → slice_index_or stored i [] ≡ root_of H (take p (drop (i * p) ys)))
+      → IsTileBy (own_digest H ds) (last_tile n level) stored = λ are.
+      subst (IsTileBy (own_digest H ds) (last_tile n level))
+      (sym (fill_by_all (λ i. root_of H (leaves_below (node_in (last_tile n level) i) ds)) stored w [] size
       (λ i low. are i low ∙ sym (chunk_at H ds level m i low) ∙ digest_at_place H ds (last_tile n level) i low)))
       ((own_tile H ds (last_tile n level) (omega (arith, ap (λ k. k * p) whole))).digests.0) in
-      let put : (row : List (List ℕ)) → row ≡ stored ++ option_to_list behind → SomeCollision H (IsRowPlaced H row p ys) → SomeCollision H (IsEdgePlaced H (lower ++ (last_tile n level, stored) ∷ upper) ds) = λ row is c. record {
+      let put : (row : List (List ℕ)) → row ≡ stored ++ option_to_list behind → SomeCollision H (IsRowPlaced H row p ys)
+      → SomeCollision H (IsEdgePlaced H (lower ++ (last_tile n level, stored) ∷ upper) ds) = λ row is c. record {
         first = c.first;
         second = c.second;
         collide = c.collide;
@@ -165,92 +196,137 @@ module _ (H : List ℕ → List ℕ) (digests : GivesHashes H) (ds : List (List 
           tile = (last_tile n level, stored);
           upper = upper;
           split = refl;
-          row = subst (λ b. IsRowPlaced H (stored ++ option_to_list b) p (drop (256 * (m / 256) * p) ds) c.first c.second) made
-              (subst (λ l. IsRowPlaced H l p (drop (256 * (m / 256) * p) ds) c.first c.second) is (subst (λ b. IsRowPlaced H row p (drop b ds) c.first c.second) (sym start) c.placed));
+          row = subst (λ b. IsRowPlaced H (stored ++ option_to_list b) p (drop (256 * (m / 256) * p) ds) c.first
+              c.second) made
+              (subst (λ l. IsRowPlaced H l p (drop (256 * (m / 256) * p) ds) c.first c.second) is
+              (subst (λ b. IsRowPlaced H row p (drop b ds) c.first c.second) (sym start) c.placed));
         };
       } in
       elim (cases_lt 0 (n % p)) [
         | inr none ↦
             let nothing = has.none (omega arith) in
-            let all : stored ++ option_to_list behind ≡ stored = ap (λ b. stored ++ option_to_list b) nothing ∙ append-nil stored in
+            let all : stored ++ option_to_list behind ≡ stored = ap (λ b. stored ++ option_to_list b) nothing
+            ∙ append-nil stored in
             let long = ap (λ k. k * p) size in
-            elim (row_or_collides H digests stored ys hashes (drop_hashes a ds leaves) (8 * level) (omega arith) (omega arith) (omega arith) (ap (root_of H) (sym all) ∙ same)) [
+            elim (row_or_collides H digests stored ys hashes (drop_hashes a ds leaves) (8 * level) (omega arith)
+            (omega arith) (omega arith) (ap (root_of H) (sym all) ∙ same)) [
               | inr collision ↦ inr (put _ (sym all) collision)
-              | inl are ↦ inl (tile (λ i low. are i (omega arith) (omega arith)), nothing ∙ sym (root_if_none H (drop (m * p) ds) (omega (arith, length-drop (m * p) ds))))
+              | inl are ↦ inl (
+                tile (λ i low. are i (omega arith) (omega arith)),
+                nothing
+                    ∙ sym (root_if_none H (drop (m * p) ds) (omega (arith, length-drop (m * p) ds))),
+              )
             ]
         | inl more ↦
             let (r, is, wide) = has.some more in
             let all : stored ++ option_to_list behind ≡ stored ++ r ∷ [] = ap (λ b. stored ++ option_to_list b) is in
             let long : length (stored ++ r ∷ []) ≡ w + 1 = omega (arith, length-append stored (r ∷ []), size) in
             let product = ap (λ k. k * p) long in
-            elim (row_or_collides H digests (stored ++ r ∷ []) ys (all_push (λ (d : List ℕ). length d ≡ 32) stored r hashes wide) (drop_hashes a ds leaves) (8 * level) (omega arith) (omega arith) (omega arith) (ap (root_of H) (sym all) ∙ same)) [
+            elim (row_or_collides H digests (stored ++ r ∷ []) ys
+            (all_push (λ (d : List ℕ). length d ≡ 32) stored r hashes wide) (drop_hashes a ds leaves) (8 * level)
+            (omega arith) (omega arith) (omega arith) (ap (root_of H) (sym all) ∙ same)) [
               | inr collision ↦ inr (put _ (sym all) collision)
               | inl are ↦
                   let place : w * p + a ≡ m * p = omega (arith, tile_start level m) in
                   let last : r ≡ root_of H (drop (m * p) ds) =
-                  sym (ap (λ j. slice_index_or (stored ++ r ∷ []) j []) (sym size) ∙ get_or-append_seam stored r [] []) ∙ are w (omega arith) (omega arith)
-                  ∙ ap (root_of H) (take_all p (drop (w * p) ys) (omega (arith, length-drop (w * p) ys))) ∙ ap (root_of H) (drop-drop (w * p) a ds) ∙ ap (λ b. root_of H (drop b ds)) (let o : a + w * p ≡ m * p = omega arith in o) in
+                  sym (ap (λ j. slice_index_or (stored ++ r ∷ []) j []) (sym size) ∙ get_or-append_seam stored r [] [])
+                  ∙ are w (omega arith) (omega arith)
+                  ∙ ap (root_of H) (take_all p (drop (w * p) ys) (omega (arith, length-drop (w * p) ys)))
+                  ∙ ap (root_of H) (drop-drop (w * p) a ds) ∙ ap (λ b. root_of H (drop b ds))
+                  (let o : a + w * p ≡ m * p = omega arith in o) in
                   inl (
-                    tile (λ i low. sym (get_or-append stored (r ∷ []) [] i (omega arith)) ∙ are i (omega arith) (omega arith)),
+                    tile (λ i low. sym (get_or-append stored (r ∷ []) [] i (omega arith))
+                        ∙ are i (omega arith) (omega arith)),
                     is ∙ ap Some last ∙ sym (root_if_some H (drop (m * p) ds) (omega (arith, length-drop (m * p) ds))),
                   )
             ]
       ]
 
   -- from a level on
-  from_level : (k level : ℕ) (lower tiles : Tiles) (behind : Option (List ℕ)) → level + k ≡ 8 → map (λ (t : TileAt × List (List ℕ)). t.0) tiles ≡ partial_from n level
-      → AllByRecursion (λ (t : TileAt × List (List ℕ)). length t.1 ≡ t.0.width) tiles → AllByRecursion (λ (t : TileAt × List (List ℕ)). AreHashes t.1) tiles
+  from_level : (k level : ℕ) (lower tiles : Tiles) (behind : Option (List ℕ)) → level + k ≡ 8
+      → map (λ (t : TileAt × List (List ℕ)). t.0) tiles ≡ partial_from n level
+      → AllByRecursion (λ (t : TileAt × List (List ℕ)). length t.1 ≡ t.0.width) tiles
+      → AllByRecursion (λ (t : TileAt × List (List ℕ)). AreHashes t.1) tiles
       → HasBehind level behind → behind ≡ root_on H None lower → root_on H behind tiles ≡ root_if H ds
-      → (AllByRecursion (λ (t : TileAt × List (List ℕ)). IsTileBy (own_digest H ds) t.0 t.1) tiles × (behind ≡ own_behind level)) ⊎ SomeCollision H (IsEdgePlaced H (lower ++ tiles) ds)
-  from_level zero level lower [] behind last places counts hashes has made e = inl (tt, e ∙ sym (root_end H ds n level small (omega arith)))
+      → (AllByRecursion (λ (t : TileAt × List (List ℕ)). IsTileBy (own_digest H ds) t.0 t.1) tiles
+      × (behind ≡ own_behind level)) ⊎ SomeCollision H (IsEdgePlaced H (lower ++ tiles) ds)
+  from_level zero level lower [] behind last places counts hashes has made e =
+      inl (tt, e ∙ sym (root_end H ds n level small (omega arith)))
   from_level zero level lower (t ∷ tiles) behind last places counts hashes has made e =
-      let eight : level ≡ 8 = omega arith in let none : t.0 ∷ map (λ (t : TileAt × List (List ℕ)). t.0) tiles ≡ [] = places ∙ ap (partial_from n) eight in cc
-  from_level (suc k) level lower tiles behind last places counts hashes has made e = elim (cases_lt 0 (n / 2 ^ (8 * level) % 256)) [
-    | inr few ↦
-        let none : n / 2 ^ (8 * level) % 256 ≡ 0 = omega arith in
-        let next = behind_next level in
-        let nought = ap (λ w. w * 2 ^ (8 * level)) none in
-        let same : n % 2 ^ (8 * (level + 1)) ≡ n % 2 ^ (8 * level) = omega arith in
-        let ends : n / 2 ^ (8 * (level + 1)) * 2 ^ (8 * (level + 1)) ≡ n / 2 ^ (8 * level) * 2 ^ (8 * level) =
-        omega (arith, tile_start level (n / 2 ^ (8 * level)), ap (λ q. q * 2 ^ (8 * (level + 1))) (level_count n level)) in
-        elim (from_level k (level + 1) lower tiles behind (omega arith) (places ∙ from_none n level (omega arith) none) counts hashes
-        (record { none = λ is. has.none (sym same ∙ is); some = λ more. has.some (omega arith) }) made e) [
-          | inl own ↦ inl (own.0, own.1 ∙ ap (λ b. root_if H (drop b ds)) ends)
-          | inr collision ↦ inr collision
-        ]
-    | inl some ↦
-        let p = 2 ^ (8 * level) in
-        let unit : 0 < p = pow_pos (8 * level) in
-        let least = mul-le-mul_left p some in
-        let next = behind_next level in
-        let (stored, upper, split, above) = first_tile tiles (last_tile n level) (partial_from n (level + 1)) (places ∙ from_some n level (omega arith) some) in
-        let P : Tiles → Type 0 = λ tiles. AllByRecursion (λ (t : TileAt × List (List ℕ)). length t.1 ≡ t.0.width) tiles → AllByRecursion (λ (t : TileAt × List (List ℕ)). AreHashes t.1) tiles → root_on H behind tiles ≡ root_if H ds
-        → (AllByRecursion (λ (t : TileAt × List (List ℕ)). IsTileBy (own_digest H ds) t.0 t.1) tiles × (behind ≡ own_behind level)) ⊎ SomeCollision H (IsEdgePlaced H (lower ++ tiles) ds) in
-        let at : P ((last_tile n level, stored) ∷ upper) = λ counts hashes e.
-        let root = root_of H (stored ++ option_to_list behind) in
-        let tile : TileAt × List (List ℕ) = (last_tile n level, stored) in
-        let size : length root ≡ 32 = root_len H (sizes digests) (stored ++ option_to_list behind) (omega (arith, length-append stored (option_to_list behind), counts.0)) (all_append (λ (d : List ℕ). length d ≡ 32) stored (option_to_list behind) hashes.0 (behind_hashes level behind has)) in
-        let above_has : HasBehind (level + 1) (Some root) = record { none = λ is. absurd (omega arith); some = λ more. (root, refl, size) } in
-        elim (from_level k (level + 1) (lower ++ tile ∷ []) upper (Some root) (omega arith) above counts.1 hashes.1 above_has (ap (λ b. Some (root_of H (stored ++ option_to_list b))) made ∙ sym (root_on_append H None lower (tile ∷ []))) e) [
-          | inr collision ↦ inr (subst (λ l. SomeCollision H (IsEdgePlaced H l ds)) (append_assoc lower (tile ∷ []) upper) collision)
-          | inl own ↦ elim (at_tile level stored behind lower upper (omega arith) some counts.0 hashes.0 has made own.1) [
-            | inr collision ↦ inr collision
-            | inl here ↦ inl ((here.0, own.0), here.1)
-          ]
-        ] in
-        subst P (sym split) at counts hashes e
-  ]
+      let eight : level ≡ 8 = omega arith in let none : t.0 ∷ map (λ (t : TileAt × List (List ℕ)). t.0) tiles ≡ [] =
+      places ∙ ap (partial_from n) eight in cc
+  from_level (suc k) level lower tiles behind last places counts hashes has made e =
+      elim (cases_lt 0 (n / 2 ^ (8 * level) % 256)) [
+        | inr few ↦
+            let none : n / 2 ^ (8 * level) % 256 ≡ 0 = omega arith in
+            let next = behind_next level in
+            let nought = ap (λ w. w * 2 ^ (8 * level)) none in
+            let same : n % 2 ^ (8 * (level + 1)) ≡ n % 2 ^ (8 * level) = omega arith in
+            let ends : n / 2 ^ (8 * (level + 1)) * 2 ^ (8 * (level + 1)) ≡ n / 2 ^ (8 * level) * 2 ^ (8 * level) =
+            omega (
+              arith,
+              tile_start level (n / 2 ^ (8 * level)),
+              ap (λ q. q * 2 ^ (8 * (level + 1)))
+                  (level_count n level),
+            ) in
+            elim (from_level k (level + 1) lower tiles behind (omega arith) (places ∙ from_none n level (omega arith) none)
+            counts hashes
+            (record { none = λ is. has.none (sym same ∙ is); some = λ more. has.some (omega arith) }) made e) [
+              | inl own ↦ inl (own.0, own.1 ∙ ap (λ b. root_if H (drop b ds)) ends)
+              | inr collision ↦ inr collision
+            ]
+        | inl some ↦
+            let p = 2 ^ (8 * level) in
+            let unit : 0 < p = pow_pos (8 * level) in
+            let least = mul-le-mul_left p some in
+            let next = behind_next level in
+            let (stored, upper, split, above) = first_tile tiles (last_tile n level) (partial_from n (level + 1))
+            (places ∙ from_some n level (omega arith) some) in
+            let P : Tiles → Type 0 = λ tiles. AllByRecursion (λ (t : TileAt × List (List ℕ)). length t.1 ≡ t.0.width) tiles
+            → AllByRecursion (λ (t : TileAt × List (List ℕ)). AreHashes t.1) tiles → root_on H behind tiles
+            ≡ root_if H ds
+            → (AllByRecursion (λ (t : TileAt × List (List ℕ)). IsTileBy (own_digest H ds) t.0 t.1) tiles
+            × (behind ≡ own_behind level)) ⊎ SomeCollision H (IsEdgePlaced H (lower ++ tiles) ds) in
+            let at : P ((last_tile n level, stored) ∷ upper) = λ counts hashes e.
+            let root = root_of H (stored ++ option_to_list behind) in
+            let tile : TileAt × List (List ℕ) = (last_tile n level, stored) in
+            let size : length root ≡ 32 = root_len H (sizes digests) (stored ++ option_to_list behind)
+            (omega (arith, length-append stored (option_to_list behind), counts.0))
+            (all_append (λ (d : List ℕ). length d ≡ 32) stored (option_to_list behind) hashes.0
+            (behind_hashes level behind has)) in
+            let above_has : HasBehind (level + 1) (Some root) =
+            record { none = λ is. absurd (omega arith); some = λ more. (root, refl, size) } in
+            elim (from_level k (level + 1) (lower ++ tile ∷ []) upper (Some root) (omega arith) above counts.1 hashes.1
+            above_has (ap (λ b. Some (root_of H (stored ++ option_to_list b))) made
+            ∙ sym (root_on_append H None lower (tile ∷ []))) e) [
+              | inr collision ↦ inr (subst (λ l. SomeCollision H (IsEdgePlaced H l ds))
+                  (append_assoc lower (tile ∷ []) upper) collision)
+              | inl own ↦ elim (at_tile level stored behind lower upper (omega arith) some counts.0 hashes.0 has made own.1) [
+                | inr collision ↦ inr collision
+                | inl here ↦ inl ((here.0, own.0), here.1)
+              ]
+            ] in
+            subst P (sym split) at counts hashes e
+      ]
 
   -- a length of some entries has a partial tile
   none_left : (k level : ℕ) → level + k ≡ 8 → partial_from n level ≡ [] → n / 2 ^ (8 * level) ≡ 0
   none_left zero level last none = let eight : level ≡ 8 = omega arith in rw eight (omega arith)
   none_left (suc k) level last none = elim (cases_lt 0 (n / 2 ^ (8 * level) % 256)) [
-    | inl some ↦ let made : last_tile n level ∷ partial_from n (level + 1) ≡ [] = sym (from_some n level (omega arith) some) ∙ none in cc
-    | inr few ↦ omega (arith, none_left k (level + 1) (omega arith) (sym (from_none n level (omega arith) (omega arith)) ∙ none), level_count n level)
+    | inl some ↦ let made : last_tile n level ∷ partial_from n (level + 1) ≡ [] =
+        sym (from_some n level (omega arith) some) ∙ none in cc
+    | inr few ↦ omega (
+      arith,
+      none_left k (level + 1) (omega arith) (sym (from_none n level (omega arith) (omega arith))
+          ∙ none),
+      level_count n level,
+    )
   ]
 
-  some_tiles : (tiles : Tiles) → map (λ (t : TileAt × List (List ℕ)). t.0) tiles ≡ partial_tiles n → 0 < n → 0 < length tiles
-  some_tiles [] places some = let all : n / 2 ^ (8 * 0) ≡ n = omega arith in omega (arith, none_left 8 0 (omega arith) (sym places))
+  some_tiles : (tiles : Tiles) → map (λ (t : TileAt × List (List ℕ)). t.0) tiles ≡ partial_tiles n → 0 < n
+      → 0 < length tiles
+  some_tiles [] places some = let all : n / 2 ^ (8 * 0) ≡ n = omega arith in
+      omega (arith, none_left 8 0 (omega arith) (sym places))
   some_tiles (t ∷ tiles) places some = omega arith
 
   -- partial tiles that lead to the root of a log are the log's own
@@ -266,7 +342,8 @@ module _ (H : List ℕ → List ℕ) (digests : GivesHashes H) (ds : List (List 
         let (r, is) = root_there H None tiles (some_tiles tiles are.places some) in
         let root : r ≡ root_of H ds = ap (λ o. unwrap_or o (H [])) (sym is) ∙ e in
         let found : root_on H None tiles ≡ root_if H ds = is ∙ ap Some root ∙ sym (root_if_some H ds (omega arith)) in
-        elim (from_level 8 0 [] tiles None refl are.places are.counts are.hashes (record { none = λ is. refl; some = λ more. absurd (omega arith) }) refl found) [
+        elim (from_level 8 0 [] tiles None refl are.places are.counts are.hashes
+        (record { none = λ is. refl; some = λ more. absurd (omega arith) }) refl found) [
           | inl own ↦ inl own.0
           | inr collision ↦ inr collision
         ]

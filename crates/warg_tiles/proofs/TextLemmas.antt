@@ -44,11 +44,13 @@ line_once (x ∷ a) r (y ∷ b) s p q is =
 
 -- a number in decimal has no newline
 pub no_newline-decimal : (n : ℕ) → n < 2 ^ 64 → HasNoNewline (decimal n)
-no_newline-decimal n small = recursion_from_All (λ b. b ≢ 10) (decimal n) (All-from_get_or (λ b. b ≢ 10) (decimal n) 0 (λ i low. decimal_without n 10 i small (λ a b. omega arith) low))
+no_newline-decimal n small = recursion_from_All (λ b. b ≢ 10) (decimal n)
+    (All-from_get_or (λ b. b ≢ 10) (decimal n) 0 (λ i low. decimal_without n 10 i small (λ a b. omega arith) low))
 
 symbol : (k : ℕ) → get_or standard.encode_table k 0 ≢ 10
 symbol k is = elim (cases_lt k (length standard.encode_table)) [
-  | inl low ↦ let none : list_any (λ x. x == 10) standard.encode_table ≡ false = refl in true≢false (sym (list_any_at (λ x. x == 10) standard.encode_table k 0 low (rw is refl)) ∙ none)
+  | inl low ↦ let none : list_any (λ x. x == 10) standard.encode_table ≡ false = refl in
+      true≢false (sym (list_any_at (λ x. x == 10) standard.encode_table k 0 low (rw is refl)) ∙ none)
   | inr past ↦ omega (arith, sym is ∙ get_or_past standard.encode_table k 0 past)
 ]
 
@@ -57,13 +59,18 @@ unfolding encode_symbols
 symbols [] = tt
 symbols (a ∷ []) = (symbol (a / 4), (symbol (a % 4 * 16), tt))
 symbols (a ∷ b ∷ []) = (symbol (a / 4), (symbol (a % 4 * 16 + b / 16), (symbol (b % 16 * 4), tt)))
-symbols (a ∷ b ∷ c ∷ rest) = (symbol (a / 4), (symbol (a % 4 * 16 + b / 16), (symbol (b % 16 * 4 + c / 64), (symbol (c % 64), symbols rest))))
+symbols (a ∷ b ∷ c ∷ rest) = (
+  symbol (a / 4),
+  (symbol (a % 4 * 16 + b / 16), (symbol (b % 16 * 4 + c / 64), (symbol (c % 64), symbols rest))),
+)
 
 -- base64 has no newline
 pub no_newline-encode : (m : List ℕ) → HasNoNewline (encode_of standard m)
 no_newline-encode m =
     let padding : List ℕ = replicate (padding_len (length m)) 61 in
-    all_append (λ b. b ≢ 10) (encode_symbols standard.encode_table m) padding (symbols m) (recursion_from_All (λ b. b ≢ 10) padding (All-replicate (λ b. b ≢ 10) (padding_len (length m)) 61 (λ e. omega (arith, e))))
+    all_append (λ b. b ≢ 10) (encode_symbols standard.encode_table m) padding (symbols m)
+    (recursion_from_All (λ b. b ≢ 10) padding
+    (All-replicate (λ b. b ≢ 10) (padding_len (length m)) 61 (λ e. omega (arith, e))))
 
 -- a digest's bytes are bytes
 pub digest_bytes : (root : List ℕ) → IsDigest root → IsBytes root
@@ -75,58 +82,82 @@ digest_bytes root is i = elim (cases_lt i (length root)) [
 -- a length's line is read in one way
 length_once : (n m : ℕ) (r s : List ℕ) → n ≤ 2 ^ 63 → m ≤ 2 ^ 63 → length_line n r ≡ length_line m s → (n ≡ m) × (r ≡ s)
 length_once n m r s p q is =
-    let once = line_once (decimal n) r (decimal m) s (no_newline-decimal n (omega arith)) (no_newline-decimal m (omega arith)) is in
+    let once = line_once (decimal n) r (decimal m) s (no_newline-decimal n (omega arith))
+    (no_newline-decimal m (omega arith)) is in
     (decimal_injective n m (omega arith) (omega arith) once.0, once.1)
 
 -- and so is a root's
 root_once : (a b r s : List ℕ) → IsDigest a → IsDigest b → root_line a r ≡ root_line b s → (a ≡ b) × (r ≡ s)
 root_once a b r s p q is =
-    let once = line_once (encode_of standard a) r (encode_of standard b) s (no_newline-encode a) (no_newline-encode b) is in
-    let read = sym (decode_of-encode_of standard a refl (digest_bytes a p)) ∙ ap (decode_of standard) once.0 ∙ decode_of-encode_of standard b refl (digest_bytes b q) in
+    let once = line_once (encode_of standard a) r (encode_of standard b) s (no_newline-encode a)
+    (no_newline-encode b) is in
+    let read = sym (decode_of-encode_of standard a refl (digest_bytes a p)) ∙ ap (decode_of standard) once.0
+    ∙ decode_of-encode_of standard b refl (digest_bytes b q) in
     (cc read, once.1)
 
 -- bytes that aren't read as text are no text
-pub not_utf8 : {S E : Type 0} (P : S → Type 0) (Q : E → Type 0) (bytes : List ℕ) (r : Result S E) (o : Option S) → MatchResult r P (λ e. (IsUtf8 bytes → ⊥) × Q e) → o ≡ result_ok r → o ≡ None → IsUtf8 bytes → ⊥
+pub not_utf8 : {S E : Type 0} (P : S → Type 0) (Q : E → Type 0) (bytes : List ℕ) (r : Result S E) (o : Option S)
+    → MatchResult r P (λ e. (IsUtf8 bytes → ⊥) × Q e) → o ≡ result_ok r → o ≡ None → IsUtf8 bytes → ⊥
 not_utf8 P Q bytes (Ok s) o cases is none = let e = sym is ∙ none in cc e
 not_utf8 P Q bytes (Err e) o cases is none = cases.0
 
 -- and a text that is read has those bytes
-pub text_read : {E : Type 0} (P : Bor (List ℕ) → Type 0) (Q : E → Type 0) (bytes : List ℕ) (r : Result (Bor (List ℕ)) E) (o : Option (Bor (List ℕ))) (t : Bor (List ℕ)) → MatchResult r (λ s. (s.now ≡ bytes) × P s) Q → o ≡ result_ok r → o ≡ Some t → t.now ≡ bytes
-text_read P Q bytes (Ok s) o t cases is some = let e : s ≡ t = cc (is, some) in ap (λ (b : Bor (List ℕ)). b.now) (sym e) ∙ cases.0
+pub text_read : {E : Type 0} (P : Bor (List ℕ) → Type 0) (Q : E → Type 0) (bytes : List ℕ) (r : Result (Bor (List ℕ)) E)
+    (o : Option (Bor (List ℕ))) (t : Bor (List ℕ)) → MatchResult r (λ s. (s.now ≡ bytes) × P s) Q → o ≡ result_ok r
+    → o ≡ Some t → t.now ≡ bytes
+text_read P Q bytes (Ok s) o t cases is some = let e : s ≡ t = cc (is, some) in ap (λ (b : Bor (List ℕ)). b.now) (sym e)
+    ∙ cases.0
 text_read P Q bytes (Err e) o t cases is some = let f = sym is ∙ some in cc f
 
 -- the number in decimal on a line is in its bytes alone
-pub decimal_line : (bytes text rest more : List ℕ) (n : ℕ) → HasNoNewline text → bytes ≡ line text rest → n ≤ 2 ^ 63 → bytes ≡ length_line n more → text ≡ decimal n
-decimal_line bytes text rest more n none is most other = (line_once text rest (decimal n) more none (no_newline-decimal n (omega arith)) (sym is ∙ other)).0
+pub decimal_line : (bytes text rest more : List ℕ) (n : ℕ) → HasNoNewline text → bytes ≡ line text rest → n ≤ 2 ^ 63
+    → bytes ≡ length_line n more → text ≡ decimal n
+decimal_line bytes text rest more n none is most other =
+    (line_once text rest (decimal n) more none (no_newline-decimal n (omega arith)) (sym is ∙ other)).0
 
 -- the base64 of a digest on a line has 44 bytes, and is decoded
-pub root_line_is : (bytes text rest more root : List ℕ) → HasNoNewline text → bytes ≡ line text rest → IsDigest root → bytes ≡ root_line root more → (length text ≡ 44) × (decode_of standard text ≡ Ok root)
+pub root_line_is : (bytes text rest more root : List ℕ) → HasNoNewline text → bytes ≡ line text rest → IsDigest root
+    → bytes ≡ root_line root more → (length text ≡ 44) × (decode_of standard text ≡ Ok root)
 root_line_is bytes text rest more root none is digest other =
     let same = (line_once text rest (encode_of standard root) more none (no_newline-encode root) (sym is ∙ other)).0 in
     let padding : List ℕ = replicate (padding_len (length root)) 61 in
     let all = length-append (encode_symbols standard.encode_table root) padding in (
-      omega (arith, ap length same, all, length-encode_symbols standard.encode_table root, digest.has_32, length-replicate {A = ℕ} (padding_len (length root)) 61),
+      omega (
+        arith,
+        ap length same,
+        all,
+        length-encode_symbols standard.encode_table root,
+        digest.has_32,
+        length-replicate {A = ℕ} (padding_len (length root)) 61,
+      ),
       ap (decode_of standard) same ∙ decode_of-encode_of standard root refl (digest_bytes root digest),
     )
 
 -- a text that was decoded is the base64 of what it gave
-pub root_read : (bytes text rest decoded root : List ℕ) → IsBytes bytes → bytes ≡ line text rest → decode_of standard text ≡ Ok decoded → root ≡ decoded → bytes ≡ root_line root rest
+pub root_read : (bytes text rest decoded root : List ℕ) → IsBytes bytes → bytes ≡ line text rest
+    → decode_of standard text ≡ Ok decoded → root ≡ decoded → bytes ≡ root_line root rest
 root_read bytes text rest decoded root all front is same =
-    front ∙ ap (λ l. line l rest) (decode_of_strict standard text decoded (refl, refl) (front_bytes text (10 ∷ rest) (subst IsBytes front all)) is ∙ ap (encode_of standard) (sym same))
+    front ∙ ap (λ l. line l rest) (decode_of_strict standard text decoded (refl, refl)
+    (front_bytes text (10 ∷ rest) (subst IsBytes front all)) is ∙ ap (encode_of standard) (sym same))
 
 -- what is read as a hash
-pub hash_read : {E : Type 0} (r : Result (List ℕ) E) (o : Option (List ℕ)) (root items : List ℕ) → IfOk r (λ h. h ≡ items) → IsOk r ↔ (length items ≡ 32) → o ≡ result_ok r → o ≡ Some root → (root ≡ items) × (length items ≡ 32)
+pub hash_read : {E : Type 0} (r : Result (List ℕ) E) (o : Option (List ℕ)) (root items : List ℕ)
+    → IfOk r (λ h. h ≡ items) → IsOk r ↔ (length items ≡ 32) → o ≡ result_ok r → o ≡ Some root → (root ≡ items)
+    × (length items ≡ 32)
 hash_read (Ok h) o root items ok exactly is some = let e : h ≡ root = cc (is, some) in (sym e ∙ ok, exactly.0 refl)
 hash_read (Err e) o root items ok exactly is some = let f = sym is ∙ some in cc f
 
 -- and what isn't
-pub hash_unread : {E : Type 0} (r : Result (List ℕ) E) (o : Option (List ℕ)) (items : List ℕ) → IsOk r ↔ (length items ≡ 32) → o ≡ result_ok r → o ≡ None → length items ≡ 32 → ⊥
+pub hash_unread : {E : Type 0} (r : Result (List ℕ) E) (o : Option (List ℕ)) (items : List ℕ)
+    → IsOk r ↔ (length items ≡ 32) → o ≡ result_ok r → o ≡ None → length items ≡ 32 → ⊥
 hash_unread (Ok h) o items exactly is none count = let f = sym is ∙ none in cc f
 hash_unread {E} (Err e) o items exactly is none count = let f = exactly.1 count in cc f
 
 -- a digest that was decoded has 32 bytes
-pub decoded_length : {E : Type 0} (r : Result (List ℕ) E) (root decoded : List ℕ) → r ≡ Ok root → r ≡ Ok decoded → IsDigest root → length decoded ≡ 32
-decoded_length r root decoded one two is = let e = sym one ∙ two in let same : root ≡ decoded = cc e in omega (arith, ap length same, is.has_32)
+pub decoded_length : {E : Type 0} (r : Result (List ℕ) E) (root decoded : List ℕ) → r ≡ Ok root → r ≡ Ok decoded
+    → IsDigest root → length decoded ≡ 32
+decoded_length r root decoded one two is = let e = sym one ∙ two in let same : root ≡ decoded = cc e in
+    omega (arith, ap length same, is.has_32)
 
 -- lines before other bytes
 lines-append : (xs : List (List ℕ)) (rest : List ℕ) → lines xs rest ≡ lines xs [] ++ rest
@@ -141,16 +172,25 @@ lines-last [] x rest = refl
 lines-last (y ∷ xs) x rest = ap (line y) (lines-last xs x rest)
 
 -- the four parts of a text
-pub text_written : (said : Said) (b1 b2 b3 b4 : List ℕ) → b1 ≡ [] ++ (said.origin ++ 10 ∷ []) → b2 ≡ b1 ++ (decimal said.length ++ 10 ∷ []) → b3 ≡ b2 ++ (encode_of standard said.root ++ 10 ∷ [])
+pub text_written : (said : Said) (b1 b2 b3 b4 : List ℕ) → b1 ≡ [] ++ (said.origin ++ 10 ∷ [])
+    → b2 ≡ b1 ++ (decimal said.length ++ 10 ∷ []) → b3 ≡ b2 ++ (encode_of standard said.root ++ 10 ∷ [])
     → b4 ≡ b3 ++ lines said.extensions [] → b4 ≡ text_before said None
 text_written said b1 b2 b3 b4 one two three four =
-    four ∙ ap (λ b. b ++ lines said.extensions []) (three ∙ ap (λ b. b ++ (encode_of standard said.root ++ 10 ∷ [])) (two ∙ ap (λ b. b ++ (decimal said.length ++ 10 ∷ [])) one)) ∙ simp append_assoc
+    four ∙ ap (λ b. b ++ lines said.extensions []) (three ∙ ap (λ b. b ++ (encode_of standard said.root ++ 10 ∷ []))
+    (two ∙ ap (λ b. b ++ (decimal said.length ++ 10 ∷ [])) one)) ∙ simp append_assoc
 
 -- lines up to one more of a list
-pub lines-take : {X : Type 0} (bytes : List ℕ) (f : X → List ℕ) (xs : List X) (x : X) (i : ℕ) → i < length xs → x ≡ get_or xs i x
+pub lines-take : {X : Type 0} (bytes : List ℕ) (f : X → List ℕ) (xs : List X) (x : X) (i : ℕ) → i < length xs
+    → x ≡ get_or xs i x
     → bytes ++ lines (map f (take (i + 1) xs)) [] ≡ (bytes ++ lines (map f (take i xs)) []) ++ (f x ++ 10 ∷ [])
 lines-take bytes f xs x i inside is =
-    rw (map_more f xs i x inside, ← is, lines-last (map f (take i xs)) (f x) [], lines-append (map f (take i xs)) (f x ++ 10 ∷ [])) (sym (append_assoc bytes (lines (map f (take i xs)) []) (f x ++ 10 ∷ [])))
+    rw (
+      map_more f xs i x inside,
+      ← is,
+      lines-last (map f (take i xs)) (f x) [],
+      lines-append (map f (take i xs))
+          (f x ++ 10 ∷ []),
+    ) (sym (append_assoc bytes (lines (map f (take i xs)) []) (f x ++ 10 ∷ [])))
 
 -- a line is no end of lines
 line_not_behind : (x r : List ℕ) (b : Option (List ℕ)) → IsLine x → line x r ≢ behind b
@@ -159,17 +199,20 @@ line_not_behind (c ∷ x) r None is e = cc
 line_not_behind (c ∷ x) r (Some rest) is e = is.no_newline.0 cc
 
 -- what lacks a newline at its end is no lines
-pub not_lines : (xs ys : List (List ℕ)) (rest : List ℕ) (b : Option (List ℕ)) → AllByRecursion IsLine xs → AllByRecursion IsLine ys → HasNoNewline rest → 0 < length rest → lines xs rest ≢ lines ys (behind b)
+pub not_lines : (xs ys : List (List ℕ)) (rest : List ℕ) (b : Option (List ℕ)) → AllByRecursion IsLine xs
+    → AllByRecursion IsLine ys → HasNoNewline rest → 0 < length rest → lines xs rest ≢ lines ys (behind b)
 unfolding lines
 not_lines [] [] rest None p q none some e = omega (arith, ap length e)
 not_lines [] [] [] (Some r) p q none some e = cc
 not_lines [] [] (c ∷ rest) (Some r) p q none some e = none.0 cc
 not_lines [] (y ∷ ys) rest b p q none some e = no_line rest y (lines ys (behind b)) none e
 not_lines (x ∷ xs) [] rest b p q none some e = line_not_behind x (lines xs rest) b p.0 e
-not_lines (x ∷ xs) (y ∷ ys) rest b p q none some e = not_lines xs ys rest b p.1 q.1 none some (line_once x (lines xs rest) y (lines ys (behind b)) p.0.no_newline q.0.no_newline e).1
+not_lines (x ∷ xs) (y ∷ ys) rest b p q none some e = not_lines xs ys rest b p.1 q.1 none some
+    (line_once x (lines xs rest) y (lines ys (behind b)) p.0.no_newline q.0.no_newline e).1
 
 -- lines are read in one way
-pub lines_once : (xs ys : List (List ℕ)) (a b : Option (List ℕ)) → AllByRecursion IsLine xs → AllByRecursion IsLine ys → lines xs (behind a) ≡ lines ys (behind b) → (xs ≡ ys) × (a ≡ b)
+pub lines_once : (xs ys : List (List ℕ)) (a b : Option (List ℕ)) → AllByRecursion IsLine xs → AllByRecursion IsLine ys
+    → lines xs (behind a) ≡ lines ys (behind b) → (xs ≡ ys) × (a ≡ b)
 unfolding lines
 lines_once [] [] None None p q e = (refl, refl)
 lines_once [] [] None (Some s) p q e = cc
@@ -184,29 +227,34 @@ lines_once (x ∷ xs) (y ∷ ys) a b p q e =
 
 -- a text t is the text s with lines more, which were read from bytes up to the rest
 abbrev pub Added : Said → Said → List ℕ → List ℕ → Type 0
-Added s t bytes rest = (more : List (List ℕ)) × AllByRecursion IsLine more × (t ≡ record s { extensions = s.extensions ++ more }) × (bytes ≡ lines more rest)
+Added s t bytes rest = (more : List (List ℕ)) × AllByRecursion IsLine more
+    × (t ≡ record s { extensions = s.extensions ++ more }) × (bytes ≡ lines more rest)
 
 pub added_none : (s : Said) (bytes : List ℕ) → Added s s bytes bytes
 unfolding lines
 added_none s bytes = ([], tt, ap (λ e. record s { extensions = e }) (sym (append-nil s.extensions)), refl)
 
-pub added_line : (s t u : Said) (bytes rest x more : List ℕ) → Added s t bytes rest → rest ≡ line x more → IsLine x → u ≡ record t { extensions = t.extensions ++ x ∷ [] } → Added s u bytes more
+pub added_line : (s t u : Said) (bytes rest x more : List ℕ) → Added s t bytes rest → rest ≡ line x more → IsLine x
+    → u ≡ record t { extensions = t.extensions ++ x ∷ [] } → Added s u bytes more
 added_line s t u bytes rest x more added is one grown = (
   added.0 ++ x ∷ [],
   all_push IsLine added.0 x added.1 one,
-  grown ∙ ap (λ (a : Said). record a { extensions = a.extensions ++ x ∷ [] }) added.2 ∙ ap (λ e. record s { extensions = e }) (append_assoc s.extensions added.0 (x ∷ [])),
+  grown ∙ ap (λ (a : Said). record a { extensions = a.extensions ++ x ∷ [] }) added.2
+      ∙ ap (λ e. record s { extensions = e }) (append_assoc s.extensions added.0 (x ∷ [])),
   added.3 ∙ ap (lines added.0) is ∙ sym (lines-last added.0 x more),
 )
 
 -- a text is read in one way
-pub text_once : (s t : Said) (a b : Option (List ℕ)) → CanBeSaid s → CanBeSaid t → text_before s a ≡ text_before t b → (s ≡ t) × (a ≡ b)
+pub text_once : (s t : Said) (a b : Option (List ℕ)) → CanBeSaid s → CanBeSaid t → text_before s a ≡ text_before t b
+    → (s ≡ t) × (a ≡ b)
 text_once s t a b p q e =
     let one = line_once s.origin _ t.origin _ p.origin.no_newline q.origin.no_newline e in
     let two = length_once s.length t.length _ _ p.length q.length one.1 in
     let three = root_once s.root t.root _ _ p.root q.root two.1 in
     let four = lines_once s.extensions t.extensions a b p.extensions q.extensions three.1 in (
       ap (λ o. record s { origin = o }) one.0 ∙ ap (λ n. record s { origin = t.origin; length = n }) two.0
-          ∙ ap (λ r. record s { origin = t.origin; length = t.length; root = r }) three.0 ∙ ap (λ x. record t { extensions = x }) four.0,
+          ∙ ap (λ r. record s { origin = t.origin; length = t.length; root = r }) three.0
+          ∙ ap (λ x. record t { extensions = x }) four.0,
       four.1,
     )
 
@@ -220,34 +268,46 @@ err_on_ok (Ok x) P is = cc
 err_on_ok (Err e) P is = tt
 
 -- no length's line is behind an origin's
-pub no_length : (bytes origin rest : List ℕ) → IsLine origin → bytes ≡ line origin rest → ((n : ℕ) (more : List ℕ) → n ≤ 2 ^ 63 → rest ≢ length_line n more) → HasLength bytes → ⊥
+pub no_length : (bytes origin rest : List ℕ) → IsLine origin → bytes ≡ line origin rest
+    → ((n : ℕ) (more : List ℕ) → n ≤ 2 ^ 63 → rest ≢ length_line n more) → HasLength bytes → ⊥
 no_length bytes origin rest is first none h =
-    let behind_origin = (line_once h.0 (length_line h.1 h.2) origin rest h.3.no_newline is.no_newline (sym h.5 ∙ first)).1 in
+    let behind_origin = (line_once h.0 (length_line h.1 h.2) origin rest h.3.no_newline is.no_newline
+    (sym h.5 ∙ first)).1 in
     none h.1 h.2 h.4 (sym behind_origin)
 
 -- no root's line is behind a length's
-pub no_root : (bytes origin rest more : List ℕ) (length : ℕ) → IsLine origin → bytes ≡ line origin rest → length ≤ 2 ^ 63 → rest ≡ length_line length more
+pub no_root : (bytes origin rest more : List ℕ) (length : ℕ) → IsLine origin → bytes ≡ line origin rest
+    → length ≤ 2 ^ 63 → rest ≡ length_line length more
     → ((root last : List ℕ) → IsDigest root → more ≢ root_line root last) → HasRoot bytes → ⊥
 no_root bytes origin rest more length is first most second none h =
-    let behind_origin = (line_once h.0 (length_line h.1 (root_line h.2 h.3)) origin rest h.4.no_newline is.no_newline (sym h.7 ∙ first)).1 in
+    let behind_origin = (line_once h.0 (length_line h.1 (root_line h.2 h.3)) origin rest h.4.no_newline is.no_newline
+    (sym h.7 ∙ first)).1 in
     none h.2 h.3 h.6 (sym (length_once h.1 length _ more h.5 most (behind_origin ∙ second)).1)
 
 -- a text of these parts has no fault
-pub only_memory : {X : Type 0} (bytes origin rest more root last : List ℕ) (length : ℕ) → IsLine origin → bytes ≡ line origin rest → length ≤ 2 ^ 63 → rest ≡ length_line length more
-    → IsDigest root → more ≡ root_line root last → (e : CheckpointTextError) (r : Result X CheckpointTextError) → r ≡ Err e
+pub only_memory : {X : Type 0} (bytes origin rest more root last : List ℕ) (length : ℕ) → IsLine origin
+    → bytes ≡ line origin rest → length ≤ 2 ^ 63 → rest ≡ length_line length more
+    → IsDigest root → more ≡ root_line root last → (e : CheckpointTextError) (r : Result X CheckpointTextError)
+    → r ≡ Err e
     → (r ≡ Err Origin → ⊥) → (r ≡ Err Length → ⊥) → (r ≡ Err Root → ⊥) → (r ≡ Err Extension → ⊥) → IsFirstFault bytes e
-only_memory bytes origin rest more root last length is first most second digest third Origin r of a b c d = absurd (a of)
-only_memory bytes origin rest more root last length is first most second digest third Length r of a b c d = absurd (b of)
+only_memory bytes origin rest more root last length is first most second digest third Origin r of a b c d =
+    absurd (a of)
+only_memory bytes origin rest more root last length is first most second digest third Length r of a b c d =
+    absurd (b of)
 only_memory bytes origin rest more root last length is first most second digest third Root r of a b c d = absurd (c of)
-only_memory bytes origin rest more root last length is first most second digest third Extension r of a b c d = absurd (d of)
+only_memory bytes origin rest more root last length is first most second digest third Extension r of a b c d =
+    absurd (d of)
 only_memory bytes origin rest more root last length is first most second digest third Memory r of a b c d =
     (origin, length, root, last, is, most, digest, first ∙ ap (line origin) (second ∙ ap (length_line length) third))
 
 -- what is behind the root's line is no further lines
-pub no_extensions : (bytes origin rest more root last : List ℕ) (length : ℕ) → IsLine origin → bytes ≡ line origin rest → length ≤ 2 ^ 63 → rest ≡ length_line length more
-    → IsDigest root → more ≡ root_line root last → (e : CheckpointTextError) → IsExtensionFault last e → IsFirstFault bytes e
+pub no_extensions : (bytes origin rest more root last : List ℕ) (length : ℕ) → IsLine origin → bytes ≡ line origin rest
+    → length ≤ 2 ^ 63 → rest ≡ length_line length more
+    → IsDigest root → more ≡ root_line root last → (e : CheckpointTextError) → IsExtensionFault last e
+    → IsFirstFault bytes e
 no_extensions bytes origin rest more root last length is first most second digest third Extension fault =
-    let whole : bytes ≡ line origin (length_line length (root_line root last)) = first ∙ ap (line origin) (second ∙ ap (length_line length) third) in (
+    let whole : bytes ≡ line origin (length_line length (root_line root last)) = first
+    ∙ ap (line origin) (second ∙ ap (length_line length) third) in (
       (origin, length, root, last, is, most, digest, whole),
       λ h.
           let one = (line_once h.0.origin _ origin _ h.2.origin.no_newline is.no_newline (sym h.3 ∙ whole)).1 in
@@ -261,9 +321,12 @@ no_extensions bytes origin rest more root last length is first most second diges
 no_extensions bytes origin rest more root last length is first most second digest third Root fault = absurd fault
 
 -- the text of these parts and further lines
-pub said_before : (bytes origin rest more root last : List ℕ) (length : ℕ) → IsLine origin → bytes ≡ line origin rest → length ≤ 2 ^ 63 → rest ≡ length_line length more
+pub said_before : (bytes origin rest more root last : List ℕ) (length : ℕ) → IsLine origin → bytes ≡ line origin rest
+    → length ≤ 2 ^ 63 → rest ≡ length_line length more
     → IsDigest root → more ≡ root_line root last → (text said : Said) (rest_of : Option (List ℕ))
-    → text ≡ record { origin = origin; length = length; root = root; extensions = [] } → (ls : List (List ℕ)) × AllByRecursion IsLine ls × (said ≡ record text { extensions = text.extensions ++ ls }) × (last ≡ lines ls (behind rest_of))
+    → text ≡ record { origin = origin; length = length; root = root; extensions = [] } → (ls : List (List ℕ))
+    × AllByRecursion IsLine ls × (said ≡ record text { extensions = text.extensions ++ ls })
+    × (last ≡ lines ls (behind rest_of))
     → CanBeSaid said × (bytes ≡ text_before said rest_of)
 said_before bytes origin rest more root last length is first most second digest third text said rest_of made h =
     rw (h.2, made) (

@@ -27,14 +27,16 @@ highest_first x k j is lt high =
 
 -- a power of two is that of a height's level and that of its height within the level
 pub height_parts : (k : ℕ) → 2 ^ k ≡ 2 ^ (8 * (k / 8)) * 2 ^ (k % 8)
-height_parts k = let whole : k ≡ 8 * (k / 8) + k % 8 = omega arith in ap (λ n. 2 ^ n) whole ∙ pow-add 2 (8 * (k / 8)) (k % 8)
+height_parts k = let whole : k ≡ 8 * (k / 8) + k % 8 = omega arith in ap (λ n. 2 ^ n) whole
+    ∙ pow-add 2 (8 * (k / 8)) (k % 8)
 
 -- the number of the nodes of the level's height that stand before a node
 pub place_in_level_is : (x : ℕ) → place_in_level x ≡ place_of x * 2 ^ (height_of x % 8)
 place_in_level_is x =
     let q = 2 ^ (8 * (height_of x / 8)) in
     let r = 2 ^ (height_of x % 8) in
-    let start : start_of x ≡ place_of x * r * q = omega (arith, ap (λ n. place_of x * n) (height_parts (height_of x))) in
+    let start : start_of x ≡ place_of x * r * q =
+    omega (arith, ap (λ n. place_of x * n) (height_parts (height_of x))) in
     rw start (mul-div_cancel (place_of x * r) (pow_pos (8 * (height_of x / 8))))
 
 -- that number is one of 64 bits
@@ -43,7 +45,8 @@ place_fits x k j is lt =
     let r = 2 ^ (k % 8) in
     let q = 2 ^ (8 * (k / 8)) in
     let whole : x + 1 ≡ q * (r * (2 * j + 1)) = is ∙ omega (arith, ap (λ n. n * (2 * j + 1)) (height_parts k)) in
-    let most : 1 * (r * (2 * j + 1)) ≤ q * (r * (2 * j + 1)) = omega (arith, mul-le-mul_left (r * (2 * j + 1)) (pow_pos (8 * (k / 8)))) in
+    let most : 1 * (r * (2 * j + 1)) ≤ q * (r * (2 * j + 1)) =
+    omega (arith, mul-le-mul_left (r * (2 * j + 1)) (pow_pos (8 * (k / 8)))) in
     omega (arith, pow_pos (k % 8))
 
 width_within : (b q place part rest : ℕ) → q * b ≡ 256 → place ≡ part * b + rest → rest ≡ 0 → part < q → place + b ≤ 256
@@ -54,26 +57,31 @@ pub width_most : (p r : ℕ) → r < 8 → p * 2 ^ r % 256 + 2 ^ r ≤ 256
 width_most p r low =
     let whole : 8 ≡ 8 - r + r = omega arith in
     let full : 2 ^ 8 ≡ 2 ^ (8 - r) * 2 ^ r = ap (λ n. 2 ^ n) whole ∙ pow-add 2 (8 - r) r in
-    let left : p * 2 ^ r % 2 ^ 8 ≡ (p * 2 ^ r / 2 ^ r % 2 ^ (8 - r)) * 2 ^ r + p * 2 ^ r % 2 ^ r = ap (λ m. p * 2 ^ r % 2 ^ m) whole ∙ mod-pow-add (p * 2 ^ r) (8 - r) r in
+    let left : p * 2 ^ r % 2 ^ 8 ≡ (p * 2 ^ r / 2 ^ r % 2 ^ (8 - r)) * 2 ^ r + p * 2 ^ r % 2 ^ r =
+    ap (λ m. p * 2 ^ r % 2 ^ m) whole ∙ mod-pow-add (p * 2 ^ r) (8 - r) r in
     let part : p * 2 ^ r / 2 ^ r ≡ p = mul-div_cancel p (pow_pos r) in
     let less : p % 2 ^ (8 - r) < 2 ^ (8 - r) = omega (arith, pow_pos (8 - r)) in
-    width_within (2 ^ r) (2 ^ (8 - r)) (p * 2 ^ r % 256) (p % 2 ^ (8 - r)) (p * 2 ^ r % 2 ^ r) (omega (arith, full)) (rw part at left) (mul-mod_left p (2 ^ r)) less
+    width_within (2 ^ r) (2 ^ (8 - r)) (p * 2 ^ r % 256) (p % 2 ^ (8 - r)) (p * 2 ^ r % 2 ^ r) (omega (arith, full))
+    (rw part at left) (mul-mod_left p (2 ^ r)) less
 
 -- the least tile of a node, as it is made in 64 bits
 pub tile_made : (x k j : ℕ) (t : TileAt) → x < 2 ^ 64 → IsNode x k (place_of x) → k ≡ height_of x → j ≡ place_of x
-    → t.level ≡ k / 8 → t.number ≡ j * 2 ^ (k % 8) % 2 ^ 64 / 256 → t.width ≡ j * 2 ^ (k % 8) % 2 ^ 64 % 256 + 1 * 2 ^ (k % 8) % 2 ^ 64 → t ≡ tile_over x
+    → t.level ≡ k / 8 → t.number ≡ j * 2 ^ (k % 8) % 2 ^ 64 / 256 → t.width ≡ j * 2 ^ (k % 8) % 2 ^ 64 % 256 + 1 * 2 ^
+    (k % 8) % 2 ^ 64 → t ≡ tile_over x
 tile_made x k j t small is height place level number width =
     let fits : j * 2 ^ (k % 8) < 2 ^ 64 = rw place (place_fits x k (place_of x) is small) in
     let most : j * 2 ^ (k % 8) % 256 + 2 ^ (k % 8) ≤ 256 = width_most j (k % 8) (omega arith) in
     let whole : j * 2 ^ (k % 8) % 2 ^ 64 ≡ j * 2 ^ (k % 8) = omega arith in
     let part : 1 * 2 ^ (k % 8) % 2 ^ 64 ≡ 2 ^ (k % 8) = omega arith in
     rw (place_in_level_is x, ← height, ← place, ← whole, ← number, ← level)
-    (ap (λ w. record { level = t.level; number = t.number; width = w }) (width ∙ ap (λ w. j * 2 ^ (k % 8) % 2 ^ 64 % 256 + w) part))
+    (ap (λ w. record { level = t.level; number = t.number; width = w })
+    (width ∙ ap (λ w. j * 2 ^ (k % 8) % 2 ^ 64 % 256 + w) part))
 
 -- a tile of a log of at most 2 ^ 63 entries has a level below 8
 pub level_low : (t : TileAt) → 0 < t.width → tile_end t ≤ 2 ^ 63 → t.level < 8
 level_low t some fits =
-    let least : 1 * 2 ^ (8 * t.level) ≤ (256 * t.number + t.width) * 2 ^ (8 * t.level) = mul-le-mul_right (2 ^ (8 * t.level)) (omega arith) in
+    let least : 1 * 2 ^ (8 * t.level) ≤ (256 * t.number + t.width) * 2 ^ (8 * t.level) =
+    mul-le-mul_right (2 ^ (8 * t.level)) (omega arith) in
     let low : 8 * t.level < 64 = pow_below_pow (8 * t.level) 64 (omega arith) in
     omega arith
 
@@ -82,12 +90,22 @@ pub number_low : (t : TileAt) → 0 < t.width → tile_end t ≤ 2 ^ 63 → t.nu
 number_low t some fits = omega (arith, mul-le-mul_left (256 * t.number + t.width) (pow_pos (8 * t.level)))
 
 -- a tile of a level above 7, or of a number from 2 ^ 55 on, stands at no length
-pub at_no_length : (t : TileAt) (n : ℕ) → (t.level < 8 → t.number < 2 ^ 55 → ⊥) → 0 < t.width → n ≤ 2 ^ 63 → IsTrue false ↔ (tile_end t ≤ n)
-at_no_length t n beyond some small = (λ yes. absurd (false≢true yes), λ fits. absurd (beyond (level_low t some (omega arith)) (number_low t some (omega arith))))
+pub at_no_length : (t : TileAt) (n : ℕ) → (t.level < 8 → t.number < 2 ^ 55 → ⊥) → 0 < t.width → n ≤ 2 ^ 63
+    → IsTrue false ↔ (tile_end t ≤ n)
+at_no_length t n beyond some small = (
+  λ yes. absurd (false≢true yes),
+  λ fits. absurd (beyond (level_low t some (omega arith)) (number_low t some (omega arith))),
+)
 
 -- any other stands at the lengths that have so many nodes of its level
 pub by_nodes : (t : TileAt) (n : ℕ) → IsTrue (leb (256 * t.number + t.width) (n / 2 ^ (8 * t.level))) ↔ (tile_end t ≤ n)
 by_nodes t n = (
-  λ yes. omega (arith, mul-le-mul_left (2 ^ (8 * t.level)) (leb-true (256 * t.number + t.width) (n / 2 ^ (8 * t.level)) yes), mul-div-le n (2 ^ (8 * t.level))),
-  λ fits. le-leb (256 * t.number + t.width) (n / 2 ^ (8 * t.level)) (le-div (256 * t.number + t.width) n (2 ^ (8 * t.level)) (pow_pos (8 * t.level)) fits),
+  λ yes. omega (
+    arith,
+    mul-le-mul_left (2 ^ (8 * t.level))
+        (leb-true (256 * t.number + t.width) (n / 2 ^ (8 * t.level)) yes),
+    mul-div-le n (2 ^ (8 * t.level)),
+  ),
+  λ fits. le-leb (256 * t.number + t.width) (n / 2 ^ (8 * t.level))
+      (le-div (256 * t.number + t.width) n (2 ^ (8 * t.level)) (pow_pos (8 * t.level)) fits),
 )

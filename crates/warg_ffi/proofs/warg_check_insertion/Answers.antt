@@ -7,4 +7,5 @@ returns-in-Ok-Ok c =
     let is = c.in-Ok-Ok in
     let old = rw (← is.ensures.ok) at (is.ensures.exactly.0 refl) in
     let new = rw (← is.ensures'.ok) at (is.ensures'.exactly.0 refl) in
-    rw (← is.ensures.ok, ← is.ensures'.ok) (returned_under_two is.old is.new _ _ _ old new c.check_insertion.ensures.verdict c.number.ensures)
+    rw (← is.ensures.ok, ← is.ensures'.ok)
+    (returned_under_two is.old is.new _ _ _ old new c.check_insertion.ensures.verdict c.number.ensures)

@@ -3,4 +3,6 @@ use Rattle.warg_ffi.proofs.ReturnsLemmas.{returned_under_one}
 use Rattle.warg_ffi.proofs.warg_check_key.Goals as goal
 
 pub returns-in-Ok : goal.returns-in-Ok
-returns-in-Ok c = rw (← c.in-Ok.ensures.ok) (returned_under_one c.in-Ok.root _ _ _ (rw (← c.in-Ok.ensures.ok) at (c.in-Ok.ensures.exactly.0 refl)) c.check_key.ensures.verdict c.number.ensures)
+returns-in-Ok c = rw (← c.in-Ok.ensures.ok)
+    (returned_under_one c.in-Ok.root _ _ _ (rw (← c.in-Ok.ensures.ok) at (c.in-Ok.ensures.exactly.0 refl))
+    c.check_key.ensures.verdict c.number.ensures)

@@ -6,8 +6,10 @@ use Rattle.warg_check.proofs.checkpoint.check_entry.Goals as goal
 
 pub returns-in-Some-clause-verdict : goal.returns-in-Some-clause-verdict
 returns-in-Some-clause-verdict g c =
-    let holds = shows_entry g.D.SupportedDigest.digest c.args.index (g.V.VisitBytes.bytes c.args.value.now) c.args.checkpoint.now.length c.args.checkpoint.now.root in
-    judged_at (λ (b : Bundle). b.included_nodes) holds c.args.at (bundle_of c.args.bytes.now) c.in_ok-bundle.bundle c.in-Some.proof.leaf c.is_entry.result
+    let holds = shows_entry g.D.SupportedDigest.digest c.args.index (g.V.VisitBytes.bytes c.args.value.now)
+    c.args.checkpoint.now.length c.args.checkpoint.now.root in
+    judged_at (λ (b : Bundle). b.included_nodes) holds c.args.at (bundle_of c.args.bytes.now) c.in_ok-bundle.bundle
+    c.in-Some.proof.leaf c.is_entry.result
     c.in_ok-bundle.ensures.exact c.in-Some.ensures.leaf (sym c.is_entry.ensures)
 
 pub returns-in-Some-clause-memory : goal.returns-in-Some-clause-memory
@@ -18,7 +20,8 @@ returns-in-Some-clause-wire g c = not_refused _ _
 
 pub returns : goal.returns
 returns g c = record {
-  verdict = inr (none_at (λ (b : Bundle). b.included_nodes) _ c.args.at _ c.in_ok-bundle.bundle c.in_ok-bundle.ensures.exact (c.in-None.ensures.none.0 refl));
+  verdict = inr (none_at (λ (b : Bundle). b.included_nodes) _ c.args.at _ c.in_ok-bundle.bundle
+      c.in_ok-bundle.ensures.exact (c.in-None.ensures.none.0 refl));
   memory = not_decoding _;
   wire = not_decoding _;
 }

@@ -12,5 +12,13 @@ use Rattle.warg_check.proofs.laws.absence_is_shown.Goals as goal
 
 pub returns : goal.returns
 returns c = λ H bytes at key root is.
-    let t = true_verdict (λ (b : MapBundle). b.absences) (λ b. leads H (empty_root H 0) key root) at (map_bundle_of bytes) is in
-    record { bundle = t.0; spelled = t.2; peers = t.1; stands = t.4; hashes = absence_hashes bytes t.0 at t.1 t.2 t.4; is = same_text (proof_value H t.1 (empty_root H 0) (key_bits H key)) root (sym t.3) }
+    let t = true_verdict (λ (b : MapBundle). b.absences) (λ b. leads H (empty_root H 0) key root) at
+    (map_bundle_of bytes) is in
+    record {
+      bundle = t.0;
+      spelled = t.2;
+      peers = t.1;
+      stands = t.4;
+      hashes = absence_hashes bytes t.0 at t.1 t.2 t.4;
+      is = same_text (proof_value H t.1 (empty_root H 0) (key_bits H key)) root (sym t.3);
+    }

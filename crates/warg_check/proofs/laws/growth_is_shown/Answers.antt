@@ -16,6 +16,14 @@ returns c = λ H bytes at m old n new is.
     let lengths = and_parts (t.1 == m) (t.0.log_length == n && extends H old new t.0 t.1) t.3 in
     let roots = and_parts (t.0.log_length == n) (extends H old new t.0 t.1) lengths.1 in
     let met : IsConsistent H (held_digest t.0.hashes) t.1 t.0.log_length old new =
-    consistency_only H (held_digest t.0.hashes) t.1 t.0.log_length old new (roots_are old new (consistency H (held_digest t.0.hashes) t.1 t.0.log_length) roots.1) in
-    let from : IsConsistent H (held_digest t.0.hashes) m t.0.log_length old new = subst (λ k. IsConsistent H (held_digest t.0.hashes) k t.0.log_length old new) (eqb-true t.1 m lengths.0) met in
-    record { bundle = t.0; spelled = t.2; hashes = log_hashes bytes t.0 t.2; roots = subst (λ k. IsConsistent H (held_digest t.0.hashes) m k old new) (eqb-true t.0.log_length n roots.0) from }
+    consistency_only H (held_digest t.0.hashes) t.1 t.0.log_length old new
+    (roots_are old new (consistency H (held_digest t.0.hashes) t.1 t.0.log_length) roots.1) in
+    let from : IsConsistent H (held_digest t.0.hashes) m t.0.log_length old new =
+    subst (λ k. IsConsistent H (held_digest t.0.hashes) k t.0.log_length old new) (eqb-true t.1 m lengths.0) met in
+    record {
+      bundle = t.0;
+      spelled = t.2;
+      hashes = log_hashes bytes t.0 t.2;
+      roots = subst (λ k. IsConsistent H (held_digest t.0.hashes) m k old new) (eqb-true t.0.log_length n roots.0)
+          from;
+    }

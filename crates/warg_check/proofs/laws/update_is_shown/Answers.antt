@@ -8,6 +8,16 @@ use Rattle.warg_check.proofs.laws.update_is_shown.Goals as goal
 
 pub returns : goal.returns
 returns c = λ H bytes at key old_value new_value old_root new_root is.
-    let t = true_verdict (λ (b : MapBundle). b.proofs) (λ b. leads_both H key (leaf_digest H old_value) (leaf_digest H new_value) old_root new_root) at (map_bundle_of bytes) is in
+    let t = true_verdict (λ (b : MapBundle). b.proofs)
+    (λ b. leads_both H key (leaf_digest H old_value) (leaf_digest H new_value) old_root new_root) at
+    (map_bundle_of bytes) is in
     let both = both_lead H key (leaf_digest H old_value) (leaf_digest H new_value) old_root new_root t.1 t.3 in
-    record { bundle = t.0; spelled = t.2; peers = t.1; stands = t.4; hashes = key_hashes bytes t.0 at t.1 t.2 t.4; old_is = both.0; new_is = both.1 }
+    record {
+      bundle = t.0;
+      spelled = t.2;
+      peers = t.1;
+      stands = t.4;
+      hashes = key_hashes bytes t.0 at t.1 t.2 t.4;
+      old_is = both.0;
+      new_is = both.1;
+    }

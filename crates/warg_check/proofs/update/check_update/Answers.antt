@@ -14,8 +14,11 @@ returns-in-Some-clause-verdict g c =
     let old = leaf_digest H (g.V.VisitBytes.bytes c.args.old_value.now) in
     let new = leaf_digest H (g.V.VisitBytes.bytes c.args.new_value.now) in
     let get = c.in-Some.ensures.lookup in
-    judged_at (λ (b : MapBundle). b.proofs) (λ _. leads_both H key old new c.args.old_root.now c.args.new_root.now) c.args.at (map_bundle_of c.args.bytes.now)
-    c.in_ok-bundle.bundle peers c.is_update.result c.in_ok-bundle.ensures.exact (at_place _ _ _ _ (c.as_slice.ensures.value ∙ c.unbundle-proofs.ensures) get.3.0 get.1) (sym c.is_update.ensures)
+    judged_at (λ (b : MapBundle). b.proofs) (λ _. leads_both H key old new c.args.old_root.now c.args.new_root.now)
+    c.args.at (map_bundle_of c.args.bytes.now)
+    c.in_ok-bundle.bundle peers c.is_update.result c.in_ok-bundle.ensures.exact
+    (at_place _ _ _ _ (c.as_slice.ensures.value ∙ c.unbundle-proofs.ensures) get.3.0 get.1)
+    (sym c.is_update.ensures)
 
 pub returns-in-Some-clause-memory : goal.returns-in-Some-clause-memory
 returns-in-Some-clause-memory g c = not_refused _ _
@@ -26,7 +29,8 @@ returns-in-Some-clause-wire g c = not_refused _ _
 pub returns : goal.returns
 returns g c = record {
   verdict = inr (none_at (λ (b : MapBundle). b.proofs) _ c.args.at _ c.in_ok-bundle.bundle
-      c.in_ok-bundle.ensures.exact (past_place _ _ _ (c.as_slice.ensures.value ∙ c.unbundle-proofs.ensures) c.in-None.ensures.lookup.3));
+      c.in_ok-bundle.ensures.exact (past_place _ _ _ (c.as_slice.ensures.value ∙ c.unbundle-proofs.ensures)
+      c.in-None.ensures.lookup.3));
   memory = not_decoding _;
   wire = not_decoding _;
 }

@@ -12,7 +12,8 @@ returns-clause-verdict g c =
     let key = g.K.VisitBytes.bytes c.args.key.now in
     let leaf = empty_root H 0 in
     let get = c.in-Some.ensures.lookup in
-    judged_at (λ (b : MapBundle). b.absences) (λ _. leads H leaf key c.args.root.now) c.args.at (map_bundle_of c.args.bytes.now)
+    judged_at (λ (b : MapBundle). b.absences) (λ _. leads H leaf key c.args.root.now) c.args.at
+    (map_bundle_of c.args.bytes.now)
     c.in_ok-bundle.bundle c.in-Some.absence.now c.eq.result c.in_ok-bundle.ensures.exact
     (at_place _ _ _ _ (c.as_slice.ensures.value ∙ c.unbundle_all-proofs.ensures.absences) get.3.0 get.1)
     (leads_to H leaf key c.args.root.now c.in-Some.absence.now _ c.eq.result (cc) c.eq.ensures)
@@ -25,7 +26,8 @@ returns-clause-wire g c = not_refused _ _
 
 pub returns-in_default-clause-verdict : goal.returns-in_default-clause-verdict
 returns-in_default-clause-verdict g c = inr (none_at (λ (b : MapBundle). b.absences) _ c.args.at _ c.in_ok-bundle.bundle
-    c.in_ok-bundle.ensures.exact (past_place _ _ _ (c.as_slice.ensures.value ∙ c.unbundle_all-proofs.ensures.absences) c.in_default.ensures.lookup.3))
+    c.in_ok-bundle.ensures.exact (past_place _ _ _ (c.as_slice.ensures.value ∙ c.unbundle_all-proofs.ensures.absences)
+    c.in_default.ensures.lookup.3))
 
 pub returns-in_default-clause-memory : goal.returns-in_default-clause-memory
 returns-in_default-clause-memory g c = not_decoding _

@@ -6,8 +6,10 @@ use Rattle.warg_check.proofs.verdict.check_consistency.Goals as goal
 
 pub returns-in-Some-clause-verdict : goal.returns-in-Some-clause-verdict
 returns-in-Some-clause-verdict g c =
-    judged_at (λ (b : Bundle). b.consistent_lengths) (extends g.D.SupportedDigest.digest c.args.old.now c.args.new.now) c.args.at (bundle_of c.args.bytes.now)
-    c.in_ok-bundle.bundle c.in-Some.proof.old_length c.is_extended.result c.in_ok-bundle.ensures.exact c.in-Some.ensures.old_length (sym c.is_extended.ensures)
+    judged_at (λ (b : Bundle). b.consistent_lengths) (extends g.D.SupportedDigest.digest c.args.old.now c.args.new.now)
+    c.args.at (bundle_of c.args.bytes.now)
+    c.in_ok-bundle.bundle c.in-Some.proof.old_length c.is_extended.result c.in_ok-bundle.ensures.exact
+    c.in-Some.ensures.old_length (sym c.is_extended.ensures)
 
 pub returns-in-Some-clause-memory : goal.returns-in-Some-clause-memory
 returns-in-Some-clause-memory g c = not_refused _ _
@@ -17,7 +19,8 @@ returns-in-Some-clause-wire g c = not_refused _ _
 
 pub returns : goal.returns
 returns g c = record {
-  verdict = inr (none_at (λ (b : Bundle). b.consistent_lengths) _ c.args.at _ c.in_ok-bundle.bundle c.in_ok-bundle.ensures.exact (c.in-None.ensures.none.0 refl));
+  verdict = inr (none_at (λ (b : Bundle). b.consistent_lengths) _ c.args.at _ c.in_ok-bundle.bundle
+      c.in_ok-bundle.ensures.exact (c.in-None.ensures.none.0 refl));
   memory = not_decoding _;
   wire = not_decoding _;
 }

@@ -7,7 +7,8 @@ use Rattle.warg_check.proofs.verdict.check_inclusion.Goals as goal
 pub returns-in-Some-clause-verdict : goal.returns-in-Some-clause-verdict
 returns-in-Some-clause-verdict g c =
     let holds = includes g.D.SupportedDigest.digest (g.V.VisitBytes.bytes c.args.value.now) c.args.root.now in
-    judged_at (λ (b : Bundle). b.included_nodes) holds c.args.at (bundle_of c.args.bytes.now) c.in_ok-bundle.bundle c.in-Some.proof.leaf c.is_included.result
+    judged_at (λ (b : Bundle). b.included_nodes) holds c.args.at (bundle_of c.args.bytes.now) c.in_ok-bundle.bundle
+    c.in-Some.proof.leaf c.is_included.result
     c.in_ok-bundle.ensures.exact c.in-Some.ensures.leaf (sym c.is_included.ensures)
 
 pub returns-in-Some-clause-memory : goal.returns-in-Some-clause-memory
@@ -18,7 +19,8 @@ returns-in-Some-clause-wire g c = not_refused _ _
 
 pub returns : goal.returns
 returns g c = record {
-  verdict = inr (none_at (λ (b : Bundle). b.included_nodes) _ c.args.at _ c.in_ok-bundle.bundle c.in_ok-bundle.ensures.exact (c.in-None.ensures.none.0 refl));
+  verdict = inr (none_at (λ (b : Bundle). b.included_nodes) _ c.args.at _ c.in_ok-bundle.bundle
+      c.in_ok-bundle.ensures.exact (c.in-None.ensures.none.0 refl));
   memory = not_decoding _;
   wire = not_decoding _;
 }

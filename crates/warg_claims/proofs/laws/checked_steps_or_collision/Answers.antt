@@ -6,4 +6,6 @@ use Rattle.warg_claims.proofs.laws.checked_steps_or_collision.Goals as goal
 
 pub returns : goal.returns
 returns c = λ H steps end gives checked.
-    c.steps_or_collision.ensures H (steps_of steps) end gives (lead_through H (c.update_is_shown.ensures H) (c.insertion_is_shown.ensures H) steps (sparse_root H 256 empty) end checked)
+    c.steps_or_collision.ensures H (steps_of steps) end gives
+    (lead_through H (c.update_is_shown.ensures H) (c.insertion_is_shown.ensures H) steps
+    (sparse_root H 256 empty) end checked)

@@ -7,5 +7,6 @@ use Rattle.warg_claims.proofs.premises.extension_verdict_is_needed.Goals as goal
 pub returns : goal.returns
 unfolding root_within
 returns c = λ law.
-    entries_apart _ (law marked growth_bytes 0 zeros ones one_growth 1 ([] ∷ []) ((1 ∷ []) ∷ []) marked_hashes growth_read refl
+    entries_apart _ (law marked growth_bytes 0 zeros ones one_growth 1 ([] ∷ [])
+    ((1 ∷ []) ∷ []) marked_hashes growth_read refl
     (record { root = refl; length = refl }) (record { root = refl; length = refl }) (λ is. absurd cc))

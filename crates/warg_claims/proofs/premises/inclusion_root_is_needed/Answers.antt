@@ -7,4 +7,5 @@ use Rattle.warg_claims.proofs.premises.inclusion_root_is_needed.Goals as goal
 pub returns : goal.returns
 returns c =
     λ law. marks_apart (law marked only_bytes 0 (1 ∷ [])
-    (leaf_digest marked (1 ∷ [])) only_proof first_node ([] ∷ []) marked_hashes (only_shown marked (1 ∷ [])) only_read refl not_entry)
+    (leaf_digest marked (1 ∷ [])) only_proof first_node ([] ∷ []) marked_hashes (only_shown marked (1 ∷ [])) only_read
+    refl not_entry)

@@ -24,12 +24,20 @@ returns-in_err-other g c =
 
 pub returns-then-ne : goal.returns-then-ne
 returns-then-ne g c =
-    rw (c.in-Some.ensures.steps, ← c.in_ok-other.ensures, different (same_bytes c.in_ok-other.other c.args.agreed) c.if-ne.ensures) at c.roots.invariant.rest
+    rw (
+      c.in-Some.ensures.steps,
+      ← c.in_ok-other.ensures,
+      different (same_bytes c.in_ok-other.other c.args.agreed) c.if-ne.ensures,
+    ) at c.roots.invariant.rest
 
 pub roots-preserved : goal.roots-preserved
 roots-preserved g c = record {
   ends = (rw c.in-Some.ensures.steps at c.roots.invariant.ends).1;
-  rest = rw (c.in-Some.ensures.steps, ← c.in_ok-other.ensures, same (same_bytes c.in_ok-other.other c.args.agreed) c.if-ne.ensures) at c.roots.invariant.rest;
+  rest = rw (
+    c.in-Some.ensures.steps,
+    ← c.in_ok-other.ensures,
+    same (same_bytes c.in_ok-other.other c.args.agreed) c.if-ne.ensures,
+  ) at c.roots.invariant.rest;
 }
 
 pub returns : goal.returns

@@ -23,7 +23,8 @@ unfolding read_on
 returns-clause-front_first c = λ t r more other clear.
     let front = front_is r.count more in
     let is_clear : is_beside t (front_part r) ≡ false = false_from_ne_true _ clear in
-    let apart : IsFull r.count → IsTrue (is_beside t r) → ⊥ = λ full beside. clear ((beside_decides t (front_part r)).1 (elim ((beside_decides t r).0 beside) [
+    let apart : IsFull r.count → IsTrue (is_beside t r)
+    → ⊥ = λ full beside. clear ((beside_decides t (front_part r)).1 (elim ((beside_decides t r).0 beside) [
       | inl before ↦ inl (omega (arith, front.1, front.2))
       | inr behind ↦ inr behind
     ])) in

@@ -27,7 +27,8 @@ entries-preserved g c = record {
   len = omega (arith, c.in_ok-push.ensures.length, c.entries.invariant.len);
   appends = λ ds stands.
       let H = g.D.SupportedDigest.digest in
-      let more = mapped_twice_more g.V.VisitBytes.bytes (leaf_digest H) _ _ c.entry-item.result _ _ _ c.entries-test.true c.entry-item.is refl refl refl in
+      let more = mapped_twice_more g.V.VisitBytes.bytes (leaf_digest H) _ _ c.entry-item.result _ _ _
+      c.entries-test.true c.entry-item.is refl refl refl in
       rw (← more, ← append_assoc) (c.in_ok-push.ensures.ok _ (c.entries.invariant.appends ds stands));
 }
 

@@ -6,5 +6,6 @@ use Rattle.warg_log.proofs.log.push_all.Given as goal
 abbrev pub invariant-entries : goal.invariant-entries
 invariant-entries g l = record {
   len : g.B.LogBuilder.len l.log ≡ g.B.LogBuilder.len l.initial.log + l.entry-index;
-  appends : Appends g.B.LogBuilder.stands_for l.initial.log l.log (leaves_of g.D.SupportedDigest.digest (map g.V.VisitBytes.bytes (take l.entry-index l.entries)));
+  appends : Appends g.B.LogBuilder.stands_for l.initial.log l.log
+      (leaves_of g.D.SupportedDigest.digest (map g.V.VisitBytes.bytes (take l.entry-index l.entries)));
 }

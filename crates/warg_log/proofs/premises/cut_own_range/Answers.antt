@@ -8,12 +8,15 @@ use Rattle.warg_log.proofs.premises.cut_own_range.Goals as goal
 
 pub returns-clause-some : goal.returns-clause-some
 unfolding way_within top_of height_of height_within place_of root_within front_of front_within
-returns-clause-some c = λ law. let none : SameDigest None (Some []) = law own [] (leaves_from 5 1) (leaves_from 0 0) (record { height = 0; place = 0; start = refl; most = omega arith }) (omega arith) in cc
+returns-clause-some c = λ law. let none : SameDigest None (Some []) = law own [] (leaves_from 5 1) (leaves_from 0 0)
+    (record { height = 0; place = 0; start = refl; most = omega arith }) (omega arith) in cc
 
 pub returns-clause-aligned : goal.returns-clause-aligned
 unfolding way_within top_of height_of height_within place_of root_within front_of front_within
-returns-clause-aligned c = λ law. let none : SameDigest None (Some (1 ∷ [])) = law own ([] ∷ [] ∷ [] ∷ []) (leaves_from 5 1) (leaves_from 1 2) (omega arith) (omega arith) in cc
+returns-clause-aligned c = λ law. let none : SameDigest None (Some (1 ∷ [])) = law own ([] ∷ [] ∷ [] ∷ [])
+    (leaves_from 5 1) (leaves_from 1 2) (omega arith) (omega arith) in cc
 
 pub returns-clause-length : goal.returns-clause-length
 unfolding way_within top_of height_of height_within place_of root_within front_of front_within
-returns-clause-length c = λ law. let none : SameDigest None (Some []) = law own [] (leaves_from 5 1) (leaves_from 0 1) (omega arith) (record { height = 0; place = 0; start = refl; most = omega arith }) in cc
+returns-clause-length c = λ law. let none : SameDigest None (Some []) = law own [] (leaves_from 5 1) (leaves_from 0 1)
+    (omega arith) (record { height = 0; place = 0; start = refl; most = omega arith }) in cc

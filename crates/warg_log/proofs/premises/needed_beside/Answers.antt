@@ -7,8 +7,10 @@ use Rattle.warg_log.proofs.premises.needed_beside.Goals as goal
 
 pub returns-clause-full : goal.returns-clause-full
 unfolding way_within read_on
-returns-clause-full c = λ law. let two : SameList (4 ∷ 1 ∷ []) (2 ∷ []) = law (leaves_from 3 1) (leaves_from 0 3) refl in cc
+returns-clause-full c = λ law. let two : SameList (4 ∷ 1 ∷ []) (2 ∷ []) = law (leaves_from 3 1)
+    (leaves_from 0 3) refl in cc
 
 pub returns-clause-beside : goal.returns-clause-beside
 unfolding way_within read_on
-returns-clause-beside c = λ law. let none : SameList [] (0 ∷ []) = law (leaves_from 0 1) (leaves_from 0 1) (0, refl) in cc
+returns-clause-beside c = λ law. let none : SameList [] (0 ∷ []) = law (leaves_from 0 1) (leaves_from 0 1) (0, refl) in
+    cc

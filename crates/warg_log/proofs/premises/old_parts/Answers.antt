@@ -11,4 +11,5 @@ returns-clause-more c = λ law. let none : SameDigest (Some []) None = law own n
 
 pub returns-clause-not_full : goal.returns-clause-not_full
 unfolding way_within top_of front_of front_within
-returns-clause-not_full c = λ law. let joins : SameDigest (Some []) (Some (1 ∷ [])) = law own empty_everywhere (leaves_from 0 2) (omega arith) in cc
+returns-clause-not_full c = λ law. let joins : SameDigest (Some []) (Some (1 ∷ [])) = law own empty_everywhere
+    (leaves_from 0 2) (omega arith) in cc

@@ -3,7 +3,10 @@ use Rattle.warg_log.proofs.SparseLemmas.{ascends_by_steps}
 use Rattle.warg_log.proofs.sparse_data.are_ascending.Goals as goal
 
 pub returns : goal.returns
-returns g c = (λ _. ascends_by_steps c.args.pairs.now (λ k d lt. c.places.invariant k d (omega arith)), λ _. search rules)
+returns g c = (
+  λ _. ascends_by_steps c.args.pairs.now (λ k d lt. c.places.invariant k d (omega arith)),
+  λ _. search rules,
+)
 
 pub places-init : goal.places-init
 places-init g c = λ k d lt. absurd (omega arith)

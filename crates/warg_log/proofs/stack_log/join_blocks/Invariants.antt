@@ -7,7 +7,8 @@ use Rattle.warg_log.proofs.stack_log.join_blocks.Given as goal
 abbrev pub invariant-up : goal.invariant-up
 invariant-up g l = record {
   room : vec_len l.blocks < vec_capacity l.blocks;
-  joined : (G : ℕ → ℕ → List ℕ) → Grows g.D.SupportedDigest.digest l.count l.fn.digest l.initial.blocks.items G → IsJoined l.count G l.rest l.blocks.items l.digest;
+  joined : (G : ℕ → ℕ → List ℕ) → Grows g.D.SupportedDigest.digest l.count l.fn.digest l.initial.blocks.items G
+      → IsJoined l.count G l.rest l.blocks.items l.digest;
 }
 
 abbrev pub decreases-up : goal.decreases-up

@@ -4,11 +4,13 @@ use Rattle.std.proofs.KnownBytes.{Consumes-trans, Consumes-whole}
 use Rattle.warg_program.proofs.program.read_all.Goals as goal
 
 -- a read of no bytes, at the end
-all_read : (old mid new : Option (List ℕ)) (bytes buffer : List ℕ) (n : ℕ) → Consumes old mid bytes → Consumes mid new (take n buffer) → n ≡ 0 → IsAtEnd new
+all_read : (old mid new : Option (List ℕ)) (bytes buffer : List ℕ) (n : ℕ) → Consumes old mid bytes
+    → Consumes mid new (take n buffer) → n ≡ 0 → IsAtEnd new
     → IfSome old (λ input. bytes ≡ input)
 all_read old mid new bytes buffer n before last none end =
     let last_none : Consumes mid new [] = subst (λ (k : ℕ). Consumes mid new (take k buffer)) none last in
-    Consumes-whole old new (bytes ++ []) (λ input. bytes ≡ input) (Consumes-trans old mid new bytes [] before last_none) end (sym (append-nil bytes))
+    Consumes-whole old new (bytes ++ []) (λ input. bytes ≡ input) (Consumes-trans old mid new bytes [] before last_none)
+    end (sym (append-nil bytes))
 
 pub returns-in-Ok-eq0-clause-bytes : goal.returns-in-Ok-eq0-clause-bytes
 returns-in-Ok-eq0-clause-bytes g c =

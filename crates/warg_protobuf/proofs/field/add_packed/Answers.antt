@@ -20,15 +20,19 @@ unfolding packed_uint32s
 returns-in_err-add_uint32 g c =
     let p = err_from_is_err_and c.from_residual-in_err-add_uint32.result c.from_residual-in_err-add_uint32.ensures.1 in
     let left : 0 < length c.loop-rest.rest.now = grind arith in
-    rw (p.1, p.2) (Fails-outcome _ _ (Collects-fails is_uint32 varints _ _ _ _ c.loop-rest.invariant _ left (rw c.in_ok-number.ensures c.in_err-add_uint32.ensures)))
+    rw (p.1, p.2) (Fails-outcome _ _ (Collects-fails is_uint32 varints _ _ _ _ c.loop-rest.invariant _ left
+    (rw c.in_ok-number.ensures c.in_err-add_uint32.ensures)))
 
 pub loop-rest-smaller : goal.loop-rest-smaller
-loop-rest-smaller g c = shorter varints _ _ _ (found varints c.loop-rest.rest.now c.in_ok-number.number c.in_ok-number.after.now c.in_ok-number.ensures)
+loop-rest-smaller g c = shorter varints _ _ _
+    (found varints c.loop-rest.rest.now c.in_ok-number.number c.in_ok-number.after.now c.in_ok-number.ensures)
 
 pub loop-rest-preserved : goal.loop-rest-preserved
 loop-rest-preserved g c =
-    let adds : Adds (λ (ns : List ℕ). c.args.numbers.now.items ++ ns) (λ ns n. ns ++ n ∷ []) = record { push = λ ns n. simp append_assoc } in
-    Collects-next is_uint32 varints _ _ _ _ c.loop-rest.invariant _ adds c.in_ok-number.number c.in_ok-number.after.now _ c.in_ok-number.ensures c.in_ok-add_uint32.ensures
+    let adds : Adds (λ (ns : List ℕ). c.args.numbers.now.items ++ ns) (λ ns n. ns ++ n ∷ []) =
+    record { push = λ ns n. simp append_assoc } in
+    Collects-next is_uint32 varints _ _ _ _ c.loop-rest.invariant _ adds c.in_ok-number.number c.in_ok-number.after.now
+    _ c.in_ok-number.ensures c.in_ok-add_uint32.ensures
 
 pub returns : goal.returns
 unfolding packed_uint32s

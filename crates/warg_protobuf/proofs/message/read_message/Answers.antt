@@ -9,7 +9,13 @@ use Rattle.warg_protobuf.proofs.Loops.{Collects-next, Collects-fails, Collects-d
 use Rattle.warg_protobuf.proofs.message.read_message.Goals as goal
 
 pub loop-rest-init : goal.loop-rest-init
-loop-rest-init g c = record { taken = []; front = []; parts = refl; there = (refl, tt); state_is = c.empty-message.ensures }
+loop-rest-init g c = record {
+  taken = [];
+  front = [];
+  parts = refl;
+  there = (refl, tt);
+  state_is = c.empty-message.ensures;
+}
 
 pub returns-in_err-field : goal.returns-in_err-field
 unfolding message_of
@@ -17,7 +23,9 @@ returns-in_err-field g c =
     let p = err_from_is_err_and c.from_residual.result c.from_residual.ensures.1 in
     let left : 0 < length c.loop-rest.rest.now = grind arith in
     let met = Fails-then _ _ (λ x. check_by g.M.Message.schema.table x.0) c.in_err-field.ensures in
-    rw (p.1, p.2) (decodes g.M.Message.view g.M.Message.schema _ _ (Fails-then _ _ _ (Collects-fails (check_by g.M.Message.schema.table) fields _ _ _ _ c.loop-rest.invariant _ left met)))
+    rw (p.1, p.2) (decodes g.M.Message.view g.M.Message.schema _ _
+    (Fails-then _ _ _ (Collects-fails (check_by g.M.Message.schema.table) fields _ _ _ _ c.loop-rest.invariant _
+    left met)))
 
 pub returns-in_err-put : goal.returns-in_err-put
 unfolding message_of
@@ -25,14 +33,18 @@ returns-in_err-put g c =
     let p = err_from_is_err_and c.from_residual-in_err-put.result c.from_residual-in_err-put.ensures.1 in
     let left : 0 < length c.loop-rest.rest.now = grind arith in
     rw (p.1, p.2) (decodes g.M.Message.view g.M.Message.schema _ _ (Fails-then _ _ _
-    (Collects-fails (check_by g.M.Message.schema.table) fields _ _ _ _ c.loop-rest.invariant _ left (rw c.in_ok-field.ensures c.in_err-put.ensures))))
+    (Collects-fails (check_by g.M.Message.schema.table) fields _ _ _ _ c.loop-rest.invariant _ left
+    (rw c.in_ok-field.ensures c.in_err-put.ensures))))
 
 pub loop-rest-smaller : goal.loop-rest-smaller
-loop-rest-smaller g c = shorter fields _ _ _ (found fields c.loop-rest.rest.now (field_view c.in_ok-field.field) c.in_ok-field.after.now c.in_ok-field.ensures)
+loop-rest-smaller g c = shorter fields _ _ _
+    (found fields c.loop-rest.rest.now (field_view c.in_ok-field.field) c.in_ok-field.after.now c.in_ok-field.ensures)
 
 pub loop-rest-preserved : goal.loop-rest-preserved
 loop-rest-preserved g c =
-    Collects-next (check_by g.M.Message.schema.table) fields _ _ _ _ c.loop-rest.invariant g.M.Message.add g.met.M.Message.adds (field_view c.in_ok-field.field) c.in_ok-field.after.now _ c.in_ok-field.ensures c.in_ok-put.ensures
+    Collects-next (check_by g.M.Message.schema.table) fields _ _ _ _ c.loop-rest.invariant g.M.Message.add
+    g.met.M.Message.adds (field_view c.in_ok-field.field) c.in_ok-field.after.now _ c.in_ok-field.ensures
+    c.in_ok-put.ensures
 
 pub returns : goal.returns
 unfolding message_of

@@ -6,7 +6,8 @@ use Rattle.warg_protobuf.proofs.message.read_message.Given as goal
 
 abbrev pub invariant-loop-rest : goal.invariant-loop-rest
 invariant-loop-rest g l =
-    Collects SpellsField (check_by g.M.Message.schema.table) g.M.Message.schema.message l.bytes l.rest (g.M.Message.view l.message)
+    Collects SpellsField (check_by g.M.Message.schema.table) g.M.Message.schema.message l.bytes l.rest
+    (g.M.Message.view l.message)
 
 abbrev pub decreases-loop-rest : goal.decreases-loop-rest
 decreases-loop-rest g l = length l.rest

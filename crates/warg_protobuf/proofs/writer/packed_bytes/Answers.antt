@@ -15,7 +15,12 @@ loop-number-init g c = c.new-out.ensures.items
 pub loop-number-preserved : goal.loop-number-preserved
 loop-number-preserved g c =
     c.in_ok-push_varint.ensures
-    ∙ rw (c.loop-number.invariant, c.from.ensures, take_more c.args.numbers.now c.loop-number.number-index 0 c.loop-number-test.true) (flat_map_more varint_bytes [] _ _)
+    ∙ rw (
+      c.loop-number.invariant,
+      c.from.ensures,
+      take_more c.args.numbers.now c.loop-number.number-index 0 c.loop-number-test.true,
+    )
+    (flat_map_more varint_bytes [] _ _)
 
 pub returns-in_err-push_varint-clause-written : goal.returns-in_err-push_varint-clause-written
 returns-in_err-push_varint-clause-written g c = IfOk-from_err _ _ c.from_residual.ensures.0
@@ -24,7 +29,8 @@ pub returns-in_err-push_varint-clause-fits : goal.returns-in_err-push_varint-cla
 returns-in_err-push_varint-clause-fits g c = all_low _ c.type_inv.numbers
 
 pub returns-clause-written : goal.returns-clause-written
-returns-clause-written g c = c.loop-number.invariant ∙ ap (flat_map varint_bytes) (take_all c.loop-number.number-index _ c.loop-number-test.false)
+returns-clause-written g c = c.loop-number.invariant
+    ∙ ap (flat_map varint_bytes) (take_all c.loop-number.number-index _ c.loop-number-test.false)
 
 pub returns-clause-fits : goal.returns-clause-fits
 returns-clause-fits g c = all_low _ c.type_inv.numbers

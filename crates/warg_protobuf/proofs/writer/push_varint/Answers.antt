@@ -9,7 +9,8 @@ unfolding varint_bytes
 loop-left-init g c = (9, omega arith, refl)
 
 pub loop-left-preserved : goal.loop-left-preserved
-loop-left-preserved g c = rw c.in_ok-push.ensures.items (writes_more c.loop-left.out.items c.loop-left.left _ c.loop-left-test.true c.loop-left.invariant)
+loop-left-preserved g c = rw c.in_ok-push.ensures.items
+    (writes_more c.loop-left.out.items c.loop-left.left _ c.loop-left-test.true c.loop-left.invariant)
 
 pub returns : goal.returns
 unfolding varint_bytes_in

@@ -14,7 +14,8 @@ pub places-init : goal.places-init
 places-init g c = record {
   count = ap length c.new-digests.ensures.items;
   digest = λ k h. absurd (omega (arith, h));
-  known = λ k h. c.known.invariant k (omega (arith, h, c.width-place-end.ensures.value, c.width-place-end-2.ensures.value, c.known-test.false));
+  known = λ k h. c.known.invariant k
+      (omega (arith, h, c.width-place-end.ensures.value, c.width-place-end-2.ensures.value, c.known-test.false));
 }
 
 pub node-requires-in-places-clause-inside : goal.node-requires-in-places-clause-inside
@@ -29,7 +30,8 @@ returns-in_err-push-in-Some-clause-ok g c = IfOk-from_err _ _ c.from_residual.en
 pub returns-in_err-push-in-Some-clause-not_known : goal.returns-in_err-push-in-Some-clause-not_known
 returns-in_err-push-in-Some-clause-not_known g c = (
   λ h. let other = rw h at c.from_residual.ensures.1 in absurd (cc other),
-  λ lacks. absurd (lacks_none (g.L.LogData.digest_at c.args.hashes.now) c.args.tile.now (λ k h. c.places.invariant.known k (omega (arith, h, c.width-place-end-2.ensures.value))) lacks),
+  λ lacks. absurd (lacks_none (g.L.LogData.digest_at c.args.hashes.now) c.args.tile.now
+      (λ k h. c.places.invariant.known k (omega (arith, h, c.width-place-end-2.ensures.value))) lacks),
 )
 
 pub places-preserved : goal.places-preserved
@@ -38,19 +40,27 @@ places-preserved g c =
     let pushed = c.in_ok-push-in-Some.ensures.items in
     let here = sym (c.hash_for.ensures ∙ ap F c.node-in-places.ensures) ∙ c.in-Some.is in
     record {
-      count = omega (arith, ap length pushed, length-append c.places.digests.items (c.in-Some.digest ∷ []), c.places.invariant.count);
-      digest = digests_more (λ k. F (node_in c.args.tile.now k)) c.places.digests.items _ c.places.place c.in-Some.digest c.places.invariant.count pushed here c.places.invariant.digest;
+      count = omega (
+        arith,
+        ap length pushed,
+        length-append c.places.digests.items (c.in-Some.digest ∷ []),
+        c.places.invariant.count,
+      );
+      digest = digests_more (λ k. F (node_in c.args.tile.now k)) c.places.digests.items _ c.places.place
+          c.in-Some.digest c.places.invariant.count pushed here c.places.invariant.digest;
       known = c.places.invariant.known;
     }
 
 pub returns-clause-ok : goal.returns-clause-ok
 returns-clause-ok g c = record {
   count = omega (arith, c.places.invariant.count, c.width-place-end-2.ensures.value, c.places-test.false);
-  digest = λ i h. c.places.invariant.digest i (omega (arith, h, c.width-place-end-2.ensures.value, c.places-test.false));
+  digest = λ i h. c.places.invariant.digest i
+      (omega (arith, h, c.width-place-end-2.ensures.value, c.places-test.false));
 }
 
 pub returns-clause-not_known : goal.returns-clause-not_known
 returns-clause-not_known g c = (
   λ h. absurd (cc h),
-  λ lacks. absurd (lacks_none (g.L.LogData.digest_at c.args.hashes.now) c.args.tile.now (λ k h. c.places.invariant.known k (omega (arith, h, c.width-place-end-2.ensures.value))) lacks),
+  λ lacks. absurd (lacks_none (g.L.LogData.digest_at c.args.hashes.now) c.args.tile.now
+      (λ k h. c.places.invariant.known k (omega (arith, h, c.width-place-end-2.ensures.value))) lacks),
 )

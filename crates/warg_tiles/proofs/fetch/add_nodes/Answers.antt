@@ -10,10 +10,13 @@ nodes-preserved g c =
     let none : Node = record { 0 = 0 } in
     let x = (get_or c.args.nodes.now c.nodes.node-index none).0 in
     let asked = rw c.as_slice.ensures.value at c.give.ensures in
-    let more = added_append c.args.length c.args.tiles.now.items c.nodes.tiles.items c.if-not-give.tiles.items (map (λ (x : Node). x.0) (take c.nodes.node-index c.args.nodes.now)) (x ∷ []) c.nodes.invariant in
+    let more = added_append c.args.length c.args.tiles.now.items c.nodes.tiles.items c.if-not-give.tiles.items
+    (map (λ (x : Node). x.0) (take c.nodes.node-index c.args.nodes.now)) (x ∷ []) c.nodes.invariant in
     rw (map_more (λ (x : Node). x.0) c.args.nodes.now c.nodes.node-index none c.nodes-test.true)
     (more (elim c.if-not-give.branch [
       | then-not-give+in_ok-push w ↦
-          rw (w.tiles-is, w.in_ok-push.ensures.items) (added_new c.args.length x c.nodes.tiles.items w.tile_for.result (sym asked ∙ w.if-not-give.true) w.tile_for.ensures.of w.tile_for.ensures.gives)
-      | else-not-give w ↦ rw w.tiles-is (added_known c.args.length x c.nodes.tiles.items (sym asked ∙ w.if-not-give.false))
+          rw (w.tiles-is, w.in_ok-push.ensures.items) (added_new c.args.length x c.nodes.tiles.items w.tile_for.result
+          (sym asked ∙ w.if-not-give.true) w.tile_for.ensures.of w.tile_for.ensures.gives)
+      | else-not-give w ↦ rw w.tiles-is
+          (added_known c.args.length x c.nodes.tiles.items (sym asked ∙ w.if-not-give.false))
     ]))

@@ -6,5 +6,8 @@ use Rattle.warg_tiles.proofs.fetch.add_root.Goals as goal
 
 pub returns : goal.returns
 returns g c =
-    on_ok_weaker c.add_inclusion.result (λ added. added_append c.args.length c.args.tiles.now.items c.add_nodes.new.tiles.items c.add_inclusion.new.tiles.items (c.args.root.0 ∷ []) (needed c.args.root.0 c.args.length) c.in_ok-add_nodes.ensures added)
+    on_ok_weaker c.add_inclusion.result
+    (λ added. added_append c.args.length c.args.tiles.now.items c.add_nodes.new.tiles.items
+    c.add_inclusion.new.tiles.items (c.args.root.0 ∷ []) (needed c.args.root.0 c.args.length)
+    c.in_ok-add_nodes.ensures added)
     c.add_inclusion.ensures

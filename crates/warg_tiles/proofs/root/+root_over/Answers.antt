@@ -9,7 +9,8 @@ returns g t c =
     let front = c.split_at.ensures.front ∙ ap (λ n. take n c.args.digests.now) whole in
     let rest = c.split_at.ensures.back ∙ ap (λ n. drop n c.args.digests.now) whole in
     rw (
-      root_parts g.D.SupportedDigest.digest c.args.digests.now c.split_at.result.0.now c.split_at.result.1.now c.ilog2.result c.ilog2.ensures.power_le
+      root_parts g.D.SupportedDigest.digest c.args.digests.now c.split_at.result.0.now c.split_at.result.1.now
+          c.ilog2.result c.ilog2.ensures.power_le
           (omega (arith, c.ilog2.ensures.next_power_gt, pow-suc 2 c.ilog2.result)) (omega arith) front rest,
       ← c.root_over.ensures,
       ← c.root_over-2.ensures,

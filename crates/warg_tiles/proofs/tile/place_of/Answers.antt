@@ -8,4 +8,5 @@ unfolding place_of
 returns-then-height-lt63 c = rw (c.index.ensures, c.height-height.ensures.value) refl
 
 pub returns-else-height-lt63 : goal.returns-else-height-lt63
-returns-else-height-lt63 c = sym (highest_first c.args.node.0 c.height-height.result _ c.height-height.ensures.node (omega arith) c.if-height-lt63.false)
+returns-else-height-lt63 c = sym (highest_first c.args.node.0 c.height-height.result _ c.height-height.ensures.node
+    (omega arith) c.if-height-lt63.false)

@@ -13,13 +13,28 @@ pub returns-then-count-lt255 : goal.returns-then-count-lt255
 returns-then-count-lt255 g t c =
     let low = fits_low c.args.level c.args.count c.requires.fits in
     record {
-      kept = (omega arith, omega (arith, c.requires.width, width_more c.args.level c.args.count low c.if-count-lt255.true));
-      edge = λ ds is. ap (λ e. e ++ c.args.digest ∷ []) (take-length c.args.edge.now) ∙ edge_partial g.D.SupportedDigest.digest ds c.args.edge.now c.args.digest c.args.level c.args.count low c.if-count-lt255.true is;
-      filled = λ ds is. nothing_added g.D.SupportedDigest.digest ds _ c.args.level c.args.count low c.if-count-lt255.true;
+      kept = (
+        omega arith,
+        omega (
+          arith,
+          c.requires.width,
+          width_more c.args.level c.args.count low c.if-count-lt255.true,
+        ),
+      );
+      edge = λ ds is. ap (λ e. e ++ c.args.digest ∷ []) (take-length c.args.edge.now)
+          ∙ edge_partial g.D.SupportedDigest.digest ds c.args.edge.now c.args.digest c.args.level c.args.count low
+          c.if-count-lt255.true is;
+      filled = λ ds is. nothing_added g.D.SupportedDigest.digest ds _ c.args.level c.args.count low
+          c.if-count-lt255.true;
     }
 
 pub overflow_sub-edge : goal.overflow_sub-edge
-overflow_sub-edge g t c = omega (arith, c.requires.width, (width_full c.args.level c.args.count (fits_low c.args.level c.args.count c.requires.fits) (omega arith)).0)
+overflow_sub-edge g t c = omega (
+  arith,
+  c.requires.width,
+  (width_full c.args.level c.args.count (fits_low c.args.level c.args.count c.requires.fits)
+      (omega arith)).0,
+)
 
 pub split_at-requires : goal.split_at-requires
 split_at-requires g t c = omega arith
@@ -40,7 +55,8 @@ pub returns-in_err-push-clause-edge : goal.returns-in_err-push-clause-edge
 returns-in_err-push-clause-edge g t c = IfOk-from_err _ _ c.from_residual-in_err-push.ensures.0
 
 pub returns-in_err-push-clause-filled : goal.returns-in_err-push-clause-filled
-returns-in_err-push-clause-filled g t c = err_on_ok c.from_residual-in_err-push.result _ c.from_residual-in_err-push.ensures.0
+returns-in_err-push-clause-filled g t c =
+    err_on_ok c.from_residual-in_err-push.result _ c.from_residual-in_err-push.ensures.0
 
 pub returns-in_err-push-2-clause-kept : goal.returns-in_err-push-2-clause-kept
 returns-in_err-push-2-clause-kept g t c = IfOk-from_err _ _ c.from_residual-in_err-push-2.ensures.0
@@ -49,10 +65,15 @@ pub returns-in_err-push-2-clause-edge : goal.returns-in_err-push-2-clause-edge
 returns-in_err-push-2-clause-edge g t c = IfOk-from_err _ _ c.from_residual-in_err-push-2.ensures.0
 
 pub returns-in_err-push-2-clause-filled : goal.returns-in_err-push-2-clause-filled
-returns-in_err-push-2-clause-filled g t c = err_on_ok c.from_residual-in_err-push-2.result _ c.from_residual-in_err-push-2.ensures.0
+returns-in_err-push-2-clause-filled g t c =
+    err_on_ok c.from_residual-in_err-push-2.result _ c.from_residual-in_err-push-2.ensures.0
 
 pub root_over-root-requires : goal.root_over-root-requires
-root_over-root-requires g t c = omega (arith, ap length (c.as_slice.ensures.value ∙ c.in_ok-push.ensures.items), length-append c.in_ok-digests.digests.items (c.args.digest ∷ []))
+root_over-root-requires g t c = omega (
+  arith,
+  ap length (c.as_slice.ensures.value ∙ c.in_ok-push.ensures.items),
+  length-append c.in_ok-digests.digests.items (c.args.digest ∷ []),
+)
 
 pub new-requires-clause-level : goal.new-requires-clause-level
 new-requires-clause-level g t c = omega (arith, fits_low c.args.level c.args.count c.requires.fits)
@@ -62,7 +83,8 @@ overflow_add-level g t c = omega (arith, fits_low c.args.level c.args.count c.re
 
 pub new-requires-2 : goal.new-requires-2
 new-requires-2 g t c =
-    let digests = c.in_ok-push.ensures.items ∙ ap (λ l. l ++ c.args.digest ∷ []) (c.in_ok-digests.ensures ∙ c.split_at.ensures.back) in
+    let digests = c.in_ok-push.ensures.items ∙ ap (λ l. l ++ c.args.digest ∷ [])
+    (c.in_ok-digests.ensures ∙ c.split_at.ensures.back) in
     omega (
       arith,
       c.new.ensures.width,
@@ -83,7 +105,12 @@ fill-requires g t c κs within =
           search rules,
           (
             next_fits c.args.level c.args.count c.requires.fits full,
-            omega (arith, c.split_at.ensures.front_len, c.requires.width, (width_full c.args.level c.args.count (fits_low c.args.level c.args.count c.requires.fits) full).0),
+            omega (
+              arith,
+              c.split_at.ensures.front_len,
+              c.requires.width,
+              (width_full c.args.level c.args.count (fits_low c.args.level c.args.count c.requires.fits) full).0,
+            ),
           ),
         ),
       ),
@@ -94,20 +121,33 @@ returns g t c =
     let H = g.D.SupportedDigest.digest in
     let full : c.args.count % 256 ≡ 255 = omega arith in
     let low = fits_low c.args.level c.args.count c.requires.fits in
-    let digests = c.in_ok-push.ensures.items ∙ ap (λ l. l ++ c.args.digest ∷ []) (c.in_ok-digests.ensures ∙ c.split_at.ensures.back) in
+    let digests = c.in_ok-push.ensures.items ∙ ap (λ l. l ++ c.args.digest ∷ [])
+    (c.in_ok-digests.ensures ∙ c.split_at.ensures.back) in
     let up = λ (ds : List (List ℕ)) (is : EndsWith H ds c.args.level c.args.count c.args.edge.now c.args.digest).
-    ends_up H ds c.args.edge.now c.split_at.result.0.now c.push.new.self.items c.args.digest c.root_over-root.result c.args.level c.args.count low full is c.split_at.ensures.front
+    ends_up H ds c.args.edge.now c.split_at.result.0.now c.push.new.self.items c.args.digest c.root_over-root.result
+    c.args.level c.args.count low full is c.split_at.ensures.front
     digests (c.root_over-root.ensures ∙ ap (root_of H) c.as_slice.ensures.value) in
     record {
-      kept = IfOk-weaker c.fill.result _ _ (λ r h. (omega (arith, h.0, c.split_at.ensures.front_len), h.1 ∙ sym (width_full c.args.level c.args.count low full).1)) c.fill.ensures.kept;
-      edge = both c.fill.result _ _ _ (λ r kept edge ds is. edge_full H ds c.args.edge.now c.split_at.result.0.now r.1 c.args.level c.args.count r.0 low full c.split_at.ensures.front kept.0 (edge ds (up ds is)))
+      kept = IfOk-weaker c.fill.result _ _
+          (λ r h. (
+            omega (arith, h.0, c.split_at.ensures.front_len),
+            h.1
+                ∙ sym (width_full c.args.level c.args.count low full).1,
+          )) c.fill.ensures.kept;
+      edge = both c.fill.result _ _ _
+          (λ r kept edge ds is. edge_full H ds c.args.edge.now c.split_at.result.0.now r.1 c.args.level c.args.count r.0
+          low full c.split_at.ensures.front kept.0 (edge ds (up ds is)))
           c.fill.ensures.kept c.fill.ensures.edge;
       filled = on_ok_weaker c.fill.result
           (λ filled ds is.
-          tile_added H ds c.args.edge.now c.push.new.self.items c.args.digest _ _ _ c.new.result c.args.level c.args.count low full is digests
-          (same_tile c.new.result c.args.level (c.args.count / 256) 256 c.new.ensures.level c.new.ensures.number c.new.ensures.width)
-          (ap (map (λ t. (t.tile, t.digests.items))) c.in_ok-push-2.ensures.items ∙ map-append (λ t. (t.tile, t.digests.items)) c.args.filled.now.items (c.new-2.result ∷ [])
-          ∙ ap (λ t. map (λ t. (t.tile, t.digests.items)) c.args.filled.now.items ++ t ∷ []) (cc (c.new-2.ensures.tile, c.new-2.ensures.digests)))
+          tile_added H ds c.args.edge.now c.push.new.self.items c.args.digest _ _ _ c.new.result c.args.level
+          c.args.count low full is digests
+          (same_tile c.new.result c.args.level (c.args.count / 256) 256 c.new.ensures.level c.new.ensures.number
+          c.new.ensures.width)
+          (ap (map (λ t. (t.tile, t.digests.items))) c.in_ok-push-2.ensures.items
+          ∙ map-append (λ t. (t.tile, t.digests.items)) c.args.filled.now.items (c.new-2.result ∷ [])
+          ∙ ap (λ t. map (λ t. (t.tile, t.digests.items)) c.args.filled.now.items ++ t ∷ [])
+          (cc (c.new-2.ensures.tile, c.new-2.ensures.digests)))
           (filled ds (up ds is)))
           c.fill.ensures.filled;
     }

@@ -15,7 +15,8 @@ returns-in_err-push g c = IfOk-from_err _ _ c.from_residual-in_err-push.ensures.
 pub digests-preserved : goal.digests-preserved
 digests-preserved g c =
     let d = c.digest-item.result in
-    let more = take_more c.args.digests.now c.digests.digest-index d c.digests-test.true ∙ ap (λ x. take c.digests.digest-index c.args.digests.now ++ x ∷ []) (sym c.digest-item.is) in
+    let more = take_more c.args.digests.now c.digests.digest-index d c.digests-test.true
+    ∙ ap (λ x. take c.digests.digest-index c.args.digests.now ++ x ∷ []) (sym c.digest-item.is) in
     rw (c.in_ok-push.ensures.items, c.copied.ensures, c.digests.invariant) (sym more)
 
 pub returns : goal.returns

@@ -17,6 +17,8 @@ returns c =
     let n = length ds in
     mapped c.inclusion_path.result _ _ c.inclusion_path.ensures.ok (λ path made.
     let inside : c.args.index < n = omega (arith, made.0, c.length.ensures.value) in
-    let is : inclusion_of (old_over sha256 (own_digest sha256 ds)) c.args.index n ≡ Some path.items = ap (inclusion_of (old_over sha256 (own_digest sha256 ds)) c.args.index) (sym c.length.ensures.value) ∙ made.1 in
+    let is : inclusion_of (old_over sha256 (own_digest sha256 ds)) c.args.index n ≡ Some path.items =
+    ap (inclusion_of (old_over sha256 (own_digest sha256 ds)) c.args.index) (sym c.length.ensures.value) ∙ made.1 in
     sym (ap (led_to sha256 c.args.index n (slice_index_or ds c.args.index [])) is)
-    ∙ c.own_inclusion_path.ensures sha256 ds c.args.index n inside (omega arith) ∙ ap (λ es. Some (root_of sha256 es)) (take-length ds))
+    ∙ c.own_inclusion_path.ensures sha256 ds c.args.index n inside (omega arith) ∙ ap (λ es. Some (root_of sha256 es))
+    (take-length ds))

@@ -11,5 +11,9 @@ pub returns : goal.returns
 returns c =
     IfOk-weaker c.open.result _ _
     (λ again h ds stands.
-    h ds (stands.count ∙ sym c.length.ensures.value) (subst (λ l. AllByRecursion (λ t. IsTileBy (own_digest sha256 ds) t.tile t.digests.items) l) (sym c.as_slice.ensures.value) (all_seen (λ t. IsTileBy (own_digest sha256 ds) t.0 t.1) (λ t. (t.tile, t.digests.items)) c.in_ok-tiles.tiles.items (c.in_ok-tiles.ensures.tiles ds stands).digests)))
+    h ds (stands.count ∙ sym c.length.ensures.value)
+    (subst (λ l. AllByRecursion (λ t. IsTileBy (own_digest sha256 ds) t.tile t.digests.items) l)
+    (sym c.as_slice.ensures.value)
+    (all_seen (λ t. IsTileBy (own_digest sha256 ds) t.0 t.1) (λ t. (t.tile, t.digests.items))
+    c.in_ok-tiles.tiles.items (c.in_ok-tiles.ensures.tiles ds stands).digests)))
     c.open.ensures.stands

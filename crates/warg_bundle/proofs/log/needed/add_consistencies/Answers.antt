@@ -6,11 +6,14 @@ use Rattle.warg_bundle.proofs.NeededLemmas.{added_more}
 use Rattle.warg_bundle.proofs.log.needed.add_consistencies.Goals as goal
 
 pub add_consistency-requires : goal.add_consistency-requires
-add_consistency-requires g c = rw c.proof-item.is (all_at (λ p. p.old_length ≤ p.new_length) c.args.proofs.now c.proofs.proof-index c.proof-item.result c.requires c.proofs-test.true)
+add_consistency-requires g c =
+    rw c.proof-item.is (all_at (λ p. p.old_length ≤ p.new_length) c.args.proofs.now c.proofs.proof-index
+    c.proof-item.result c.requires c.proofs-test.true)
 
 pub proofs-preserved : goal.proofs-preserved
 proofs-preserved g c =
-    added_more (λ p. needed_between p.old_length p.new_length) c.args.proofs.now c.proofs.proof-index c.proof-item.result _ _ _ c.proofs-test.true c.proof-item.is c.proofs.invariant c.in_ok-add_consistency.ensures
+    added_more (λ p. needed_between p.old_length p.new_length) c.args.proofs.now c.proofs.proof-index
+    c.proof-item.result _ _ _ c.proofs-test.true c.proof-item.is c.proofs.invariant c.in_ok-add_consistency.ensures
 
 pub returns : goal.returns
 returns g c = rw (take_all _ _ c.proofs-test.false) at c.proofs.invariant

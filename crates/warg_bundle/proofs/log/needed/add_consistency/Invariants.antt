@@ -5,4 +5,5 @@ use Rattle.warg_bundle.specs.Private.Unions.{IsUnion}
 use Rattle.warg_bundle.proofs.log.needed.add_consistency.Given as goal
 
 abbrev pub invariant-roots : goal.invariant-roots
-invariant-roots g l = IsUnion l.initial.numbers.keys l.numbers.keys (flat_map (λ p. p.leaf.0 ∷ needed p.leaf.0 p.log_length) (take l.inclusion-index l.inclusion-items))
+invariant-roots g l = IsUnion l.initial.numbers.keys l.numbers.keys
+    (flat_map (λ p. p.leaf.0 ∷ needed p.leaf.0 p.log_length) (take l.inclusion-index l.inclusion-items))

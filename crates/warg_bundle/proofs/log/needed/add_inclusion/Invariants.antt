@@ -5,4 +5,5 @@ use Rattle.warg_bundle.specs.Private.Unions.{IsUnion}
 use Rattle.warg_bundle.proofs.log.needed.add_inclusion.Given as goal
 
 abbrev pub invariant-nodes : goal.invariant-nodes
-invariant-nodes g l = IsUnion l.initial.numbers.keys l.numbers.keys (flat_map (λ (m : Node). m.0 ∷ []) (take l.node-index l.node-items))
+invariant-nodes g l = IsUnion l.initial.numbers.keys l.numbers.keys
+    (flat_map (λ (m : Node). m.0 ∷ []) (take l.node-index l.node-items))

@@ -9,20 +9,28 @@ use Rattle.warg_bundle.proofs.log.proof_bundle.read_hashes.Goals as goal
 
 pub entries-preserved : goal.entries-preserved
 entries-preserved g c =
-    let pushed = pairs_push c.entries.least c.entries.hashes.items c.push.new.self.items _ c.in_ok-push.ensures.items c.if-index-least.false c.entries.invariant.ascending c.entries.invariant.below in
+    let pushed = pairs_push c.entries.least c.entries.hashes.items c.push.new.self.items _ c.in_ok-push.ensures.items
+    c.if-index-least.false c.entries.invariant.ascending c.entries.invariant.below in
     record {
-      read = mapped_twice_more entry_view pair_of c.args.entries.now c.entries.entry-index c.entry-item.result c.entries.hashes.items c.push.new.self.items _ c.entries-test.true c.entry-item.is c.entries.invariant.read c.in_ok-push.ensures.items
-          (ap (λ h. (record { 0 = c.entry-item.result.index }, h)) (c.in_ok-hash.ensures.ok ∙ c.as_slice.ensures.value));
-      fault = entry_passed entry_view c.args.entries.now c.entries.entry-index c.entry-item.result c.entries.least _ c.as_slice.result.now c.entries-test.true c.entry-item.is c.as_slice.ensures.value (c.in_ok-hash.ensures.exactly.0 refl) c.if-index-least.false c.entries.invariant.fault;
+      read = mapped_twice_more entry_view pair_of c.args.entries.now c.entries.entry-index c.entry-item.result
+          c.entries.hashes.items c.push.new.self.items _ c.entries-test.true c.entry-item.is c.entries.invariant.read
+          c.in_ok-push.ensures.items
+          (ap (λ h. (record { 0 = c.entry-item.result.index }, h))
+          (c.in_ok-hash.ensures.ok ∙ c.as_slice.ensures.value));
+      fault = entry_passed entry_view c.args.entries.now c.entries.entry-index c.entry-item.result c.entries.least _
+          c.as_slice.result.now c.entries-test.true c.entry-item.is c.as_slice.ensures.value
+          (c.in_ok-hash.ensures.exactly.0 refl) c.if-index-least.false c.entries.invariant.fault;
       ascending = pushed.0;
       below = pushed.1;
     }
 
 pub returns-clause-ok : goal.returns-clause-ok
-returns-clause-ok g c = mapped_twice_whole entry_view pair_of c.args.entries.now c.entries.entry-index c.entries.hashes.items c.entries.invariant.read c.entries-test.false
+returns-clause-ok g c = mapped_twice_whole entry_view pair_of c.args.entries.now c.entries.entry-index
+    c.entries.hashes.items c.entries.invariant.read c.entries-test.false
 
 pub returns-clause-good : goal.returns-clause-good
-returns-clause-good g c = no_entry_left entry_view c.args.entries.now c.entries.entry-index c.entries.least _ c.entries.invariant.fault c.entries-test.false
+returns-clause-good g c = no_entry_left entry_view c.args.entries.now c.entries.entry-index c.entries.least _
+    c.entries.invariant.fault c.entries-test.false
 
 pub returns-clause-wire : goal.returns-clause-wire
 returns-clause-wire g c e bad = done_not_wire c.entries.hashes e bad
@@ -30,7 +38,9 @@ returns-clause-wire g c e bad = done_not_wire c.entries.hashes e bad
 pub returns-in_err-hash-clause-fault : goal.returns-in_err-hash-clause-fault
 returns-in_err-hash-clause-fault g c =
     let p = err_from_is_err_and c.from_residual.result c.from_residual.ensures.1 in
-    rw (p.1, p.2) (inr (entry_short entry_view c.args.entries.now c.entries.entry-index c.entry-item.result c.entries.least _ c.as_slice.result.now HashLength c.entries-test.true c.entry-item.is c.as_slice.ensures.value c.entries.invariant.fault (refl, λ long. absurd (cc (c.in_err-hash.ensures.exactly.1 long)))))
+    rw (p.1, p.2) (inr (entry_short entry_view c.args.entries.now c.entries.entry-index c.entry-item.result
+    c.entries.least _ c.as_slice.result.now HashLength c.entries-test.true c.entry-item.is c.as_slice.ensures.value
+    c.entries.invariant.fault (refl, λ long. absurd (cc (c.in_err-hash.ensures.exactly.1 long)))))
 
 pub returns-in_err-hash-clause-wire : goal.returns-in_err-hash-clause-wire
 returns-in_err-hash-clause-wire g c e bad =
@@ -39,7 +49,9 @@ returns-in_err-hash-clause-wire g c e bad =
 
 pub returns-then-index-least-clause-fault : goal.returns-then-index-least-clause-fault
 returns-then-index-least-clause-fault g c =
-    inr (entry_low entry_view c.args.entries.now c.entries.entry-index c.entry-item.result c.entries.least _ c.as_slice.result.now c.entries-test.true c.entry-item.is c.as_slice.ensures.value (c.in_ok-hash.ensures.exactly.0 refl) c.if-index-least.true c.entries.invariant.fault)
+    inr (entry_low entry_view c.args.entries.now c.entries.entry-index c.entry-item.result c.entries.least _
+    c.as_slice.result.now c.entries-test.true c.entry-item.is c.as_slice.ensures.value
+    (c.in_ok-hash.ensures.exactly.0 refl) c.if-index-least.true c.entries.invariant.fault)
 
 pub returns-then-index-least-clause-wire : goal.returns-then-index-least-clause-wire
 returns-then-index-least-clause-wire g c e bad = low_not_wire e bad

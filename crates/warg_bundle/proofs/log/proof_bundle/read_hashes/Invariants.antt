@@ -8,7 +8,8 @@ use Rattle.warg_bundle.proofs.log.proof_bundle.read_hashes.Given as goal
 abbrev pub invariant-entries : goal.invariant-entries
 invariant-entries g l = record {
   read : l.hashes.items ≡ map pair_of (map entry_view (take l.entry-index l.entries));
-  fault : entries_fault 0 (map entry_view l.entries) ≡ entries_fault l.least (map entry_view (drop l.entry-index l.entries));
+  fault : entries_fault 0 (map entry_view l.entries) ≡ entries_fault l.least
+      (map entry_view (drop l.entry-index l.entries));
   ascending : IsAscending l.hashes.items;
   below : AllByRecursion (λ p. p.0.0 < l.least) l.hashes.items;
 }

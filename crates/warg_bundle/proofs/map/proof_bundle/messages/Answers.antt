@@ -6,13 +6,17 @@ use Rattle.warg_bundle.proofs.map.proof_bundle.messages.Goals as goal
 
 pub proofs-preserved : goal.proofs-preserved
 proofs-preserved g c = record {
-  written = written_more proof_view c.args.proofs.now c.proofs.proof-index c.proofs.messages.items _ c.push.new.self.items c.proof-item.result c.proofs-test.true c.proof-item.is
+  written = written_more proof_view c.args.proofs.now c.proofs.proof-index c.proofs.messages.items _
+      c.push.new.self.items c.proof-item.result c.proofs-test.true c.proof-item.is
       c.in_ok-to_message.ensures.ok c.in_ok-push.ensures.items c.proofs.invariant.written;
-  fault = c.proofs.invariant.fault ∙ fault_after proof_fault c.args.proofs.now c.proofs.proof-index c.proof-item.result c.proofs-test.true c.proof-item.is (rw c.in_ok-to_message.ensures.ok at (no_fault _ _ _ c.in_ok-to_message.ensures.again).0);
+  fault = c.proofs.invariant.fault ∙ fault_after proof_fault c.args.proofs.now c.proofs.proof-index c.proof-item.result
+      c.proofs-test.true c.proof-item.is
+      (rw c.in_ok-to_message.ensures.ok at (no_fault _ _ _ c.in_ok-to_message.ensures.again).0);
 }
 
 pub returns : goal.returns
 returns g c = record {
-  ok = written_all proof_view c.args.proofs.now c.proofs.proof-index c.proofs.messages.items c.proofs.invariant.written c.proofs-test.false;
+  ok = written_all proof_view c.args.proofs.now c.proofs.proof-index c.proofs.messages.items c.proofs.invariant.written
+      c.proofs-test.false;
   good = no_fault_left proof_fault c.args.proofs.now c.proofs.proof-index c.proofs.invariant.fault c.proofs-test.false;
 }

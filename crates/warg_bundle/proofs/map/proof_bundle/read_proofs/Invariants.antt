@@ -10,5 +10,6 @@ invariant-messages g l = record {
   can : (goal.iterator-messages g).can_next l.message-iterator;
   ends : (goal.iterator-messages g).is_finite l.message-iterator;
   read : l.proofs.items ++ map proof_view (into_iter_items l.message-iterator) ≡ map proof_view l.fn.messages.items;
-  fault : first_fault proof_fault (map proof_view l.fn.messages.items) ≡ first_fault proof_fault (map proof_view (into_iter_items l.message-iterator));
+  fault : first_fault proof_fault (map proof_view l.fn.messages.items) ≡ first_fault proof_fault
+      (map proof_view (into_iter_items l.message-iterator));
 }

@@ -22,7 +22,8 @@ returns-in-Some g c =
     (by_bundle c.args.bytes.now c.args.at) ≡ Ok true =
     seen_true _ _ (c.in_ok-is_true.ensures _ c.check_insertion-verdict.ensures.verdict) c.if-not-branch.false in
     if_ok _ _ c.witness_change.result
-    (λ finding. insertion_convicts H c.args.bytes.now c.args.at key value c.args.old_root.now c.args.new_root.now old new
+    (λ finding. insertion_convicts H c.args.bytes.now c.args.at key value c.args.old_root.now c.args.new_root.now old
+    new
     c.in-Ok.bundle c.in-Some.absence.now finding c.in-Ok.ensures.exact
     (at_place _ _ _ _ (c.as_slice.ensures.value ∙ c.unbundle_all-proofs.ensures.absences) get.3.0 get.1) shown)
     c.witness_change.ensures.found

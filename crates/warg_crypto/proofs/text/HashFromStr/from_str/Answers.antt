@@ -19,13 +19,21 @@ spelled text h e =
     let whole : decode_of text ≡ decode_sized text 32 = grind (arith, has_64) in
     record { value = whole ∙ sym e; exactly = (λ _. is, λ _. refl) }
 
-refused : (text : List ℕ) (e : FromHexError) → Err e ≡ decode_sized text 32 → SpellsHash {E = HashDigits} text (Err (record {}))
+refused : (text : List ℕ) (e : FromHexError) → Err e ≡ decode_sized text 32
+    → SpellsHash {E = HashDigits} text (Err (record {}))
 refused text e is =
     let digits = IsOk-decode_sized text 32 in
-    record { value = tt; exactly = (λ ok. absurd (not_true ok), λ all. absurd (not_true (subst IsOk (sym is) (digits.1 all)))) }
+    record {
+      value = tt;
+      exactly = (
+        λ ok. absurd (not_true ok),
+        λ all. absurd (not_true (subst IsOk (sym is) (digits.1 all))),
+      );
+    }
 
 pub returns-in-Ok : goal.returns-in-Ok
-returns-in-Ok g c = rw c.from_array.ensures (spelled c.args.text.now c.in-Ok.bytes (sym c.in-Ok.is ∙ c.from_hex.ensures))
+returns-in-Ok g c = rw c.from_array.ensures
+    (spelled c.args.text.now c.in-Ok.bytes (sym c.in-Ok.is ∙ c.from_hex.ensures))
 
 pub returns-in-Err : goal.returns-in-Err
 returns-in-Err g c = refused c.args.text.now c.in-Err.field-0 (sym c.in-Err.is ∙ c.from_hex.ensures)

@@ -5,5 +5,7 @@ use Rattle.warg_log.proofs.branches.BranchCache.join.Goals as goal
 
 pub invariant_of-self : goal.invariant_of-self
 invariant_of-self g c =
-    rw c.push.ensures.items (all_push (λ b. b.digest ≡ branch g.D.SupportedDigest.digest b.left b.right) _ _ c.self.invariant
-    (rw (c.copied-then-not-is_full-2.ensures, c.copied-then-not-is_full.ensures, c.copied.ensures) c.hash_branch-digest.ensures))
+    rw c.push.ensures.items (all_push (λ b. b.digest ≡ branch g.D.SupportedDigest.digest b.left b.right) _ _
+    c.self.invariant
+    (rw (c.copied-then-not-is_full-2.ensures, c.copied-then-not-is_full.ensures, c.copied.ensures)
+    c.hash_branch-digest.ensures))

@@ -7,14 +7,16 @@ use Rattle.warg_log.proofs.consistency.ConsistencyProof.evaluate.Goals as goal
 
 pub returns-then-self-eq0 : goal.returns-then-self-eq0
 returns-then-self-eq0 g c = record {
-  value = rw (← c.self.view_is) (no_length_is g.D.SupportedDigest.digest (g.L.LogData.digest_at c.args.hashes.now) c.self.inside.old_length c.self.inside.new_length c.if-self-eq0.true);
+  value = rw (← c.self.view_is) (no_length_is g.D.SupportedDigest.digest (g.L.LogData.digest_at c.args.hashes.now)
+      c.self.inside.old_length c.self.inside.new_length c.if-self-eq0.true);
   memory = no_length.memory;
   within = no_length.within;
 }
 
 pub returns-then-self : goal.returns-then-self
 returns-then-self g c = record {
-  value = rw (← c.self.view_is) (out_of_order_is g.D.SupportedDigest.digest (g.L.LogData.digest_at c.args.hashes.now) c.self.inside.old_length c.self.inside.new_length c.if-self-eq0.false c.if-self.true);
+  value = rw (← c.self.view_is) (out_of_order_is g.D.SupportedDigest.digest (g.L.LogData.digest_at c.args.hashes.now)
+      c.self.inside.old_length c.self.inside.new_length c.if-self-eq0.false c.if-self.true);
   memory = out_of_order.memory;
   within = out_of_order.within;
 }
@@ -27,7 +29,9 @@ returns-in_err-new_root g c =
     let within = new_root_faults H F c.args.self.now.new_length (balanced_roots c.args.self.now.old_length) in
     let faults = passed_on _ _ _ _ within c.in_err-new_root.ensures p.2 p.1 in
     record {
-      value = rw (p.1, p.2, ← c.self.view_is) (in_order_is H F c.self.inside.old_length c.self.inside.new_length (Err c.in_err-new_root.field-0.0) (old_root H F c.self.inside.old_length) c.if-self-eq0.false c.if-self.false (rw (← c.self.view_is) at c.in_err-new_root.ensures) refl);
+      value = rw (p.1, p.2, ← c.self.view_is) (in_order_is H F c.self.inside.old_length c.self.inside.new_length
+          (Err c.in_err-new_root.field-0.0) (old_root H F c.self.inside.old_length) c.if-self-eq0.false c.if-self.false
+          (rw (← c.self.view_is) at c.in_err-new_root.ensures) refl);
       memory = faults.memory;
       within = faults.within;
     }
@@ -37,7 +41,8 @@ returns-in-Some g c =
     let H = g.D.SupportedDigest.digest in
     let F = g.L.LogData.digest_at c.args.hashes.now in
     record {
-      value = rw (← c.self.view_is) (in_order_is H F c.self.inside.old_length c.self.inside.new_length (Ok c.in_ok-new_root.new_root) (Some c.in-Some.old_root) c.if-self-eq0.false c.if-self.false
+      value = rw (← c.self.view_is) (in_order_is H F c.self.inside.old_length c.self.inside.new_length
+          (Ok c.in_ok-new_root.new_root) (Some c.in-Some.old_root) c.if-self-eq0.false c.if-self.false
           (rw (← c.self.view_is) at c.in_ok-new_root.ensures) (rw c.new-old.ensures at c.in-Some.ensures.root));
       memory = (faults_there _).memory;
       within = (faults_there _).within;
@@ -48,7 +53,8 @@ returns-in-None g c =
     let H = g.D.SupportedDigest.digest in
     let F = g.L.LogData.digest_at c.args.hashes.now in
     record {
-      value = rw (← c.self.view_is) (in_order_is H F c.self.inside.old_length c.self.inside.new_length (Ok c.in_ok-new_root.new_root) None c.if-self-eq0.false c.if-self.false
+      value = rw (← c.self.view_is) (in_order_is H F c.self.inside.old_length c.self.inside.new_length
+          (Ok c.in_ok-new_root.new_root) None c.if-self-eq0.false c.if-self.false
           (rw (← c.self.view_is) at c.in_ok-new_root.ensures) (rw c.new-old.ensures at c.in-None.ensures.root));
       memory = not_known.memory;
       within = not_known.within;

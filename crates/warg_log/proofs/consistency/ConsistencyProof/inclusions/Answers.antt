@@ -25,7 +25,10 @@ returns-in-Ok g c = rw (← c.self.view_is) (record {
 
 pub returns-in-Err : goal.returns-in-Err
 returns-in-Err g c = record {
-  order = rw (← c.self.view_is) (λ bad. absurd (memory_is_in_order bad), λ above. absurd (not_above _ _ c.if-self.false above));
+  order = rw (← c.self.view_is) (
+    λ bad. absurd (memory_is_in_order bad),
+    λ above. absurd (not_above _ _ c.if-self.false above),
+  );
   others = λ fault is. inr (one_error _ _ is);
   leaves = tt;
   lengths = tt;

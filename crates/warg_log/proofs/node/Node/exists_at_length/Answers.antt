@@ -5,4 +5,5 @@ pub returns-then-height-lt64 : goal.returns-then-height-lt64
 returns-then-height-lt64 c = last_leaf_test _ _ _ c.height-height.ensures.value c.if-height-lt64.true
 
 pub returns-else-height-lt64 : goal.returns-else-height-lt64
-returns-else-height-lt64 c = too_high_test _ _ _ c.height-height.ensures.value c.if-height-lt64.false c.ranges.length.fits
+returns-else-height-lt64 c = too_high_test _ _ _ c.height-height.ensures.value c.if-height-lt64.false
+    c.ranges.length.fits

@@ -19,7 +19,8 @@ module _ {X : Type 0} where
 
 pub returns-then-not-exists_at_length : goal.returns-then-not-exists_at_length
 returns-then-not-exists_at_length g c = record {
-  too_new = rw (← c.self.view_is) (λ _ exists. false≢true (sym c.if-not-exists_at_length.true ∙ c.exists_at_length.ensures.1 exists), λ _. refl);
+  too_new = rw (← c.self.view_is)
+      (λ _ exists. false≢true (sym c.if-not-exists_at_length.true ∙ c.exists_at_length.ensures.1 exists), λ _. refl);
   exists = tt;
   not_known = new_is_known;
   needed = tt;
@@ -46,7 +47,10 @@ returns-in-Ok g c =
 
 pub returns-in-Err : goal.returns-in-Err
 returns-in-Err g c = record {
-  too_new = rw (← c.self.view_is) (λ bad. absurd (memory_is_old bad), λ none. absurd (none (c.exists_at_length.ensures.0 c.if-not-exists_at_length.false)));
+  too_new = rw (← c.self.view_is) (
+    λ bad. absurd (memory_is_old bad),
+    λ none. absurd (none (c.exists_at_length.ensures.0 c.if-not-exists_at_length.false)),
+  );
   exists = tt;
   not_known = memory_is_known;
   needed = tt;

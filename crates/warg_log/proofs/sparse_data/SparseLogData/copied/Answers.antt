@@ -6,11 +6,13 @@ use Rattle.warg_log.proofs.sparse_data.SparseLogData.copied.Goals as goal
 pub pairs-preserved : goal.pairs-preserved
 pairs-preserved g c =
     let slice = c.as_slice-pair-items.ensures.value ∙ c.self.view_is in
-    copied_more _ _ c.pair-item.result _ _ _ (rw slice at c.pairs-test.true) (rw slice at c.pair-item.is) c.pairs.invariant c.in_ok-push.ensures.items
+    copied_more _ _ c.pair-item.result _ _ _ (rw slice at c.pairs-test.true)
+    (rw slice at c.pair-item.is) c.pairs.invariant c.in_ok-push.ensures.items
     (ap (λ d. (c.pair-item.result.0, d)) c.copied.ensures)
 
 pub returns : goal.returns
-returns g c = taken_whole _ _ _ c.pairs.invariant (rw (c.as_slice-pair-items.ensures.value ∙ c.self.view_is) at c.pairs-test.false)
+returns g c = taken_whole _ _ _ c.pairs.invariant
+    (rw (c.as_slice-pair-items.ensures.value ∙ c.self.view_is) at c.pairs-test.false)
 
 pub pairs-init : goal.pairs-init
 pairs-init g c = c.new-pairs.ensures.items
@@ -20,5 +22,6 @@ returns-in_err-push g c = IfOk-from_err c.from_residual.result _ c.from_residual
 
 pub invariant_of-result : goal.invariant_of-result
 invariant_of-result g c =
-    let all = taken_whole _ _ _ c.pairs.invariant (rw (c.as_slice-pair-items.ensures.value ∙ c.self.view_is) at c.pairs-test.false) in
+    let all = taken_whole _ _ _ c.pairs.invariant
+    (rw (c.as_slice-pair-items.ensures.value ∙ c.self.view_is) at c.pairs-test.false) in
     rw (all, ← c.self.view_is) c.self.invariant

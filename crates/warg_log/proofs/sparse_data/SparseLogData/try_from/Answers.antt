@@ -14,5 +14,9 @@ returns-then-are_ascending g c = record {
 pub returns-else-are_ascending : goal.returns-else-are_ascending
 returns-else-are_ascending g c = record {
   ok = tt;
-  exactly = (λ bad. absurd (false≢true bad), λ up. absurd (false≢true (sym c.if-are_ascending.false ∙ c.are_ascending.ensures.1 (rw c.as_slice.ensures.value up))));
+  exactly = (
+    λ bad. absurd (false≢true bad),
+    λ up. absurd (false≢true (sym c.if-are_ascending.false
+        ∙ c.are_ascending.ensures.1 (rw c.as_slice.ensures.value up))),
+  );
 }

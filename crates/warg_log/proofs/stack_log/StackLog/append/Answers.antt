@@ -17,7 +17,10 @@ returns-in_err-push g c =
     rw (p.1, p.2) (record {
       ok = tt;
       node = tt;
-      full = (λ bad. absurd (memory_is_not_full bad), λ full. absurd (c.if-length-eq-GREATEST_LENGTH.false (c.length.ensures.value ∙ full)));
+      full = (
+        λ bad. absurd (memory_is_not_full bad),
+        λ full. absurd (c.if-length-eq-GREATEST_LENGTH.false (c.length.ensures.value ∙ full)),
+      );
       err = c.in_err-push.ensures.err;
     })
 
@@ -25,6 +28,9 @@ pub returns : goal.returns
 returns g c = record {
   ok = c.in_ok-push.ensures.ok;
   node = c.in_ok-push.ensures.node;
-  full = (λ bad. absurd (not_refused _ _ bad), λ full. absurd (c.if-length-eq-GREATEST_LENGTH.false (c.length.ensures.value ∙ full)));
+  full = (
+    λ bad. absurd (not_refused _ _ bad),
+    λ full. absurd (c.if-length-eq-GREATEST_LENGTH.false (c.length.ensures.value ∙ full)),
+  );
   err = tt;
 }

@@ -11,7 +11,10 @@ pub returns-then-self-gt-GREATEST_IMAGE : goal.returns-then-self-gt-GREATEST_IMA
 returns-then-self-gt-GREATEST_IMAGE g c = record {
   ok = tt;
   again = tt;
-  too_large = rw (← c.self.view_is) (λ _. roots_too_large c.self.inside.count c.if-self-gt-GREATEST_IMAGE.true, λ _. refl);
+  too_large = rw (← c.self.view_is) (
+    λ _. roots_too_large c.self.inside.count c.if-self-gt-GREATEST_IMAGE.true,
+    λ _. refl,
+  );
   fits = tt;
 }
 
@@ -21,7 +24,11 @@ returns-in_err-stack g c =
     rw (p.1, p.2) (record {
       ok = tt;
       again = tt;
-      too_large = (λ bad. absurd (memory_fits bad), λ unfit. absurd (unfit (rw (← c.self.view_is) (roots_fit c.self.inside.count c.if-self-gt-GREATEST_IMAGE.false))));
+      too_large = (
+        λ bad. absurd (memory_fits bad),
+        λ unfit. absurd (unfit (rw (← c.self.view_is)
+            (roots_fit c.self.inside.count c.if-self-gt-GREATEST_IMAGE.false))),
+      );
       fits = tt;
     })
 
@@ -33,7 +40,8 @@ returns g c =
     rw (← c.self.view_is) (record {
       ok = message;
       again = ap stack_in message
-          ∙ stack_again c.self.inside.count c.self.inside.blocks.items c.self.invariant.0 (rw c.as_slice.ensures.value at c.in_ok-stack.ensures.lengths);
+          ∙ stack_again c.self.inside.count c.self.inside.blocks.items c.self.invariant.0
+          (rw c.as_slice.ensures.value at c.in_ok-stack.ensures.lengths);
       too_large = (λ bad. absurd (not_refused _ _ bad), λ unfit. absurd (unfit fits));
       fits = fits;
     })

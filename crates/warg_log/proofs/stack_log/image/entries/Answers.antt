@@ -23,19 +23,28 @@ pub blocks-2-preserved : goal.blocks-2-preserved
 blocks-2-preserved g c = record {
   count = omega (arith, ap length c.in-Some.ensures.steps);
   fit = (rw c.in-Some.ensures.steps at c.blocks-2.invariant.fit).1;
-  written = entry_more entry_view _ _ c.in-Some.root.0 _ _ c.block-item.result _ _ c.in_ok-written.written _ c.in-Some.ensures.steps c.blocks-2-test.true c.block-item.is
-      (rw (c.in_ok-written.ensures.index, c.in_ok-written.ensures.hash) refl) c.in_ok-push.ensures.items c.blocks-2.invariant.written;
-  lengths = all_more (λ d. length d ≡ 32) _ _ _ c.blocks-2-test.true c.block-item.is c.blocks-2.invariant.lengths c.in_ok-written.ensures.length;
+  written = entry_more entry_view _ _ c.in-Some.root.0 _ _ c.block-item.result _ _ c.in_ok-written.written _
+      c.in-Some.ensures.steps c.blocks-2-test.true c.block-item.is
+      (rw (c.in_ok-written.ensures.index, c.in_ok-written.ensures.hash) refl) c.in_ok-push.ensures.items
+      c.blocks-2.invariant.written;
+  lengths = all_more (λ d. length d ≡ 32) _ _ _ c.blocks-2-test.true c.block-item.is c.blocks-2.invariant.lengths
+      c.in_ok-written.ensures.length;
 }
 
 pub returns-in_err-written : goal.returns-in_err-written
 returns-in_err-written g c =
-    record { entries = IfOk-from_err c.from_residual.result _ c.from_residual.ensures.0; lengths = IfOk-from_err c.from_residual.result _ c.from_residual.ensures.0 }
+    record {
+      entries = IfOk-from_err c.from_residual.result _ c.from_residual.ensures.0;
+      lengths = IfOk-from_err c.from_residual.result _ c.from_residual.ensures.0;
+    }
 
 pub returns-in_err-push : goal.returns-in_err-push
 returns-in_err-push g c =
     let refused = c.from_residual-in_err-push.ensures.0 in
-    record { entries = IfOk-from_err c.from_residual-in_err-push.result _ refused; lengths = IfOk-from_err c.from_residual-in_err-push.result _ refused }
+    record {
+      entries = IfOk-from_err c.from_residual-in_err-push.result _ refused;
+      lengths = IfOk-from_err c.from_residual-in_err-push.result _ refused;
+    }
 
 pub returns : goal.returns
 returns g c = record {

@@ -19,7 +19,8 @@ returns-in_err-hash g c =
         rw (
           c.entries.invariant.good,
           front_left _ _ c.entry-item.result c.entries-test.true c.entry-item.is,
-          ne_eqb (length c.entry-item.result.hash.items) 32 (λ is. false≢true (c.in_err-hash.ensures.exactly.1 (rw c.as_slice.ensures.value is))),
+          ne_eqb (length c.entry-item.result.hash.items) 32
+              (λ is. false≢true (c.in_err-hash.ensures.exactly.1 (rw c.as_slice.ensures.value is))),
         ) refl,
       );
     })
@@ -31,17 +32,21 @@ returns-in_err-push g c =
 
 pub entries-preserved : goal.entries-preserved
 entries-preserved g c = record {
-  read = mapped_twice_more entry_view (λ e. e.hash) _ _ c.entry-item.result _ _ _ c.entries-test.true c.entry-item.is c.entries.invariant.read c.in_ok-push.ensures.items
+  read = mapped_twice_more entry_view (λ e. e.hash) _ _ c.entry-item.result _ _ _ c.entries-test.true c.entry-item.is
+      c.entries.invariant.read c.in_ok-push.ensures.items
       (c.in_ok-hash.ensures.ok ∙ c.as_slice.ensures.value);
   good = c.entries.invariant.good ∙ rw (
     front_left _ _ c.entry-item.result c.entries-test.true c.entry-item.is,
-    eq-eqb (length c.entry-item.result.hash.items) 32 (rw c.as_slice.ensures.value at (c.in_ok-hash.ensures.exactly.0 refl)),
+    eq-eqb (length c.entry-item.result.hash.items) 32
+        (rw c.as_slice.ensures.value at (c.in_ok-hash.ensures.exactly.0 refl)),
   ) refl;
 }
 
 pub returns : goal.returns
 returns g c = record {
   ok = mapped_twice_whole entry_view (λ e. e.hash) _ _ _ c.entries.invariant.read c.entries-test.false;
-  good = c.entries.invariant.good ∙ ap (λ es. first_fault digest_fault (map (λ (e : Entry). e.hash) (map entry_view es))) (drop_all _ _ c.entries-test.false);
+  good = c.entries.invariant.good
+      ∙ ap (λ es. first_fault digest_fault (map (λ (e : Entry). e.hash) (map entry_view es)))
+      (drop_all _ _ c.entries-test.false);
   fault = tt;
 }

@@ -9,7 +9,8 @@ roots-init g c = no_root _ _ _ c.self.invariant.0
 
 pub roots-preserved : goal.roots-preserved
 roots-preserved g c =
-    next_root _ _ c.self.inside.tree.items c.roots.end _ c.roots.root c.index-left.result.now _ c.roots-test.true (omega arith) refl c.self.invariant.1 c.roots.invariant c.index-left.ensures (elim c.match-root.branch [
+    next_root _ _ c.self.inside.tree.items c.roots.end _ c.roots.root c.index-left.result.now _ c.roots-test.true
+    (omega arith) refl c.self.invariant.1 c.roots.invariant c.index-left.ensures (elim c.match-root.branch [
       | in-Some w ↦ rw w.in-Some.is (w.root-is ∙ w.hash_branch.ensures)
       | in-None w ↦ rw w.in-None.is (w.root-is ∙ w.copied.ensures)
     ])
@@ -27,9 +28,14 @@ index-left-requires g c = omega (
 )
 
 pub roots-smaller : goal.roots-smaller
-roots-smaller g c = omega (arith, last_width c.roots.end c.roots-test.true (omega (arith, c.roots.auto.end-fits)), c.roots-test.true)
+roots-smaller g c = omega (
+  arith,
+  last_width c.roots.end c.roots-test.true (omega (arith, c.roots.auto.end-fits)),
+  c.roots-test.true,
+)
 
 pub returns : goal.returns
 returns g c =
     let none : c.roots.end ≡ 0 = omega (arith, c.roots-test.false) in
-    rw (c.unwrap_or.ensures, c.copied-2.ensures, c.self.invariant.2, ← c.self.view_is) (whole_root _ _ c.roots.root (rw none at c.roots.invariant))
+    rw (c.unwrap_or.ensures, c.copied-2.ensures, c.self.invariant.2, ← c.self.view_is)
+    (whole_root _ _ c.roots.root (rw none at c.roots.invariant))

@@ -13,7 +13,11 @@ returns-in_err-tree g c =
     rw (p.1, p.2) (record {
       ok = tt;
       again = tt;
-      too_large = (λ bad. absurd (memory_fits bad), λ large. absurd (not_above _ _ large (rw (← c.self.view_is, ← c.self.invariant.0) (fits_in_32 _ c.if-self.false))));
+      too_large = (
+        λ bad. absurd (memory_fits bad),
+        λ large. absurd (not_above _ _ large
+            (rw (← c.self.view_is, ← c.self.invariant.0) (fits_in_32 _ c.if-self.false))),
+      );
       fits = tt;
     })
 
@@ -27,7 +31,8 @@ returns g c =
     let fits = rw (c.self.invariant.0) at (fits_in_32 _ c.if-self.false) in
     rw (← c.self.view_is) (record {
       ok = message;
-      again = ap (vec_in H) (message ∙ is) ∙ message_read H _ _ is (all_good _ (rw c.as_slice.ensures.value at c.in_ok-tree.ensures.lengths));
+      again = ap (vec_in H) (message ∙ is)
+          ∙ message_read H _ _ is (all_good _ (rw c.as_slice.ensures.value at c.in_ok-tree.ensures.lengths));
       too_large = (λ bad. absurd (not_refused _ _ bad), λ large. absurd (not_above _ _ large fits));
       fits = fits;
     })

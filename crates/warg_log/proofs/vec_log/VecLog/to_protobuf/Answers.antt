@@ -9,7 +9,12 @@ use Rattle.warg_log.proofs.vec_log.VecLog.to_protobuf.Goals as goal
 pub returns-in_err-message : goal.returns-in_err-message
 returns-in_err-message g c =
     let p = err_from_is_err_and c.from_residual.result c.from_residual.ensures.1 in
-    rw (p.1, p.2) (record { written = tt; again = tt; too_large = same_fault _ _ c.in_err-message.ensures.too_large; fits = tt })
+    rw (p.1, p.2) (record {
+      written = tt;
+      again = tt;
+      too_large = same_fault _ _ c.in_err-message.ensures.too_large;
+      fits = tt;
+    })
 
 pub returns-in_err-encode : goal.returns-in_err-encode
 returns-in_err-encode g c =

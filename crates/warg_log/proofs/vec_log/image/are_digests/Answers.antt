@@ -6,7 +6,8 @@ use Rattle.warg_log.proofs.vec_log.image.are_digests.Goals as goal
 
 pub places-preserved : goal.places-preserved
 places-preserved g c = below_more _ _ c.places.invariant (
-    let same : c.as_slice.result.now ≡ c.bytes.result.now = grind (arith, bytes_decides c.as_slice.result.now c.bytes.result.now) in
+    let same : c.as_slice.result.now ≡ c.bytes.result.now =
+    grind (arith, bytes_decides c.as_slice.result.now c.bytes.result.now) in
     let digest = get_or_default c.args.digests.now c.places.place c.index-digests-place.result [] c.places-test.true in
     let hash = get_or_default c.args.tree.now c.places.place c.index-tree-place.result [] (omega arith) in
     cc)
@@ -18,8 +19,10 @@ pub returns-then-ne : goal.returns-then-ne
 returns-then-ne g c = (
   λ equal. absurd (false≢true equal),
   λ same.
-      let digest = get_or_default c.args.digests.now c.places.place c.index-digests-place.result [] c.places-test.true in
+      let digest = get_or_default c.args.digests.now c.places.place c.index-digests-place.result []
+      c.places-test.true in
       let hash = get_or_default c.args.tree.now c.places.place c.index-tree-place.result [] (omega arith) in
       let equal : c.as_slice.result.now ≡ c.bytes.result.now = cc in
-      absurd (false≢true (sym (rw ((bytes_decides c.as_slice.result.now c.bytes.result.now).1 equal) at c.if-ne.ensures))),
+      absurd (false≢true (sym (rw ((bytes_decides c.as_slice.result.now c.bytes.result.now).1 equal) at
+      c.if-ne.ensures))),
 )

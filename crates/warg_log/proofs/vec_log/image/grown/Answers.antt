@@ -21,15 +21,24 @@ push_leaf-requires g c = omega (
 
 pub places-preserved : goal.places-preserved
 places-preserved g c =
-    let more = leaves_more c.args.tree.now c.places.place c.index-tree-place.result c.places-test.true c.index-tree-place.is in
+    let more = leaves_more c.args.tree.now c.places.place c.index-tree-place.result c.places-test.true
+    c.index-tree-place.is in
     record {
       grown = elim c.if-place-eq0.branch [
-        | then-place-eq0+in_ok-push_leaf w ↦ rw (w.log-is, w.in_ok-push_leaf.ensures.ok, c.places.invariant.grown, c.in_ok-hash.ensures.ok, c.as_slice.ensures)
+        | then-place-eq0+in_ok-push_leaf w ↦ rw (
+          w.log-is,
+          w.in_ok-push_leaf.ensures.ok,
+          c.places.invariant.grown,
+          c.in_ok-hash.ensures.ok,
+          c.as_slice.ensures,
+        )
             (sym (more.0 w.if-place-eq0.true))
         | else-place-eq0 w ↦ rw (w.log-is, c.places.invariant.grown) (sym (more.1 (omega arith)))
       ];
-      good = c.places.invariant.good ∙ fault_after digest_fault c.args.tree.now c.places.place c.index-tree-place.result c.places-test.true c.index-tree-place.is
-          (rw (eq-eqb (length c.index-tree-place.result) 32 (rw c.as_slice.ensures at (c.in_ok-hash.ensures.exactly.0 refl))) refl);
+      good = c.places.invariant.good ∙ fault_after digest_fault c.args.tree.now c.places.place c.index-tree-place.result
+          c.places-test.true c.index-tree-place.is
+          (rw (eq-eqb (length c.index-tree-place.result) 32
+          (rw c.as_slice.ensures at (c.in_ok-hash.ensures.exactly.0 refl))) refl);
     }
 
 pub returns-in_err-hash : goal.returns-in_err-hash
@@ -43,7 +52,8 @@ returns-in_err-hash g c =
         rw (
           c.places.invariant.good,
           front_left _ _ c.index-tree-place.result c.places-test.true c.index-tree-place.is,
-          ne_eqb (length c.index-tree-place.result) 32 (λ is. false≢true (c.in_err-hash.ensures.exactly.1 (rw c.as_slice.ensures is))),
+          ne_eqb (length c.index-tree-place.result) 32
+              (λ is. false≢true (c.in_err-hash.ensures.exactly.1 (rw c.as_slice.ensures is))),
         ) refl,
       );
     })

@@ -23,7 +23,8 @@ returns-in-Err-BadLine g c =
     let some = some_bytes _ c.loop-rest-test.ensures in
     let next = first_line _ _ _ _ _ c.unwrap_or-rest.ensures refl some c.split_first.ensures in
     let is = rw c.in-Err-BadLine.field-0-is at c.in-Err-BadLine.ensures in
-    let all = stops _ _ _ _ _ _ _ c.loop-rest.invariant.stands next.0 is.0 (rw is.1 at c.in_ok-writeln-in-Err-BadLine.ensures.bytes) in
+    let all = stops _ _ _ _ _ _ _ c.loop-rest.invariant.stands next.0 is.0
+    (rw is.1 at c.in_ok-writeln-in-Err-BadLine.ensures.bytes) in
     record { text = all.0; good = sym all.1; room = all.2; errors = tt }
 
 pub returns-in-Err-Full : goal.returns-in-Err-Full
@@ -46,5 +47,6 @@ loop-rest-smaller g c =
 
 pub returns : goal.returns
 returns g c =
-    let all = ends _ _ _ _ c.loop-rest.invariant.stands (eqb-true _ _ (sym c.is_empty.ensures ∙ c.loop-rest-test.false)) in
+    let all = ends _ _ _ _ c.loop-rest.invariant.stands
+    (eqb-true _ _ (sym c.is_empty.ensures ∙ c.loop-rest-test.false)) in
     record { text = all.0; good = sym all.1; room = all.2; errors = tt }

@@ -11,5 +11,7 @@ returns g c s at =
       room = λ full. full;
       log_is = at.log_is;
       map_is = at.map_is;
-      text_is = λ number. c.in_ok-writeln.ensures.bytes ∙ log_shown (string_bytes c.args.self.now.text) s c.args.self.now.log _ _ at.log_is c.length-length.ensures.value c.root-root.ensures;
+      text_is = λ number. c.in_ok-writeln.ensures.bytes
+          ∙ log_shown (string_bytes c.args.self.now.text) s c.args.self.now.log _ _ at.log_is
+          c.length-length.ensures.value c.root-root.ensures;
     })

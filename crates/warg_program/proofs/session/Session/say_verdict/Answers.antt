@@ -20,10 +20,12 @@ pub returns-in-Err-Decode : goal.returns-in-Err-Decode
 unfolding answer
 returns-in-Err-Decode g c =
     let verdict = rw (c.in-Err-Decode.is, c.in-Err-Decode.field-0-is) at c.check_inclusion.ensures.verdict in
-    told _ _ _ (codes "refused not decoded") _ (λ s at. not_decoded _ _ verdict) (λ s. refl) (λ s full. full) c.say.ensures
+    told _ _ _ (codes "refused not decoded") _ (λ s at. not_decoded _ _ verdict) (λ s. refl)
+    (λ s full. full) c.say.ensures
 
 pub returns-in-Err-NoSuchProof : goal.returns-in-Err-NoSuchProof
 unfolding answer
 returns-in-Err-NoSuchProof g c =
     let verdict = rw (c.in-Err-NoSuchProof.is, c.in-Err-NoSuchProof.field-0-is) at c.check_inclusion.ensures.verdict in
-    told _ _ _ (codes "refused no such proof") _ (λ s at. no_proof _ verdict) (λ s. refl) (λ s full. full) c.say-in-Err-NoSuchProof.ensures
+    told _ _ _ (codes "refused no such proof") _ (λ s at. no_proof _ verdict) (λ s. refl)
+    (λ s full. full) c.say-in-Err-NoSuchProof.ensures

@@ -7,4 +7,5 @@ use Rattle.warg_protobuf.proofs.vec_log.VecLogMessage.push_to.Goals as goal
 pub returns-clause-written : goal.returns-clause-written
 unfolding vec_fields
 returns-clause-written g c =
-    IfOk-equal _ _ _ _ c.push_repeated.ensures (simp (c.in_ok-push_uint32.ensures.written, c.deref.ensures.value, flat_map-append, append_assoc))
+    IfOk-equal _ _ _ _ c.push_repeated.ensures
+    (simp (c.in_ok-push_uint32.ensures.written, c.deref.ensures.value, flat_map-append, append_assoc))

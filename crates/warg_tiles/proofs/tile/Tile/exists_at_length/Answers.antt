@@ -15,5 +15,6 @@ returns-then-self c = subst (λ (t : TileAt). (IsTrue false ↔ (tile_end t ≤ 
 pub returns : goal.returns
 returns c =
     let inside = c.self.inside in
-    subst (λ (t : TileAt). (IsTrue (leb (256 * inside.number + inside.width) (c.args.length / 2 ^ (8 * inside.level))) ↔ (tile_end t ≤ c.args.length))) c.self.view_is
+    subst (λ (t : TileAt). (IsTrue (leb (256 * inside.number + inside.width) (c.args.length / 2 ^ (8 * inside.level))) ↔
+    (tile_end t ≤ c.args.length))) c.self.view_is
     (by_nodes record { level = inside.level; number = inside.number; width = inside.width } c.args.length)

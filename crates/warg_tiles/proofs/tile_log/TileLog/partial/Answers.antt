@@ -10,10 +10,13 @@ returns-clause-tiles g c =
     (λ tiles h ds stands.
     let old = subst (λ (e : RightEdge). StandsFor g.D.SupportedDigest.digest e ds) (sym c.self.view_is) stands in
     let edge = c.as_slice.ensures.value ∙ edge_of g.D.SupportedDigest.digest _ ds old in
-    subst (λ (e : RightEdge). AreTilesOf g.D.SupportedDigest.digest ds (partial_tiles e.len) (map (λ t. (t.tile, t.digests.items)) tiles.items)) c.self.view_is (h g.D.SupportedDigest.digest ds old.count edge))
+    subst (λ (e : RightEdge). AreTilesOf g.D.SupportedDigest.digest ds (partial_tiles e.len)
+    (map (λ t. (t.tile, t.digests.items)) tiles.items)) c.self.view_is
+    (h g.D.SupportedDigest.digest ds old.count edge))
     c.partial_tiles.ensures.own
 
 pub returns-clause-value : goal.returns-clause-value
 returns-clause-value g c =
     IfOk-weaker c.partial_tiles.result _ _
-    (λ tiles split. split ∙ ap (λ l. split_into (partial_tiles c.self.inside.count) l) c.as_slice.ensures.value ∙ ap edge_tiles c.self.view_is) c.partial_tiles.ensures.split
+    (λ tiles split. split ∙ ap (λ l. split_into (partial_tiles c.self.inside.count) l) c.as_slice.ensures.value
+    ∙ ap edge_tiles c.self.view_is) c.partial_tiles.ensures.split

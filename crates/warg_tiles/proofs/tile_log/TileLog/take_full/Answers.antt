@@ -10,7 +10,9 @@ pub returns-clause-tiles : goal.returns-clause-tiles
 returns-clause-tiles g c = λ ds stands. rw (returns-clause-value g c) stands.full
 
 pub returns-clause-rest : goal.returns-clause-rest
-returns-clause-rest g c = rw (c.replace.ensures.after, c.new.ensures.items) (cc (ap (λ (e : RightEdge). e.len) c.self.view_is, ap (λ (e : RightEdge). e.digests) c.self.view_is))
+returns-clause-rest g c = rw (c.replace.ensures.after, c.new.ensures.items)
+    (cc (ap (λ (e : RightEdge). e.len) c.self.view_is, ap (λ (e : RightEdge). e.digests) c.self.view_is))
 
 pub returns-clause-stands : goal.returns-clause-stands
-returns-clause-stands g c = λ ds stands. rw (returns-clause-rest g c) (taken_stands g.D.SupportedDigest.digest c.args.self.now ds stands)
+returns-clause-stands g c = λ ds stands. rw (returns-clause-rest g c)
+    (taken_stands g.D.SupportedDigest.digest c.args.self.now ds stands)

@@ -8,24 +8,31 @@ pub returns-in-Some-clause-root : goal.returns-in-Some-clause-root
 returns-in-Some-clause-root g c = λ ds stands.
     let old = subst (λ (e : RightEdge). StandsFor g.D.SupportedDigest.digest e ds) (sym c.self.view_is) stands in
     let edge = c.as_slice.ensures.value ∙ edge_of g.D.SupportedDigest.digest _ ds old in
-    c.new.ensures.root ∙ root_found g.D.SupportedDigest.digest ds c.root_of_edge.result c.in-Some.root (c.root_of_edge.ensures.own ds old.count edge) c.in-Some.is
+    c.new.ensures.root ∙ root_found g.D.SupportedDigest.digest ds c.root_of_edge.result c.in-Some.root
+    (c.root_of_edge.ensures.own ds old.count edge) c.in-Some.is
 
 pub returns-in-None-clause-root : goal.returns-in-None-clause-root
 returns-in-None-clause-root g c = λ ds stands.
     let old = subst (λ (e : RightEdge). StandsFor g.D.SupportedDigest.digest e ds) (sym c.self.view_is) stands in
     let edge = c.as_slice.ensures.value ∙ edge_of g.D.SupportedDigest.digest _ ds old in
-    c.new-in-None.ensures.root ∙ c.hash_empty.ensures ∙ root_lacks g.D.SupportedDigest.digest ds c.root_of_edge.result (c.root_of_edge.ensures.own ds old.count edge) c.in-None.is
+    c.new-in-None.ensures.root ∙ c.hash_empty.ensures ∙ root_lacks g.D.SupportedDigest.digest ds c.root_of_edge.result
+    (c.root_of_edge.ensures.own ds old.count edge) c.in-None.is
 
 -- the root by what the edge gives
-by_tiles : (H : List ℕ → List ℕ) (e view : RightEdge) (edge : List (List ℕ)) (found : Option (List ℕ)) → edge ≡ e.digests → e ≡ view → found ≡ root_on H None (split_into (partial_tiles e.len) edge)
+by_tiles : (H : List ℕ → List ℕ) (e view : RightEdge) (edge : List (List ℕ)) (found : Option (List ℕ))
+    → edge ≡ e.digests → e ≡ view → found ≡ root_on H None (split_into (partial_tiles e.len) edge)
     → unwrap_or found (H []) ≡ root_by_tiles H (edge_tiles view)
 by_tiles H e view edge found same is made =
-    ap (λ o. unwrap_or o (H [])) (made ∙ ap (λ l. root_on H None (split_into (partial_tiles e.len) l)) same) ∙ ap (λ (v : RightEdge). root_by_tiles H (edge_tiles v)) is
+    ap (λ o. unwrap_or o (H [])) (made ∙ ap (λ l. root_on H None (split_into (partial_tiles e.len) l)) same)
+    ∙ ap (λ (v : RightEdge). root_by_tiles H (edge_tiles v)) is
 
 pub returns-in-Some-clause-by_tiles : goal.returns-in-Some-clause-by_tiles
 returns-in-Some-clause-by_tiles g c =
-    c.new.ensures.root ∙ by_tiles g.D.SupportedDigest.digest _ _ _ (Some c.in-Some.root) c.as_slice.ensures.value c.self.view_is (sym c.in-Some.is ∙ c.root_of_edge.ensures.by_tiles)
+    c.new.ensures.root ∙ by_tiles g.D.SupportedDigest.digest _ _ _ (Some c.in-Some.root) c.as_slice.ensures.value
+    c.self.view_is (sym c.in-Some.is ∙ c.root_of_edge.ensures.by_tiles)
 
 pub returns-in-None-clause-by_tiles : goal.returns-in-None-clause-by_tiles
 returns-in-None-clause-by_tiles g c =
-    c.new-in-None.ensures.root ∙ c.hash_empty.ensures ∙ by_tiles g.D.SupportedDigest.digest _ _ _ None c.as_slice.ensures.value c.self.view_is (sym c.in-None.is ∙ c.root_of_edge.ensures.by_tiles)
+    c.new-in-None.ensures.root ∙ c.hash_empty.ensures
+    ∙ by_tiles g.D.SupportedDigest.digest _ _ _ None c.as_slice.ensures.value c.self.view_is
+    (sym c.in-None.is ∙ c.root_of_edge.ensures.by_tiles)

@@ -13,14 +13,31 @@ pub returns-clause-again : goal.returns-clause-again
 returns-clause-again g c = ap (held_in log_bundle_in) c.in_ok-encode.ensures.again ∙ c.in_ok-message.ensures.again
 
 pub returns-clause-too_large : goal.returns-clause-too_large
-returns-clause-too_large g c = ((λ failed. absurd (done_not_failed _ _ failed)), (λ no. absurd (no c.in_ok-message.ensures.fits)))
+returns-clause-too_large g c =
+    ((λ failed. absurd (done_not_failed _ _ failed)), (λ no. absurd (no c.in_ok-message.ensures.fits)))
 
 pub returns-in_err-message : goal.returns-in_err-message
 returns-in_err-message g c =
     let p = err_from_is_err_and c.from_residual.result c.from_residual.ensures.1 in
-    rw (p.1, p.2) (record { written = tt; again = tt; too_large = ((λ failed. c.in_err-message.ensures.too_large.0 (err_again _ _ _ _ refl refl failed)), (λ no. err_again _ _ _ _ refl refl (c.in_err-message.ensures.too_large.1 no))); fits = tt })
+    rw (p.1, p.2) (record {
+      written = tt;
+      again = tt;
+      too_large = (
+        (λ failed. c.in_err-message.ensures.too_large.0 (err_again _ _ _ _ refl refl failed)),
+        (λ no. err_again _ _ _ _ refl refl (c.in_err-message.ensures.too_large.1 no)),
+      );
+      fits = tt;
+    })
 
 pub returns-in_err-encode : goal.returns-in_err-encode
 returns-in_err-encode g c =
     let p = err_from_is_err_and c.from_residual-in_err-encode.result c.from_residual-in_err-encode.ensures.1 in
-    rw (p.1, p.2) (record { written = tt; again = tt; too_large = ((λ failed. absurd (refused_not_large _ refl failed)), (λ no. absurd (no c.in_ok-message.ensures.fits))); fits = tt })
+    rw (p.1, p.2) (record {
+      written = tt;
+      again = tt;
+      too_large = (
+        (λ failed. absurd (refused_not_large _ refl failed)),
+        (λ no. absurd (no c.in_ok-message.ensures.fits)),
+      );
+      fits = tt;
+    })

@@ -6,7 +6,8 @@ use Rattle.warg_bundle.proofs.log.proof_bundle.ProofBundle.to_message.Goals as g
 use Rattle.warg_bundle.proofs.log.proof_bundle.ProofBundle.to_message.Goals.{Else-not-pairs_fit}
 
 pub indices-requires : goal.indices-requires
-indices-requires g c = rw (c.as_slice-2.ensures.value, ← c.deref.ensures.value) (c.nodes_fit.ensures.0 c.if-not-nodes_fit.false)
+indices-requires g c = rw (c.as_slice-2.ensures.value, ← c.deref.ensures.value)
+    (c.nodes_fit.ensures.0 c.if-not-nodes_fit.false)
 
 pub entries-requires : goal.entries-requires
 entries-requires g c = c.pairs_fit.ensures.0 c.if-not-pairs_fit.false
@@ -26,7 +27,8 @@ returns-clause-ok g c =
 pub returns-clause-again : goal.returns-clause-again
 returns-clause-again g c =
     ap log_bundle_in (returns-clause-ok g c)
-    ∙ rw (← c.self.view_is) (bundle_again _ c.pairs-pairs.ensures.ascending (rw c.pairs-pairs.ensures.value at c.in_ok-hashes.ensures.lengths))
+    ∙ rw (← c.self.view_is) (bundle_again _ c.pairs-pairs.ensures.ascending
+    (rw c.pairs-pairs.ensures.value at c.in_ok-hashes.ensures.lengths))
 
 -- the nodes fit
 fits : (g : _) (c : Else-not-pairs_fit g) → NodesFit c.args.self.now
@@ -39,7 +41,10 @@ pub returns-clause-fits : goal.returns-clause-fits
 returns-clause-fits g c = fits g (goal.at.returns-clause-fits g c).Else-not-pairs_fit
 
 pub returns-clause-too_large : goal.returns-clause-too_large
-returns-clause-too_large g c = ((λ e. absurd (done_not_failed _ _ e)), (λ no. absurd (no (fits g (goal.at.returns-clause-too_large g c).Else-not-pairs_fit))))
+returns-clause-too_large g c = (
+  (λ e. absurd (done_not_failed _ _ e)),
+  (λ no. absurd (no (fits g (goal.at.returns-clause-too_large g c).Else-not-pairs_fit))),
+)
 
 pub returns-in_err-consistent_lengths : goal.returns-in_err-consistent_lengths
 returns-in_err-consistent_lengths g c =
@@ -57,10 +62,27 @@ returns-in_err-consistent_lengths g c =
 
 pub returns-in_err-included_indices : goal.returns-in_err-included_indices
 returns-in_err-included_indices g c =
-    let p = err_from_is_err_and c.from_residual-in_err-included_indices.result c.from_residual-in_err-included_indices.ensures.1 in
-    rw (p.1, p.2) (record { ok = tt; again = tt; too_large = ((λ e. absurd (refused_not_large _ refl e)), (λ no. absurd (no (fits g (goal.at.returns-in_err-included_indices g c).Else-not-pairs_fit)))); fits = tt })
+    let p = err_from_is_err_and c.from_residual-in_err-included_indices.result
+    c.from_residual-in_err-included_indices.ensures.1 in
+    rw (p.1, p.2) (record {
+      ok = tt;
+      again = tt;
+      too_large = (
+        (λ e. absurd (refused_not_large _ refl e)),
+        (λ no. absurd (no (fits g (goal.at.returns-in_err-included_indices g c).Else-not-pairs_fit))),
+      );
+      fits = tt;
+    })
 
 pub returns-in_err-hashes : goal.returns-in_err-hashes
 returns-in_err-hashes g c =
     let p = err_from_is_err_and c.from_residual-in_err-hashes.result c.from_residual-in_err-hashes.ensures.1 in
-    rw (p.1, p.2) (record { ok = tt; again = tt; too_large = ((λ e. absurd (refused_not_large _ refl e)), (λ no. absurd (no (fits g (goal.at.returns-in_err-hashes g c).Else-not-pairs_fit)))); fits = tt })
+    rw (p.1, p.2) (record {
+      ok = tt;
+      again = tt;
+      too_large = (
+        (λ e. absurd (refused_not_large _ refl e)),
+        (λ no. absurd (no (fits g (goal.at.returns-in_err-hashes g c).Else-not-pairs_fit))),
+      );
+      fits = tt;
+    })

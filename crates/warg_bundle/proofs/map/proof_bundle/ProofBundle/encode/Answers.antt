@@ -18,7 +18,12 @@ returns-clause-too_large g c = λ failed. done_not_failed _ _ failed
 pub returns-in_err-message : goal.returns-in_err-message
 returns-in_err-message g c =
     let p = err_from_is_err_and c.from_residual.result c.from_residual.ensures.1 in
-    rw (p.1, p.2) (record { written = tt; again = tt; too_large = λ failed. c.in_err-message.ensures.too_large (err_again _ _ _ _ refl refl failed) })
+    rw (p.1, p.2) (record {
+      written = tt;
+      again = tt;
+      too_large = λ failed. c.in_err-message.ensures.too_large
+          (err_again _ _ _ _ refl refl failed);
+    })
 
 pub returns-in_err-encode : goal.returns-in_err-encode
 returns-in_err-encode g c =

@@ -8,7 +8,9 @@ use Rattle.warg_bundle.proofs.map.proof_bundle.ProofBundle.from_message.Goals as
 pub returns-in_err-absences-clause-exact : goal.returns-in_err-absences-clause-exact
 returns-in_err-absences-clause-exact g c =
     let p = err_from_is_err_and c.from_residual-in_err-absences.result c.from_residual-in_err-absences.ensures.1 in
-    rw (p.1, p.2) (⊎_elim (λ memory. inl memory) (λ fault. inr (rw c.in_ok-proofs.ensures.good (ap (λ o. unless o (map_view c.args.message)) fault))) c.in_err-absences.ensures.fault)
+    rw (p.1, p.2) (⊎_elim (λ memory. inl memory)
+    (λ fault. inr (rw c.in_ok-proofs.ensures.good (ap (λ o. unless o (map_view c.args.message)) fault)))
+    c.in_err-absences.ensures.fault)
 
 pub returns-in_err-proofs : goal.returns-in_err-proofs
 returns-in_err-proofs g c =
@@ -21,7 +23,9 @@ returns-in_err-proofs g c =
 
 pub returns : goal.returns
 returns g c =
-    let is = both_lists c.bundle_with.result (map_view c.args.message) (c.bundle_with.ensures.proofs ∙ c.in_ok-proofs.ensures.ok) (c.bundle_with.ensures.absences ∙ c.in_ok-absences.ensures.ok) in
+    let is = both_lists c.bundle_with.result (map_view c.args.message)
+    (c.bundle_with.ensures.proofs ∙ c.in_ok-proofs.ensures.ok) (c.bundle_with.ensures.absences
+    ∙ c.in_ok-absences.ensures.ok) in
     record {
       exact = rw (c.in_ok-proofs.ensures.good, c.in_ok-absences.ensures.good) (ap Ok (sym is));
       message = is;

@@ -6,7 +6,13 @@ use Rattle.warg_bundle.proofs.map.proof_bundle.ProofBundle.to_message.Goals as g
 
 pub returns-clause-ok : goal.returns-clause-ok
 returns-clause-ok g c =
-    rw (← c.self.view_is, c.in_ok-proofs.ensures.ok, c.in_ok-absences.ensures.ok, c.as_slice.ensures.value, c.as_slice-2.ensures.value) refl
+    rw (
+      ← c.self.view_is,
+      c.in_ok-proofs.ensures.ok,
+      c.in_ok-absences.ensures.ok,
+      c.as_slice.ensures.value,
+      c.as_slice-2.ensures.value,
+    ) refl
 
 pub returns-clause-again : goal.returns-clause-again
 returns-clause-again g c =
