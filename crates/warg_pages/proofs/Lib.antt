@@ -32,6 +32,7 @@ mod OwnUpdates
 mod FirstUpdates
 mod WhatStood
 mod SlotDigests
+mod SplitChanges
 mod Refused
 mod FinalPeers
 mod PremiseLemmas

@@ -1,7 +1,7 @@
 //! What insertions put under key digests.
 
-ghost use Rattle.std.specs.Prelude.{◌≡◌, ◌+◌, ◌^◌, ◌<◌, length, IfOk, IfErr};
-ghost use Rattle.std.specs.List.{filter};
+ghost use Rattle.std.specs.Prelude.{◌≡◌, ◌+◌, ◌^◌, ◌<◌, [], ℕ, length, vec_len, IfOk, IfErr};
+ghost use Rattle.std.specs.List.{filter, HoldsAt};
 ghost use Rattle.warg_map.specs.Sparse.{pair_bytes};
 ghost use Rattle.warg_pages.specs.Private.Updates.{changes_from, goes_to};
 
@@ -72,22 +72,34 @@ pub(crate) fn changes_of<D: SupportedDigest, K: VisitBytes, V: VisitBytes, A: Al
     Ok(changes)
 }
 
-/// Those of the changes whose key digest has this byte at a depth.
-pub(crate) fn changes_at<D, A: Allocator>(
+/// The changes split by the byte that their key digests have at a depth: 256 lists, each in the order of the changes.
+pub(crate) fn changes_by_byte<D, A: Allocator + Copy>(
     alloc: A,
     changes: &[Change<D>],
     depth: usize,
-    byte: u8,
-) -> Result<Vec<Change<D>, A>, WayError>
+) -> Result<Vec<Vec<Change<D>, A>, A>, WayError>
     requires { depth < 32 }
-    ensures ok { IfOk result (λ there. there.items ≡ filter (goes_to depth byte) changes.now) }
+    ensures ok { IfOk result (λ lists. (vec_len lists ≡ 256) × ((byte : ℕ) → byte < 256
+        → HoldsAt (λ list. list.items ≡ filter (goes_to depth byte) changes.now) lists.items byte)) }
     ensures err { IfErr result (λ e. e ≡ WayError.Memory) }
 {
-    let mut there = Vec::new(alloc);
+    let mut lists = empty_lists(alloc)?;
     for change in changes {
-        if change.key.bytes()[depth] == byte {
-            there.push(change.copied())?;
-        }
+        let list = &mut lists[change.key.bytes()[depth] as usize];
+        list.push(change.copied())?;
     }
-    Ok(there)
+    Ok(lists)
+}
+
+// 256 empty lists of changes.
+fn empty_lists<D, A: Allocator + Copy>(alloc: A) -> Result<Vec<Vec<Change<D>, A>, A>, WayError>
+    ensures ok { IfOk result (λ lists. (vec_len lists ≡ 256) × ((byte : ℕ) → byte < 256
+        → HoldsAt (λ list. list.items ≡ []) lists.items byte)) }
+    ensures err { IfErr result (λ e. e ≡ WayError.Memory) }
+{
+    let mut lists = Vec::with_capacity(alloc, 256)?;
+    for _ in 0..256usize {
+        lists.push(Vec::new(alloc))?;
+    }
+    Ok(lists)
 }

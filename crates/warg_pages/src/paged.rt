@@ -50,8 +50,8 @@ impl<D: SupportedDigest> PagedMap<D> {
     ///
     /// It reads each page that changes once. Of its branches those that stay are hashed once, those above a change
     /// twice. A lone key that gets a new value has its way down hashed before and after; one that meets a new key has it
-    /// hashed once for each byte more that both share. The memory is that of the pages that change, and one change for
-    /// each insertion in each page on its way.
+    /// hashed once for each byte more that both share. Each page looks at the insertions below it once. The memory is
+    /// that of the pages that change, and one change for each insertion in each page on its way.
     pub fn insert_all<K: VisitBytes, V: VisitBytes, P: Pages<A>, A: Allocator + Copy>(
         &mut self,
         alloc: A,

@@ -11,7 +11,7 @@ ghost use Rattle.warg_pages.specs.Refusals.{IsOfSourceUnless};
 
 use crate::alone::{lone_slot_after, stays_alone};
 use crate::below::page_below;
-use crate::change::{Change, changes_at};
+use crate::change::{Change, changes_by_byte};
 use crate::changed::ChangedPage;
 use crate::error::{ProveError, WayError};
 use crate::page::MapPage;
@@ -19,6 +19,7 @@ use crate::root_pair::page_roots;
 use crate::slot::Slot;
 use crate::source::Pages;
 use std::alloc::Allocator;
+use std::mem;
 use warg_crypto::{Hash, SupportedDigest};
 
 /// A page that changes: as it was, with the digest that it has to have, the changes below its prefix, and the version of
@@ -89,12 +90,14 @@ pub(crate) fn update_page<D: SupportedDigest, P: Pages<A>, A: Allocator + Copy>(
         → IsOwnUpdate D.digest (P.bytes_at pages.now) update.prefix.items
         update.version update.digest update.page update.changes.items old more → ⊥)) }
 {
+    let depth = update.prefix.as_slice().len();
+    let mut lists = changes_by_byte(alloc, update.changes.as_slice(), depth)?;
     let mut page = MapPage::new(alloc);
     for byte in 0..256usize {
-        let slot = slot_after(alloc, pages, &update, byte as u8, changed)?;
+        let there = mem::replace(&mut lists[byte], Vec::new(alloc));
+        let slot = slot_after(alloc, pages, &update, byte as u8, there, changed)?;
         page.put_behind(slot)?;
     }
-    let depth = update.prefix.as_slice().len();
     let (before, digest) = page_roots(depth, update.page.slots(), page.slots());
     if before != update.digest {
         return Err(ProveError::Way(WayError::WrongDigest));
@@ -104,16 +107,18 @@ pub(crate) fn update_page<D: SupportedDigest, P: Pages<A>, A: Allocator + Copy>(
     Ok(digest)
 }
 
-// The slot of a byte after the changes. The pages below it are changed and added.
+// The slot of a byte after the changes, of which these are those there. The pages below it are changed and added.
 #[cycle(update)]
 fn slot_after<D: SupportedDigest, P: Pages<A>, A: Allocator + Copy>(
     alloc: A,
     pages: &P,
     update: &PageUpdate<D, A>,
     byte: u8,
+    there: Vec<Change<D>, A>,
     changed: &mut Vec<ChangedPage<D, A>, A>,
 ) -> Result<Option<Slot<D>>, ProveError<P::Error>>
-    requires { length update.now.prefix.items < 32 }
+    requires short { length update.now.prefix.items < 32 }
+    requires there { there.items ≡ filter (goes_to (length update.now.prefix.items) byte) update.now.changes.items }
     ensures byte { IfOk result (λ slot. IfSome slot (λ x. x.byte ≡ byte)) }
     ensures ok { IfOk result (λ slot. (added : List ChangedPageAt)
         × (changed.new.items ≡ changed.old.items ++ added)
@@ -127,7 +132,7 @@ fn slot_after<D: SupportedDigest, P: Pages<A>, A: Allocator + Copy>(
         → IsOwnChange D.digest (P.bytes_at pages.now) update.now.prefix.items
         update.now.page update.now.changes.items old more → ⊥)) }
 {
-    match slot_update(alloc, pages, update, byte)? {
+    match slot_update(alloc, pages, update, byte, there)? {
         SlotUpdate::Whole(slot) => Ok(slot),
         SlotUpdate::Below(below) => {
             let version = below.version;
@@ -142,14 +147,16 @@ fn slot_after<D: SupportedDigest, P: Pages<A>, A: Allocator + Copy>(
     }
 }
 
-// What becomes of the slot of a byte.
+// What becomes of the slot of a byte, with these changes there.
 fn slot_update<D: SupportedDigest, P: Pages<A>, A: Allocator + Copy>(
     alloc: A,
     pages: &P,
     update: &PageUpdate<D, A>,
     byte: u8,
+    there: Vec<Change<D>, A>,
 ) -> Result<SlotUpdate<D, A>, ProveError<P::Error>>
-    requires { length update.now.prefix.items < 32 }
+    requires short { length update.now.prefix.items < 32 }
+    requires there { there.items ≡ filter (goes_to (length update.now.prefix.items) byte) update.now.changes.items }
     ensures ok { IfOk result (IsSlotUpdate D.digest (P.bytes_at pages.now) update.now.prefix.items
         update.now.page update.now.changes.items byte) }
     ensures err { IfErr result (IsOfSourceUnless ((old more : List (List ℕ × List ℕ))
@@ -158,7 +165,6 @@ fn slot_update<D: SupportedDigest, P: Pages<A>, A: Allocator + Copy>(
 {
     let prefix = update.prefix.as_slice();
     let slot = update.page.slot(byte);
-    let there = changes_at(alloc, update.changes.as_slice(), prefix.len(), byte)?;
     let Some(last) = there.as_slice().last() else {
         return Ok(SlotUpdate::Whole(copied_slot(slot)));
     };

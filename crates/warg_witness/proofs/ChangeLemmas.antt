@@ -25,7 +25,7 @@ use Rattle.warg_witness.proofs.AgreementLemmas.{finds_as}
 use Rattle.warg_witness.proofs.ClimbLemmas.{parts_placed}
 use Rattle.warg_witness.specs.declared.collision.Finding.{Finding}
 use Rattle.warg_witness.specs.declared.collision.Finding.TheVariants.{Holds, NotMet, Collision}
-use Rattle.warg_witness.proofs.InsertionLemmas.{last_with-is, last_of_digest, pair_at, length-pair_bytes}
+use Rattle.warg_witness.proofs.InsertionLemmas.{last_with-is, value_of_digest, pair_at, length-pair_bytes}
 use Rattle.warg_witness.proofs.KeyLemmas.{own_root}
 use Rattle.warg_witness.proofs.KeyPremiseLemmas.{own_input}
 use Rattle.warg_witness.proofs.MapLawLemmas.{agree, is_key}
@@ -75,7 +75,7 @@ module _ (H : List ℕ → List ℕ) (xs ys : Insertions) (q : List ℕ) (insert
     pub found_apart : {D A : _} (o : Option (List ℕ × List ℕ)) → last_under H (key_bits H q) xs ≡ o → IfSome o (λ e. q ≡ e.0) → (finding : Finding D A)
         → Finds (IsKeyMet H own q (value_in o) ys) (IsLastValue q (value_in o) ys) (IsKeyPlaced H own (value_in o) q ys) finding → Finds Unit ⊥ (IsPlacedInMaps H xs ys) finding
     found_apart o under of_key =
-        let first : value_in (last_insertion q xs) ≡ value_in o = ap value_in (last_of_digest H q xs (rw under of_key) ∙ under) in
+        let first = value_of_digest H q xs o under of_key in
         finds_as (IsKeyPlaced H own (value_in o) q ys) (IsPlacedInMaps H xs ys) (λ _. tt) (λ _. own_root H xs q own beside o under ∙ same) (λ is. apart (first ∙ sym is)) (λ no. absurd no) (λ _. placed o under)
 
 -- a step that is met

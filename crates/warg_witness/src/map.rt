@@ -11,6 +11,7 @@ ghost use Rattle.warg_witness.specs.MapPlaced.{IsKeyPlaced, IsKeyAgreementPlaced
 ghost use Rattle.warg_witness.specs.Private.MapMeeting.{IsKeyMeeting, key_inputs, lent_pair};
 
 mod change;
+mod indexed;
 mod last;
 mod maps;
 mod path;

@@ -44,9 +44,10 @@ fn lent<'a, K: VisitBytes, V: VisitBytes, A: Allocator>(
 /// digest function takes in the map of the old insertions and the new value (first) and in the map of the new ones (second)
 /// at one prefix of bits; or two inserted keys with one digest.
 ///
-/// It costs what `witness_update` does, the map of the new insertions, and a comparison of each inserted key with the
-/// others; for a collision of two maps one more map, and what `witness_key` does. It fails only if allocation fails, as
-/// there.
+/// It costs what `witness_update` does, the map of the new insertions, and one pass over the keys of both, each hashed
+/// three times and looked up by its digest, with memory for these digests. Only a key that isn't the last one of its
+/// digest is compared with all. For a collision of two maps it makes one more map, and does what `witness_key` does.
+/// It fails only if allocation fails, as there.
 pub fn witness_change<
     D: SupportedDigest,
     K: VisitBytes,
@@ -121,7 +122,7 @@ fn find_step<D: SupportedDigest, K: VisitBytes, V: VisitBytes, A: Allocator + Co
         (IsPlacedInStep D.digest divergence.now (pair_bytes K.bytes V.bytes updated.now)
         (pair_bytes K.bytes V.bytes given.now))) }
 {
-    let Some(apart) = key_apart(updated, given)? else {
+    let Some(apart) = key_apart::<D, K, V, A>(alloc, updated, given)? else {
         return Ok(Finding::Holds);
     };
     match divergence {

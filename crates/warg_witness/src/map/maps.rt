@@ -7,23 +7,22 @@ ghost use Rattle.warg_witness.specs.MapsPlaced.{HaveOneValue, HaveSameValues, Is
 
 use crate::collision::{Collision, Finding};
 use crate::map::find;
+use crate::map::indexed::Indexed;
 use crate::map::last::have_one_value;
 use crate::map::plain::{last_of_digest, own_proof};
 use std::alloc::{AllocError, Allocator};
 use warg_crypto::{Hash, SupportedDigest, VisitBytes, have_same_bytes};
 
 // The first of these keys whose last value isn't one in both maps.
-fn first_apart<'a, K: VisitBytes, V: VisitBytes>(
+fn first_apart<'a, D: SupportedDigest, K: VisitBytes, V: VisitBytes, A: Allocator + Copy>(
     of: &'a [(K, V)],
-    first: &[(K, V)],
-    second: &[(K, V)],
+    first: &Indexed<'_, D, K, V, A>,
+    second: &Indexed<'_, D, K, V, A>,
 ) -> Result<Option<&'a K>, AllocError>
     ensures { IfOk result (λ apart. MatchOption apart
-        (All (λ e. HaveOneValue (pair_bytes K.bytes V.bytes first.now)
-        (pair_bytes K.bytes V.bytes second.now) e.0) (pair_bytes K.bytes V.bytes of.now))
+        (All (λ e. HaveOneValue first.now second.now e.0) (pair_bytes K.bytes V.bytes of.now))
         (λ key. Contains (map (λ e. e.0) (pair_bytes K.bytes V.bytes of.now)) (K.bytes key.now)
-        × ¬ (HaveOneValue (pair_bytes K.bytes V.bytes first.now)
-        (pair_bytes K.bytes V.bytes second.now) (K.bytes key.now)))) }
+        × ¬ (HaveOneValue first.now second.now (K.bytes key.now)))) }
 {
     for (key, _) in of {
         if !have_one_value(key, first, second)? {
@@ -33,9 +32,10 @@ fn first_apart<'a, K: VisitBytes, V: VisitBytes>(
     Ok(None)
 }
 
-/// An inserted key whose last value isn't one in both maps. It compares each inserted key with the others, does not
-/// allocate, and refuses only keys and values of more bytes than can be counted.
-pub(crate) fn key_apart<'a, K: VisitBytes, V: VisitBytes>(
+/// An inserted key whose last value isn't one in both maps. It hashes each inserted key three times and looks it up by
+/// its digest, which takes less than growing both maps, and memory for the digests.
+pub(crate) fn key_apart<'a, D: SupportedDigest, K: VisitBytes, V: VisitBytes, A: Allocator + Copy>(
+    alloc: A,
     first: &'a [(K, V)],
     second: &'a [(K, V)],
 ) -> Result<Option<&'a K>, AllocError>
@@ -47,9 +47,11 @@ pub(crate) fn key_apart<'a, K: VisitBytes, V: VisitBytes>(
         × ¬ (HaveOneValue (pair_bytes K.bytes V.bytes first.now)
         (pair_bytes K.bytes V.bytes second.now) (K.bytes key.now)))) }
 {
-    match first_apart(first, first, second)? {
+    let by_first: Indexed<'_, D, K, V, A> = Indexed::new(alloc, first)?;
+    let by_second = Indexed::new(alloc, second)?;
+    match first_apart(first, &by_first, &by_second)? {
         Some(key) => Ok(Some(key)),
-        None => first_apart(second, first, second),
+        None => first_apart(second, &by_first, &by_second),
     }
 }
 

@@ -1,12 +1,14 @@
-use Rattle.std.proofs.Common.{◌≡◌, ◌∙◌, ◌<◌, ◌++◌, [], ◌∷◌, List, ℕ, length, sym, ap, subst, arith, append_assoc}
-use Rattle.std.proofs.lemmas.List.{append-nil}
+use Rattle.std.proofs.Common.{◌≡◌, ◌≢◌, ◌∙◌, ◌<◌, ◌++◌, [], ◌∷◌, List, ℕ, Option, Some, None, IfSome, length, sym}
+use Rattle.std.proofs.Common.{ap, subst, arith, append_assoc}
+use Rattle.std.proofs.lemmas.List.{append-nil, get_or-set_other}
 use Rattle.std.proofs.lemmas.List.Elements.{All-nil, All-cons, All-append}
-use Rattle.std.specs.List.{cons_option}
+use Rattle.std.specs.List.{All, cons_option}
 use Rattle.warg_pages.specs.Prefixes.{bits_of_bytes}
-use Rattle.warg_pages.specs.Slots.{slot_of, numbers}
+use Rattle.warg_pages.specs.Slots.{SlotAt, slot_of, numbers}
 use Rattle.warg_pages.specs.Pages.{page_digest}
 use Rattle.warg_pages.specs.ChangedPages.{ChangedPageAt, ChangesWhatStood}
 use Rattle.warg_pages.specs.Private.Updates.{IsOwnUpdate, IsUpdated, GoesBelow}
+use Rattle.warg_pages.proofs.Refused.{source_refused}
 use Rattle.warg_pages.proofs.HashEquality.{same_hashes, other_hashes}
 use Rattle.warg_pages.proofs.ChangedAmong.{none_among, next_among}
 use Rattle.warg_pages.proofs.WhatStood.{next_changes, named_next, page_stood, kept_more}
@@ -33,7 +35,8 @@ slot_after-returns-in_ok-digest-in-Below-clause-ok g t c =
           let Q : List ℕ → Type 0 = λ p. IsUpdated H old more p c.in_ok-digest-in-Below.digest done.0 in
           slot_of_page H bytes_at prefix byte below.version below.digest c.in_ok-digest-in-Below.digest below.page below.changes.items done.0 old more (subst P step.0 update) (subst Q step.0 updated),
       λ root count more are stood.
-          let next = next_changes H g.met.D.SupportedDigest.is_digest prefix changes byte count more c.requires lt are in
+          let next = next_changes H g.met.D.SupportedDigest.is_digest prefix changes byte count more c.requires.short
+          lt are in
           let named = named_next H root prefix c.args.update.now.page byte stood in
           done.3 root count more (rw (step.0, step.2) named) (rw (step.0, step.3) next),
     )
@@ -54,6 +57,8 @@ update_page-loop-byte-init g t c =
     let none = c.new-page.ensures in record {
       below = rw none (λ k d lt. absurd (omega arith));
       changed = ([], sym (append-nil c.args.changed.now.items), λ old more own. (none, none_among H old more (GoesBelow c.args.update.prefix.items 0) (λ prefix kind changes. let low = kind.2 in omega arith)), λ root count more are stood. All-nil (ChangesWhatStood H root more));
+      split = (let lists = rw (c.as_slice-depth.ensures.value, c.as_slice.ensures.value) at
+          c.in_ok-lists.ensures.ok in (lists.0, λ s low lt. lists.1 s lt));
       kept = λ s lt quiet. absurd (omega arith);
     }
 
@@ -77,8 +82,29 @@ update_page-loop-byte-preserved g t c =
             ),
         λ root count more are stood. All-append (ChangesWhatStood H root more) before.0 step.0 (before.3 root count more are stood) (step.3 root count more are stood),
       );
+      split = (
+        c.loop-byte.invariant.split.0,
+        λ s low lt d. let other : s ≢ byte = omega arith in rw get_or-set_other
+            (c.loop-byte.invariant.split.1 s (omega arith) lt d),
+      );
       kept = rw put (kept_more c.args.update.page c.loop-byte.page c.in_ok-slot.slot byte (length prefix) c.args.update.changes.items c.loop-byte.invariant.below c.in_ok-slot.ensures.byte c.loop-byte.invariant.kept c.in_ok-slot.ensures.kept);
     }
+
+-- a slot goes behind those of lower bytes
+behind : (slot : Option SlotAt) (slots : List SlotAt) (byte : ℕ) → IfSome slot (λ x. x.byte ≡ byte)
+    → All (λ x. x.byte < byte) slots
+    → IfSome slot (λ x. All (λ y. y.byte < x.byte) slots)
+behind None slots byte is below = tt
+behind (Some x) slots byte is below = rw is below
+
+pub update_page-put_behind-requires : goal.update_page-put_behind-requires
+update_page-put_behind-requires g t c = behind c.in_ok-slot.slot c.loop-byte.page c.loop-byte.byte
+    c.in_ok-slot.ensures.byte c.loop-byte.invariant.below
+
+pub update_page-returns-in_err-slot-clause-err : goal.update_page-returns-in_err-slot-clause-err
+update_page-returns-in_err-slot-clause-err g t c =
+    source_refused c.from_residual-in_err-slot.result c.in_err-slot.field-0.0 c.from_residual-in_err-slot.ensures.1
+    (λ fault old more own. fault old more own.own) c.in_err-slot.ensures.err
 
 pub update_page-returns-clause-ok : goal.update_page-returns-clause-ok
 update_page-returns-clause-ok g t c =

@@ -1,5 +1,5 @@
-use Rattle.std.proofs.Common.{◌≡◌, ℕ, ◌+◌, ◌-◌, ◌*◌, ◌<◌, ◌++◌, [], List, length}
-use Rattle.std.specs.List.{All, filter, filter_map}
+use Rattle.std.proofs.Common.{◌≡◌, ℕ, ◌+◌, ◌-◌, ◌*◌, ◌<◌, ◌≤◌, ◌++◌, [], List, length, vec_len}
+use Rattle.std.specs.List.{All, HoldsAt, filter, filter_map}
 use Rattle.warg_pages.specs.Prefixes.{bits_of_bytes}
 use Rattle.warg_pages.specs.Slots.{slot_of, numbers}
 use Rattle.warg_pages.specs.Pages.{slot_at}
@@ -20,5 +20,8 @@ invariant-update_page-loop-byte g l = record {
       × ((old more : List (List ℕ × List ℕ)) → IsOwnUpdate g.D.SupportedDigest.digest (g.P.Pages.bytes_at l.pages) l.update.prefix.items l.update.version l.update.digest l.update.page l.update.changes.items old more
       → (l.page ≡ filter_map (slot_of g.D.SupportedDigest.digest (old ++ more) (bits_of_bytes l.update.prefix.items)) (numbers 0 l.byte)) × AreChangedAmong g.D.SupportedDigest.digest old more (GoesBelow l.update.prefix.items l.byte) added)
       × ChangeWhatStood g.D.SupportedDigest.digest l.update.prefix.items l.update.page l.update.changes.items added;
+  split : (vec_len l.lists ≡ 256) × ((s : ℕ) → l.byte ≤ s → s < 256
+      → HoldsAt (λ list. list.items ≡ filter (goes_to (length l.update.prefix.items) s) l.update.changes.items)
+      l.lists.items s);
   kept : (s : ℕ) → s < l.byte → filter (goes_to (length l.update.prefix.items) s) l.update.changes.items ≡ [] → slot_at l.page s ≡ slot_at l.update.page s;
 }
