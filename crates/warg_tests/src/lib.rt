@@ -1,4 +1,4 @@
-//! What the vectors can't say of maps, witnesses and the program: types compared and hashed, texts of faults, readers
+//! What the vectors can't say of maps, registries, witnesses and the program: types compared and hashed, texts of faults, readers
 //! and writers that fail, calls that do not allocate, and what stands after a refusal.
 #![tactic(auto)]
 
@@ -10,6 +10,8 @@ mod faults;
 mod map;
 #[cfg(test)]
 mod program;
+#[cfg(test)]
+mod registry;
 #[cfg(test)]
 mod text;
 #[cfg(test)]

@@ -1,0 +1,113 @@
+-- Insertions are told by their entries, and a part by the bytes that begin with it.
+use Rattle.std.proofs.Common.{◌≡◌, ◌≢◌, ℕ, ◌+◌, ◌^◌, ◌<◌, ◌≤◌, List, [], ◌∷◌, ◌++◌, length, take, drop, get_or, refl, sym, ap, ◌∙◌, All, append_assoc, inl, inr, Bool, true, false, not, ◌&&◌, nat_eq, arith}
+use Rattle.std.specs.Cmp.Lexicographic.{pointwise, bytes_decides}
+use Rattle.std.specs.Int.{to_be_bytes, from_be_bytes, w64}
+use Rattle.std.proofs.lemmas.Bool.{cases_lt}
+use Rattle.std.proofs.lemmas.List.{length-append, length-take-le, get_or-take, get_or_past, take-append-drop}
+use Rattle.std.proofs.lemmas.List.Elements.{All-head, All-tail}
+use Rattle.std.proofs.Math.Seq.{take-append_seam, drop-append_seam}
+use Rattle.std.proofs.lemmas.Nat.{from_be_bytes-to_be_bytes_8, be_bytes_8}
+use Rattle.warg_crypto.specs.Framed.{framed_part, IsPart}
+use Rattle.warg_crypto.proofs.ForCallers.{framed_pairs}
+use Rattle.warg_registry.specs.Insertions.{entry_of, entries_of, IsInsertion, HasNoPart}
+
+-- Insertions of one entry are one.
+pub one_insertion : (a b : List ℕ × List ℕ) → IsInsertion a → IsInsertion b → entry_of a ≡ entry_of b → a ≡ b
+one_insertion a b fa fb e =
+    let same = framed_pairs a.0 a.1 b.0 b.1 fa.0 fa.1 fb.0 fb.1 e in
+    ap (λ k. (k, a.1)) same.0 ∙ ap (λ v. (b.0, v)) same.1
+
+-- And so are lists of insertions of the same entries.
+pub one_list : (xs ys : List (List ℕ × List ℕ)) → All IsInsertion xs → All IsInsertion ys → entries_of xs ≡ entries_of ys → xs ≡ ys
+one_list [] [] fx fy e = refl
+one_list [] (y ∷ ys) fx fy e = cc
+one_list (x ∷ xs) [] fx fy e = cc
+one_list (x ∷ xs) (y ∷ ys) fx fy e =
+    let one : entry_of x ≡ entry_of y = cc in
+    let more : entries_of xs ≡ entries_of ys = cc in
+    let first = one_insertion x y (All-head IsInsertion x xs fx) (All-head IsInsertion y ys fy) one in
+    let rest = one_list xs ys (All-tail IsInsertion x xs fx) (All-tail IsInsertion y ys fy) more in
+    cc
+
+-- The length that a part's bytes begin with, and what is behind it.
+pub part_front : (bytes part more : List ℕ) → IsPart part → bytes ≡ framed_part part ++ more
+    → (8 ≤ length bytes) × (from_be_bytes w64 (take 8 bytes) ≡ length part) × (drop 8 bytes ≡ part ++ more)
+part_front bytes part more small is =
+    let front : take 8 bytes ≡ to_be_bytes w64 (length part) = ap (take 8) is in (
+      omega (arith, ap length is),
+      ap (from_be_bytes w64) front ∙ from_be_bytes-to_be_bytes_8 (length part) small,
+      ap (drop 8) is,
+    )
+
+-- Fewer than eight bytes begin with no part.
+pub no_length : (bytes : List ℕ) → length bytes < 8 → HasNoPart bytes
+no_length bytes short part more small is = let front = part_front bytes part more small is in omega arith
+
+-- Nor do bytes that end before the part does.
+pub no_end : (bytes : List ℕ) → length (drop 8 bytes) < from_be_bytes w64 (take 8 bytes) → HasNoPart bytes
+no_end bytes cut part more small is =
+    let front = part_front bytes part more small is in
+    omega (arith, ap length front.2, length-append part more)
+
+-- What was read as a part is that part.
+pub part_read : (bytes part more : List ℕ) → ((i : ℕ) → get_or bytes i 0 < 256) → 8 ≤ length bytes
+    → length part ≡ from_be_bytes w64 (take 8 bytes) → drop 8 bytes ≡ part ++ more → bytes ≡ framed_part part ++ more
+part_read bytes part more small long is rest =
+    let eight : length (take 8 bytes) ≡ 8 = length-take-le 8 bytes long in
+    let bytes_only : (i : ℕ) → get_or (take 8 bytes) i 0 < 256 = λ i. elim (cases_lt i 8) [
+      | inl low ↦ rw (get_or-take 8 bytes i 0 low) (small i)
+      | inr out ↦ rw (get_or_past (take 8 bytes) i 0 (omega arith)) (omega arith)
+    ] in
+    let front : to_be_bytes w64 (length part) ≡ take 8 bytes = be_bytes_8 (take 8 bytes) (length part) eight bytes_only is in
+    sym (take-append-drop 8 bytes) ∙ ap (λ b. b ++ drop 8 bytes) (sym front) ∙ ap (λ b. to_be_bytes w64 (length part) ++ b) rest
+
+-- Parts that begin the same bytes are one, and so is what is behind them.
+same_front : (xs ys us vs : List ℕ) → length xs ≡ length us → xs ++ ys ≡ us ++ vs → (xs ≡ us) × (ys ≡ vs)
+same_front xs ys us vs l e =
+    let a = take-append_seam xs ys in
+    let b = take-append_seam us vs in
+    let c = drop-append_seam xs ys in
+    let d = drop-append_seam us vs in
+    (cc, cc)
+
+pub one_part : (a b x y : List ℕ) → IsPart a → IsPart b → framed_part a ++ x ≡ framed_part b ++ y → (a ≡ b) × (x ≡ y)
+one_part a b x y fa fb e =
+    let front = part_front (framed_part b ++ y) a x fa (sym e) in
+    let back = part_front (framed_part b ++ y) b y fb refl in
+    same_front a x b y (sym front.1 ∙ back.1) (sym front.2 ∙ back.2)
+
+-- Bytes that no key begins are no entry.
+pub no_key : (bytes : List ℕ) → HasNoPart bytes → (e : List ℕ × List ℕ) → IsInsertion e → bytes ≢ entry_of e
+no_key bytes none e fine is = none e.0 (framed_part e.1 ++ []) fine.0 is
+
+-- Nor are those that no value goes on.
+pub no_value : (bytes key more : List ℕ) → IsPart key → bytes ≡ framed_part key ++ more → HasNoPart more
+    → (e : List ℕ × List ℕ) → IsInsertion e → bytes ≢ entry_of e
+no_value bytes key more small first none e fine is =
+    none e.1 [] fine.1 (one_part key e.0 more (framed_part e.1 ++ []) small fine.0 (sym first ∙ is)).1
+
+-- Nor those that go on behind the value.
+pub no_more : (bytes key value rest more : List ℕ) → IsPart key → IsPart value → bytes ≡ framed_part key ++ rest
+    → rest ≡ framed_part value ++ more → more ≢ [] → (e : List ℕ × List ℕ) → IsInsertion e → bytes ≢ entry_of e
+no_more bytes key value rest more fk fv first second some e fine is =
+    let behind = (one_part key e.0 rest (framed_part e.1 ++ []) fk fine.0 (sym first ∙ is)).1 in
+    some (one_part value e.1 more [] fv fine.1 (sym second ∙ behind)).1
+
+-- What stands behind the value stands behind the entry.
+pub behind_entry : (bytes key value rest more : List ℕ) → bytes ≡ framed_part key ++ rest → rest ≡ framed_part value ++ more
+    → bytes ≡ entry_of (key, value) ++ more
+behind_entry bytes key value rest more first second =
+    first ∙ ap (λ b. framed_part key ++ b) second
+    ∙ sym (append_assoc (framed_part key) (framed_part value ++ []) more ∙ ap (λ b. framed_part key ++ b) (append_assoc (framed_part value) [] more))
+
+-- Bytes are the entry of one key and one value.
+pub one_entry : (bytes : List ℕ) (a e : List ℕ × List ℕ) → IsInsertion a → IsInsertion e → bytes ≡ entry_of a → bytes ≡ entry_of e
+    → (a.0 ≡ e.0) × (a.1 ≡ e.1)
+one_entry bytes a e fa fe is other = let same = one_insertion a e fa fe (sym is ∙ other) in (ap (λ x. x.0) same, ap (λ x. x.1) same)
+
+-- What `!=` says of bytes, and of hashes.
+pub other_bytes : (a b : List ℕ) (r : Bool) → r ≡ not (pointwise nat_eq a b) → r ≡ true → a ≢ b
+other_bytes a b r is t same = let both : not (pointwise nat_eq a b) ≡ false = rw ((bytes_decides a b).1 same) refl in cc
+
+pub other_hashes : (a b : List ℕ) (r : Bool) → r ≡ not (pointwise nat_eq a b && true) → r ≡ true → a ≢ b
+other_hashes a b r is t same = let both : not (pointwise nat_eq a b && true) ≡ false = rw ((bytes_decides a b).1 same) refl in cc

@@ -1,0 +1,51 @@
+-- The line of a map's root is read in one way.
+use Rattle.std.proofs.Common.{◌≡◌, ◌≢◌, ℕ, ◌+◌, ◌<◌, ◌≤◌, nat_eq, true, false, List, [], ◌∷◌, ◌++◌, length, get_or, take, drop, replicate, Result, Ok, codes, refl, sym, ap, ◌∙◌, inl, inr, arith}
+use Rattle.std.proofs.lemmas.Bool.{cases_lt}
+use Rattle.std.proofs.lemmas.List.{length-append, length-replicate, get_or_past, get_or-drop, take-append-drop}
+use Rattle.std.proofs.lemmas.List.Elements.{All-get_or}
+use Rattle.std.specs.Cmp.Lexicographic.{pointwise, bytes_decides}
+use Rattle.base64.specs.Engines.{standard}
+use Rattle.base64.specs.GeneralPurpose.{encode_of, decode_of, IsBytes}
+use Rattle.base64.specs.Rfc4648.{encode_symbols, padding_len}
+use Rattle.base64.proofs.EngineFacts.{decode_of-encode_of, decode_of_strict}
+use Rattle.base64.proofs.RoundTrip.{length-encode_symbols}
+use Rattle.warg_crypto.specs.Digests.{IsDigest, IsByte}
+use Rattle.warg_registry.specs.Registry.{line_of}
+
+-- What begins otherwise is no line of a root.
+pub no_front : (line root : List ℕ) → pointwise nat_eq (take 4 line) (codes "map ") ≡ false → line ≢ line_of root
+no_front line root other is =
+    let front : take 4 line ≡ codes "map " = ap (take 4) is in
+    let same = (bytes_decides (take 4 line) (codes "map ")).1 front in
+    cc
+
+-- A digest's bytes are bytes.
+digest_bytes : (root : List ℕ) → IsDigest root → IsBytes root
+digest_bytes root is i = elim (cases_lt i (length root)) [
+  | inl low ↦ All-get_or IsByte root i 0 low is.are_bytes
+  | inr out ↦ rw (get_or_past root i 0 out) (omega arith)
+]
+
+-- The base64 of a digest has 44 bytes, and is decoded.
+pub root_is : (line digits root : List ℕ) → digits ≡ drop 4 line → IsDigest root → line ≡ line_of root
+    → (length digits ≡ 44) × (decode_of standard digits ≡ Ok root)
+root_is line digits root behind digest is =
+    let same : digits ≡ encode_of standard root = behind ∙ ap (drop 4) is in
+    let padding : List ℕ = replicate (padding_len (length root)) 61 in
+    let all = length-append (encode_symbols standard.encode_table root) padding in (
+      omega (arith, ap length same, all, length-encode_symbols standard.encode_table root, digest.has_32, length-replicate {A = ℕ} (padding_len (length root)) 61),
+      ap (decode_of standard) same ∙ decode_of-encode_of standard root refl (digest_bytes root digest),
+    )
+
+-- What was decoded is the base64 of what it gave.
+pub root_read : (line digits decoded root : List ℕ) → IsBytes line → pointwise nat_eq (take 4 line) (codes "map ") ≡ true
+    → digits ≡ drop 4 line → decode_of standard digits ≡ Ok decoded → root ≡ decoded → line ≡ line_of root
+root_read line digits decoded root all begins behind is same =
+    let front : take 4 line ≡ codes "map " = (bytes_decides (take 4 line) (codes "map ")).0 begins in
+    let bytes : IsBytes digits = λ i. rw behind (rw (get_or-drop 4 line i 0) (all (4 + i))) in
+    let text : digits ≡ encode_of standard root = decode_of_strict standard digits decoded (refl, refl) bytes is ∙ ap (encode_of standard) (sym same) in
+    sym (take-append-drop 4 line) ∙ ap (λ b. b ++ drop 4 line) front ∙ ap (λ b. codes "map " ++ b) (sym behind ∙ text)
+
+-- A digest that was decoded has 32 bytes.
+pub decoded_length : {E : Type 0} (r : Result (List ℕ) E) (root decoded : List ℕ) → r ≡ Ok root → r ≡ Ok decoded → IsDigest root → length decoded ≡ 32
+decoded_length r root decoded one two is = let e = sym one ∙ two in let same : root ≡ decoded = cc e in omega (arith, ap length same, is.has_32)
