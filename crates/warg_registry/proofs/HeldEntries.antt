@@ -1,5 +1,5 @@
 -- The last insertion under a key, by its place and by its value.
-use Rattle.std.proofs.Common.{◌≡◌, ℕ, suc, ◌+◌, Bool, true, false, cond, not, List, [], ◌∷◌, length, Option, Some, None, refl, sym, ap, ◌∙◌, ◌⊎◌, inl, inr, arith}
+use Rattle.std.proofs.Common.{◌≡◌, ℕ, suc, ◌+◌, Bool, true, false, List, [], ◌∷◌, length, Some, None, refl, sym, ap, ◌∙◌, ◌⊎◌, inl, inr, arith}
 use Rattle.std.specs.Prelude.{slice_get}
 use Rattle.std.specs.Option.{option_map}
 use Rattle.std.specs.FinMap.{get}
@@ -9,7 +9,7 @@ use Rattle.std.proofs.Math.Dec.{eqb-suc-zero}
 use Rattle.warg_crypto.specs.Tree.{leaf_digest}
 use Rattle.warg_map.specs.Bits.{key_bits}
 use Rattle.warg_map.specs.Sparse.{map_of}
-use Rattle.warg_map.specs.Last.{last_with, last_under, same_bits}
+use Rattle.warg_map.specs.Last.{last_with, same_bits}
 use Rattle.warg_map.proofs.ForCallers.{all_bits, last_held, same_bits-true}
 use Rattle.warg_pages.specs.Prefixes.{begins, is_below, last_place, version}
 use Rattle.warg_registry.specs.Insertions.{entry_of, entries_of}
