@@ -1,6 +1,11 @@
 //! Laws of insertions, over their definitions alone.
 
-ghost use Rattle.std.specs.Prelude.{◌≡◌, ℕ, List, All};
+ghost use Rattle.std.specs.Prelude.{◌≡◌, ℕ, ◌+◌, List, All, Some, slice_get};
+ghost use Rattle.std.specs.FinMap.{get};
+ghost use Rattle.warg_crypto.specs.Tree.{leaf_digest};
+ghost use Rattle.warg_map.specs.Bits.{key_bits};
+ghost use Rattle.warg_map.specs.Sparse.{map_of};
+ghost use Rattle.warg_pages.specs.Prefixes.{version};
 ghost use Rattle.warg_registry.specs.Insertions.{entry_of, entries_of, IsInsertion};
 
 /// Insertions of one entry are one insertion.
@@ -13,4 +18,15 @@ pub fn one_insertion()
 pub fn one_list()
     ensures { (xs ys : List (List ℕ × List ℕ)) → All IsInsertion xs → All IsInsertion ys
         → entries_of xs ≡ entries_of ys → xs ≡ ys }
+{}
+
+/// The entry that a held key's index names, as `prove_by_pages` of `warg_pages` gives it over the pages of insertions, is
+/// that of an insertion under the key's digest, of a value with the leaf digest that is held. So `inserted_value` finds the
+/// value there, unless another key has the same digest.
+pub fn held_entry()
+    ensures { (H : List ℕ → List ℕ) (insertions : List (List ℕ × List ℕ)) (key leaf : List ℕ)
+        (index : ℕ) → index + 1 ≡ version H insertions (key_bits H key)
+        → get (map_of H insertions) (key_bits H key) ≡ Some leaf
+        → (e : List ℕ × List ℕ) × (slice_get (entries_of insertions) index ≡ Some (entry_of e))
+        × (key_bits H e.0 ≡ key_bits H key) × (leaf_digest H e.1 ≡ leaf) }
 {}

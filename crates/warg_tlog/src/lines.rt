@@ -1,16 +1,16 @@
 //! Standard input, line by line.
 
-use crate::refusal::{Cause, Refusal};
+use crate::refusal::Refusal;
 use memchr::memchr;
-use std::alloc::{AllocError, Global};
+use std::alloc::Global;
 use std::io;
-use std::io::{BufRead, BufReader, ErrorKind, Input};
+use std::io::{BufRead, BufReader, Input, Read, Take};
 
 // The greatest number of bytes of an entry.
 const MOST: usize = 65_535;
 
 // A line of the greatest entry, with a carriage return, a newline and one byte more.
-const LONGEST: usize = 131_073;
+const LONGEST: u64 = 131_073;
 
 // How many bytes are read at a time.
 const AT_ONCE: usize = 1 << 16;
@@ -20,9 +20,9 @@ type Reader = <HostRuntime as Input>::Reader;
 /// The lines of standard input, one at a time.
 #[derive(Drop)]
 pub struct Lines {
-    input: BufReader<Reader>,
-    // So many bytes at the front of the buffer are the line, with its newline; 0 where it stands in `line`.
-    held: usize,
+    alloc: Global,
+    input: Take<BufReader<Reader>>,
+    // The line, with its end.
     line: Vec<u8>,
     entry: Vec<u8>,
     number: usize,
@@ -31,186 +31,99 @@ pub struct Lines {
 impl Lines {
     /// The lines of standard input, before the first.
     pub fn new(rt: &HostRuntime) -> Result<Lines, Refusal> {
-        let Ok(input) = BufReader::with_capacity(rt.alloc(), AT_ONCE, rt.reader()) else {
-            return Err(Refusal::memory());
-        };
+        let alloc = rt.alloc();
+        let input = read(alloc, BufReader::with_capacity(alloc, AT_ONCE, rt.reader()))?;
         Ok(Lines {
-            input,
-            held: 0,
-            line: Vec::new(rt.alloc()),
-            entry: Vec::new(rt.alloc()),
+            alloc,
+            input: input.take(LONGEST),
+            line: Vec::new(alloc),
+            entry: Vec::new(alloc),
             number: 0,
         })
     }
 
     /// Goes on to the next line. False at the end of the input.
-    pub fn go_on(&mut self, alloc: Global) -> Result<bool, Refusal> {
-        self.input.consume(self.held);
-        self.held = line_length(self.input.buffer());
-        if self.held == 0 {
-            return self.gather(alloc);
-        }
-        self.number = self.number.saturating_add(1);
-        Ok(true)
-    }
-
-    // Goes on to a line that the buffer has no end of, and gathers it. False at the end of the input.
-    #[cold]
-    fn gather(&mut self, alloc: Global) -> Result<bool, Refusal> {
+    pub fn go_on(&mut self) -> Result<bool, Refusal> {
         self.line.clear();
-        for _ in 0..u64::MAX {
-            match self.read_on() {
-                Ok(true) => break,
-                Ok(false) => {}
-                Err(error) if error.kind() == ErrorKind::Interrupted => {}
-                Err(error) => {
-                    let path = String::from_str(alloc, "standard input")?;
-                    return Err(Refusal::of_read(path, error));
-                }
-            }
-        }
-        if self.line.is_empty() {
+        self.input.set_limit(LONGEST);
+        let held = self.input.get_ref().buffer();
+        if let Some(newline) = memchr(b'\n', held) {
+            self.line.extend_from_slice(&held[..newline + 1])?;
+            self.input.consume(newline + 1);
+        } else if read(self.alloc, self.input.read_until(b'\n', &mut self.line))? == 0 {
             return Ok(false);
         }
         self.number = self.number.saturating_add(1);
         Ok(true)
     }
 
-    // Adds to the line what the buffer has of it, which is filled first where it is empty. True at the end of the line, and
-    // of the input.
-    fn read_on(&mut self) -> io::Result<bool> {
-        let room = LONGEST.saturating_sub(self.line.len());
-        let held = self.input.fill_buf()?;
-        let held = &held[..held.len().min(room)];
-        let newline = memchr(b'\n', held);
-        let count = newline.map_or(held.len(), |at| at + 1);
-        self.line.extend_from_slice(&held[..count])?;
-        self.input.consume(count);
-        Ok(newline.is_some() || count == 0 || count == room)
+    /// The line's bytes, without its newline, and without a carriage return before that.
+    pub fn line(&self) -> &[u8] {
+        without_end(self.line.as_slice())
     }
 
-    /// Goes on to the next line and returns its entry, as `go_on` and `entry` do; none at the end of the input.
-    pub fn next_entry(&mut self, alloc: Global) -> Result<Option<&Vec<u8>>, Refusal> {
-        if self.go_on_alike() {
-            return Ok(Some(&self.entry));
+    /// The refusal for this line.
+    pub fn refused(&self, fault: &'static str) -> Refusal {
+        Refusal::Line(self.number, fault)
+    }
+
+    /// The entry whose hexadecimal digits the line has.
+    pub fn entry(&mut self) -> Result<&[u8], Refusal> {
+        let digits = without_end(self.line.as_slice());
+        if digits.len() > 2 * MOST {
+            return Err(self.refused("is too long: an entry has at most 65,535 bytes"));
         }
-        self.entry_after(alloc)
-    }
-
-    // Goes on to the next line and decodes it, if its entry is as long as the last one. A newline in that place is the
-    // line's own, as digits alone stand before it. False, and no line further, where it isn't so.
-    fn go_on_alike(&mut self) -> bool {
-        self.input.consume(self.held);
-        self.held = 0;
-        let length = 2 * self.entry.len() + 1;
-        let Some([digits @ .., b'\n']) = self.input.buffer().get(..length) else {
-            return false;
-        };
+        self.entry.resize(digits.len() / 2, 0)?;
         if hex::decode_to_slice(digits, self.entry.as_mut_slice()).is_err() {
-            return false;
+            return Err(self.refused(
+                "isn't an entry: write two hexadecimal digits for each byte, and nothing else",
+            ));
         }
-        self.held = length;
-        self.number = self.number.saturating_add(1);
-        true
+        Ok(self.entry.as_slice())
     }
 
-    /// The next entry as a bundle has it: two bytes of length, the greater one first, and then its bytes; none at the end of the
-    /// input.
-    pub fn next_binary(&mut self, alloc: Global) -> Result<Option<&Vec<u8>>, Refusal> {
-        self.input.consume(self.held);
-        self.held = 0;
-        self.number = self.number.saturating_add(1);
-        let Some(greater) = self.next_byte(alloc)? else {
-            return Ok(None);
-        };
-        let Some(less) = self.next_byte(alloc)? else {
-            return Err(self.refused("ends within an entry's length"));
-        };
-        let length = 256 * usize::from(greater) + usize::from(less);
-        self.entry.clear();
-        for _ in 0..length {
-            match self.next_byte(alloc)? {
-                Some(byte) => self.entry.push(byte)?,
-                None => return Err(self.refused("ends within an entry")),
-            }
-        }
-        Ok(Some(&self.entry))
-    }
-
-    // The next byte of the input, if there is one.
-    fn next_byte(&mut self, alloc: Global) -> Result<Option<u8>, Refusal> {
-        for _ in 0..u64::MAX {
-            match self.input.fill_buf() {
-                Ok([]) => return Ok(None),
-                Ok([byte, ..]) => {
-                    let byte = *byte;
-                    self.input.consume(1);
-                    return Ok(Some(byte));
-                }
-                Err(error) if error.kind() == ErrorKind::Interrupted => {}
-                Err(error) => {
-                    let path = String::from_str(alloc, "standard input")?;
-                    return Err(Refusal::of_read(path, error));
-                }
-            }
-        }
-        Ok(None)
-    }
-
-    // The entry of the next line, of whatever length. Apart from `next_entry`, as its large results would slow that down.
-    #[cold]
-    fn entry_after(&mut self, alloc: Global) -> Result<Option<&Vec<u8>>, Refusal> {
-        if !self.go_on(alloc)? {
+    /// Goes on to the next line and returns its entry; none at the end of the input.
+    pub fn next_entry(&mut self) -> Result<Option<&[u8]>, Refusal> {
+        if !self.go_on()? {
             return Ok(None);
         }
-        if self.held == 0 && !self.line.ends_with(b"\n") && self.line.len() < LONGEST {
+        if !self.line.ends_with(b"\n") && (self.line.len() as u64) < LONGEST {
             return Err(self.refused("has no end: whoever wrote it may have died"));
         }
         Ok(Some(self.entry()?))
     }
 
-    /// The line's bytes, without its end.
-    pub fn line(&self) -> &[u8] {
-        line_in(self.input.buffer(), self.held, self.line.as_slice())
-    }
-
-    /// The refusal for this line.
-    pub fn refused(&self, fault: &'static str) -> Refusal {
-        let number = self.number;
-        Refusal::because(Cause::Line { number, fault })
-    }
-
-    /// The entry whose hexadecimal digits the line has. Its bytes take the place of the last entry's.
-    pub fn entry(&mut self) -> Result<&Vec<u8>, Refusal> {
-        let digits = line_in(self.input.buffer(), self.held, self.line.as_slice());
-        if digits.len() > 2 * MOST {
-            return Err(self.refused("is too long: an entry has at most 65,535 bytes"));
+    /// The next entry as a bundle has it: two bytes of length, the greater one first, and then its
+    /// bytes; none at the end of the input.
+    pub fn next_binary(&mut self) -> Result<Option<&[u8]>, Refusal> {
+        self.number = self.number.saturating_add(1);
+        self.gather(2)?;
+        let length = match self.entry.as_slice() {
+            [] => return Ok(None),
+            [greater, less] => u16::from_be_bytes([*greater, *less]),
+            _ => return Err(self.refused("ends within an entry's length")),
+        };
+        self.gather(length)?;
+        if self.entry.len() < usize::from(length) {
+            return Err(self.refused("ends within an entry"));
         }
-        if !decode(digits, &mut self.entry)? {
-            return Err(self.refused(
-                "isn't an entry: write two hexadecimal digits for each byte, and nothing else",
-            ));
-        }
-        Ok(&self.entry)
+        Ok(Some(self.entry.as_slice()))
+    }
+
+    // Puts the next bytes in the place of the entry: so many, or those that are left.
+    fn gather(&mut self, count: u16) -> Result<(), Refusal> {
+        self.entry.clear();
+        self.input.set_limit(u64::from(count));
+        read(self.alloc, self.input.read_to_end(&mut self.entry))?;
+        Ok(())
     }
 }
 
-// Puts the bytes that digits spell in the place of an entry's. False where they aren't two hexadecimal digits for each.
-fn decode(digits: &[u8], entry: &mut Vec<u8>) -> Result<bool, AllocError> {
-    entry.resize(digits.len() / 2, 0)?;
-    Ok(hex::decode_to_slice(digits, entry.as_mut_slice()).is_ok())
-}
-
-// How many bytes the first line has, with its newline; 0 where there is no newline.
-fn line_length(held: &[u8]) -> usize {
-    memchr(b'\n', held).map_or(0, |at| at + 1)
-}
-
-// The line at the front of the buffer, of so many bytes, or else the one that was gathered; without its end.
-fn line_in<'a>(buffer: &'a [u8], held: usize, gathered: &'a [u8]) -> &'a [u8] {
-    match buffer.get(..held) {
-        Some(line) if held > 0 => without_end(line),
-        _ => without_end(gathered),
+/// What became of a read of standard input.
+pub fn read<T: Drop>(alloc: Global, done: io::Result<T>) -> Result<T, Refusal> {
+    match done {
+        Ok(count) => Ok(count),
+        Err(error) => Err(Refusal::of_read(String::from_str(alloc, "standard input")?, error)),
     }
 }
 

@@ -1,6 +1,6 @@
 //! The program's command line.
 
-use clap::{Arg, ArgAction, ArgMatches, Command, value_parser};
+use clap::{ArgMatches, Command, arg, value_parser};
 use std::alloc::{AllocError, Global};
 
 const ABOUT: &str = "Keeps a transparency log in a folder, as files that any web server serves.";
@@ -29,212 +29,104 @@ The first line of standard input is the claim:
 The path is behind it, a line of 64 hexadecimal digits for each digest, as prove and consistency write it. A root is as in a
 checkpoint, or 64 hexadecimal digits. Prints true or false, with the exit status 0 or 1.";
 
-// A command: its name, what it says, what stands below its help, and its arguments in turn.
-struct Usage {
-    name: &'static str,
-    about: &'static str,
-    after: Option<&'static str>,
-    words: &'static [Word],
-}
+const PRUNE: &str = "Removes partial tiles and bundles whose full one is there";
 
-// An argument: its kind, its name, what its value is called, and what it is.
-type Word = (Kind, &'static str, &'static str, &'static str);
+const REBUILD: &str =
+    "Makes each tile again from the entry bundles, where these lead to the checkpoint's root";
 
-#[derive(Clone, Copy)]
-enum Kind {
-    Text,
-    Number,
-    OptionalNumber,
-    TextOption,
-    NumberOption,
-    Flag,
-}
+const PAGE: &str =
+    "Puts index.html into the folder, a page that shows the log in a browser and checks what it shows";
 
-const FOLDER: Word = (Kind::Text, "folder", "FOLDER", "The log's folder");
+const CHECKPOINT: &str = "Prints the checkpoint, once the right edge of the log leads to its root";
 
-const COMMANDS: [Usage; 11] = [
-    Usage {
-        name: "init",
-        about: "Makes a log of no entries",
-        after: None,
-        words: &[
-            FOLDER,
-            (
-                Kind::Text,
-                "origin",
-                "ORIGIN",
-                "The log's name in its checkpoints, as example.com/log",
-            ),
-        ],
-    },
-    Usage {
-        name: "append",
-        about: "Adds entries",
-        after: Some(APPEND_AFTER),
-        words: &[
-            FOLDER,
-            (
-                Kind::TextOption,
-                "from",
-                "LENGTH:ROOT",
-                "The checkpoint that the log has to be at",
-            ),
-            (
-                Kind::NumberOption,
-                "every",
-                "N",
-                "Commits each N entries, and at the end",
-            ),
-            (
-                Kind::Flag,
-                "binary",
-                "",
-                "Reads entries as bundles have them: two bytes of length, the greater one first, and the bytes",
-            ),
-        ],
-    },
-    Usage {
-        name: "sign",
-        about: "Serves a signed checkpoint",
-        after: Some(SIGN_AFTER),
-        words: &[FOLDER],
-    },
-    Usage {
-        name: "prune",
-        about: "Removes partial tiles and bundles whose full one is there",
-        after: None,
-        words: &[FOLDER],
-    },
-    Usage {
-        name: "rebuild",
-        about: "Makes each tile again from the entry bundles, where these lead to the checkpoint's root",
-        after: None,
-        words: &[FOLDER],
-    },
-    Usage {
-        name: "page",
-        about: "Puts index.html into the folder, a page that shows the log in a browser and checks what it shows",
-        after: None,
-        words: &[FOLDER],
-    },
-    Usage {
-        name: "checkpoint",
-        about: "Prints the checkpoint, once the right edge of the log leads to its root",
-        after: None,
-        words: &[FOLDER],
-    },
-    Usage {
-        name: "prove",
-        about: "Prints an entry's inclusion path, a line of hexadecimal digits for each digest",
-        after: None,
-        words: &[
-            FOLDER,
-            (Kind::Number, "index", "INDEX", "The entry's index, from 0"),
-            (
-                Kind::OptionalNumber,
-                "length",
-                "LENGTH",
-                "The log's length, if not the checkpoint's",
-            ),
-        ],
-    },
-    Usage {
-        name: "consistency",
-        about: "Prints the consistency path from an old length, a line of hexadecimal digits for each digest",
-        after: None,
-        words: &[
-            FOLDER,
-            (Kind::Number, "old", "OLD", "The old length, from 1"),
-            (
-                Kind::OptionalNumber,
-                "new",
-                "NEW",
-                "The new length, if not the checkpoint's",
-            ),
-        ],
-    },
-    Usage {
-        name: "verify",
-        about: "Says whether the path on standard input shows the claim above it",
-        after: Some(VERIFY_AFTER),
-        words: &[],
-    },
-    Usage {
-        name: "audit",
-        about: "Reads every entry, makes each tile again, and says the first that differs",
-        after: None,
-        words: &[FOLDER],
-    },
-];
+const PROVE: &str =
+    "Prints an entry's inclusion path, a line of hexadecimal digits for each digest";
+
+const CONSISTENCY: &str =
+    "Prints the consistency path from an old length, a line of hexadecimal digits for each digest";
+
+const VERIFY: &str = "Says whether the path on standard input shows the claim above it";
+
+const AUDIT: &str = "Reads every entry, makes each tile again, and says the first that differs";
+
+const BINARY: &str =
+    "Reads entries as bundles have them: two bytes of length, the greater one first, and the bytes";
 
 /// The text of an argument that the command line requires.
 pub fn text<'a>(asked: &ArgMatches<'a>, name: &str) -> &'a str {
     asked.get_str(name).unwrap_or("")
 }
 
-/// The number of an argument that the command line requires.
-pub fn number(asked: &ArgMatches<'_>, name: &str) -> usize {
-    asked.get_one::<usize>(name).unwrap_or(0)
+/// The number of an argument, or what it is where there is none.
+pub fn number(asked: &ArgMatches<'_>, name: &str, otherwise: usize) -> usize {
+    asked.get_one::<usize>(name).unwrap_or(otherwise)
 }
 
 /// The command line.
 pub fn command<'a>(alloc: Global) -> Result<Command<'a>, AllocError> {
-    let mut command = program(alloc);
-    for usage in &COMMANDS {
-        command = with_subcommand(alloc, command, usage)?;
-    }
-    Ok(command)
-}
-
-// The program, without its commands.
-fn program<'a>(alloc: Global) -> Command<'a> {
-    Command::new(alloc, "warg_tlog")
+    let command = Command::new(alloc, "warg_tlog")
         .version("0.9.2-rattle.1")
         .about(ABOUT)
         .after_help(AFTER)
-        .subcommand_required(true)
+        .subcommand_required(true);
+    with_readers(alloc, with_writers(alloc, command)?)
 }
 
-fn with_subcommand<'a>(
+// Adds the commands that change a folder.
+fn with_writers<'a>(alloc: Global, command: Command<'a>) -> Result<Command<'a>, AllocError> {
+    let origin = arg!(in alloc; <ORIGIN> "The log's name in its checkpoints, as example.com/log");
+    let sign = over_folder(alloc, "sign", "Serves a signed checkpoint")?;
+    command
+        .subcommand(over_folder(alloc, "init", "Makes a log of no entries")?.arg(origin)?)?
+        .subcommand(append(alloc)?)?
+        .subcommand(sign.after_help(SIGN_AFTER))?
+        .subcommand(over_folder(alloc, "prune", PRUNE)?)?
+        .subcommand(over_folder(alloc, "rebuild", REBUILD)?)?
+        .subcommand(over_folder(alloc, "page", PAGE)?)
+}
+
+fn append<'a>(alloc: Global) -> Result<Command<'a>, AllocError> {
+    let every = arg!(in alloc; --every <N> "Commits each N entries, and at the end");
+    over_folder(alloc, "append", "Adds entries")?
+        .after_help(APPEND_AFTER)
+        .arg(arg!(in alloc; --from <"LENGTH:ROOT"> "The checkpoint that the log has to be at"))?
+        .arg(every.value_parser(value_parser!(usize)))?
+        .arg(arg!(in alloc; --binary).help(BINARY))
+}
+
+// Adds the commands that read.
+fn with_readers<'a>(alloc: Global, command: Command<'a>) -> Result<Command<'a>, AllocError> {
+    let verify = Command::new(alloc, "verify").about(VERIFY);
+    command
+        .subcommand(over_folder(alloc, "checkpoint", CHECKPOINT)?)?
+        .subcommand(prove(alloc)?)?
+        .subcommand(consistency(alloc)?)?
+        .subcommand(verify.after_help(VERIFY_AFTER))?
+        .subcommand(over_folder(alloc, "audit", AUDIT)?)
+}
+
+fn prove<'a>(alloc: Global) -> Result<Command<'a>, AllocError> {
+    let index = arg!(in alloc; <INDEX> "The entry's index, from 0");
+    let length = arg!(in alloc; [LENGTH] "The log's length, if not the checkpoint's");
+    over_folder(alloc, "prove", PROVE)?
+        .arg(index.value_parser(value_parser!(usize)))?
+        .arg(length.value_parser(value_parser!(usize)))
+}
+
+fn consistency<'a>(alloc: Global) -> Result<Command<'a>, AllocError> {
+    let old = arg!(in alloc; <OLD> "The old length, from 1");
+    let new = arg!(in alloc; [NEW] "The new length, if not the checkpoint's");
+    over_folder(alloc, "consistency", CONSISTENCY)?
+        .arg(old.value_parser(value_parser!(usize)))?
+        .arg(new.value_parser(value_parser!(usize)))
+}
+
+// A command on a folder.
+fn over_folder<'a>(
     alloc: Global,
-    command: Command<'a>,
-    usage: &Usage,
+    name: &'a str,
+    about: &'a str,
 ) -> Result<Command<'a>, AllocError> {
-    command.subcommand(subcommand(alloc, usage)?)
-}
-
-fn subcommand<'a>(alloc: Global, usage: &Usage) -> Result<Command<'a>, AllocError> {
-    let mut command = about(alloc, usage);
-    for word in usage.words {
-        command = command.arg(argument(alloc, word))?;
-    }
-    Ok(command)
-}
-
-fn about<'a>(alloc: Global, usage: &Usage) -> Command<'a> {
-    let command = Command::new(alloc, usage.name).about(usage.about);
-    match usage.after {
-        Some(after) => command.after_help(after),
-        None => command,
-    }
-}
-
-fn argument<'a>(alloc: Global, word: &Word) -> Arg<'a> {
-    let (kind, name, value, help) = *word;
-    of_kind(
-        Arg::new(alloc, name).value_name(value).help(help),
-        kind,
-        name,
-    )
-}
-
-fn of_kind<'a>(argument: Arg<'a>, kind: Kind, name: &'static str) -> Arg<'a> {
-    match kind {
-        Kind::Text => argument.required(true),
-        Kind::Number => argument.required(true).value_parser(value_parser!(usize)),
-        Kind::OptionalNumber => argument.value_parser(value_parser!(usize)),
-        Kind::TextOption => argument.long(name),
-        Kind::NumberOption => argument.long(name).value_parser(value_parser!(usize)),
-        Kind::Flag => argument.long(name).action(ArgAction::SetTrue),
-    }
+    let folder = arg!(in alloc; <FOLDER> "The log's folder");
+    Command::new(alloc, name).about(about).arg(folder)
 }

@@ -11,62 +11,39 @@ use warg_paths::{check_record, check_tree};
 // A path to at most 2^63 entries has no more digests.
 const LONGEST_PATH: usize = 64;
 
+const NO_CLAIM: &str =
+    "isn't a claim: write inclusion INDEX LENGTH ROOT, or consistency OLD OLD_ROOT NEW NEW_ROOT";
+
 // What the first line of standard input claims.
 #[derive(Drop)]
 enum Claim {
-    Inclusion {
-        index: usize,
-        checkpoint: Checkpoint<Sha256>,
-    },
-    Consistency {
-        old: Checkpoint<Sha256>,
-        new: Checkpoint<Sha256>,
-    },
+    Inclusion(usize, Checkpoint<Sha256>),
+    Consistency(Checkpoint<Sha256>, Checkpoint<Sha256>),
 }
 
 /// Whether the path on standard input shows the claim above it.
 pub fn verify(rt: &HostRuntime) -> Result<bool, Refusal> {
     let alloc = rt.alloc();
     let mut lines = Lines::new(rt)?;
-    next(alloc, &mut lines)?;
+    next(&mut lines)?;
     match claim_in(lines.line()) {
-        Some(Claim::Inclusion { index, checkpoint }) => {
-            is_record(alloc, &mut lines, &checkpoint, index)
+        Some(Claim::Inclusion(index, checkpoint)) => {
+            next(&mut lines)?;
+            let entry = Vec::from_slice(alloc, lines.entry()?)?;
+            let path = path_in(alloc, &mut lines)?;
+            Ok(check_record(&checkpoint, index, &entry, path.as_slice()))
         }
-        Some(Claim::Consistency { old, new }) => is_tree(alloc, &mut lines, &old, &new),
-        None => Err(lines.refused(
-            "isn't a claim: write inclusion INDEX LENGTH ROOT, or consistency OLD OLD_ROOT NEW NEW_ROOT",
-        )),
+        Some(Claim::Consistency(old, new)) => {
+            let path = path_in(alloc, &mut lines)?;
+            Ok(check_tree(&old, &new, path.as_slice()))
+        }
+        None => Err(lines.refused(NO_CLAIM)),
     }
 }
 
-// Whether the entry of the next line has this index, by the path behind it.
-fn is_record(
-    alloc: Global,
-    lines: &mut Lines,
-    checkpoint: &Checkpoint<Sha256>,
-    index: usize,
-) -> Result<bool, Refusal> {
-    next(alloc, lines)?;
-    let entry = lines.entry()?.clone()?;
-    let path = path_in(alloc, lines)?;
-    Ok(check_record(checkpoint, index, &entry, path.as_slice()))
-}
-
-// Whether the old log is a beginning of the new one, by the path of the lines that are left.
-fn is_tree(
-    alloc: Global,
-    lines: &mut Lines,
-    old: &Checkpoint<Sha256>,
-    new: &Checkpoint<Sha256>,
-) -> Result<bool, Refusal> {
-    let path = path_in(alloc, lines)?;
-    Ok(check_tree(old, new, path.as_slice()))
-}
-
 // Goes on to a line that has to be there.
-fn next(alloc: Global, lines: &mut Lines) -> Result<(), Refusal> {
-    if lines.go_on(alloc)? {
+fn next(lines: &mut Lines) -> Result<(), Refusal> {
+    if lines.go_on()? {
         return Ok(());
     }
     Err(lines.refused(
@@ -78,50 +55,43 @@ fn next(alloc: Global, lines: &mut Lines) -> Result<(), Refusal> {
 fn path_in(alloc: Global, lines: &mut Lines) -> Result<Vec<Hash<Sha256>>, Refusal> {
     let mut path = Vec::new(alloc);
     for _ in 0..LONGEST_PATH + 1 {
-        if !lines.go_on(alloc)? {
+        if !lines.go_on()? {
             return Ok(path);
         }
-        match text_in(lines.line()).and_then(|text| text.parse::<Hash<Sha256>>().ok()) {
-            Some(digest) => path.push(digest)?,
-            None => return Err(lines.refused(
-                "isn't a digest of the path: write 64 hexadecimal digits",
-            )),
-        }
+        let digest = str::from_utf8(lines.line()).unwrap_or("").parse();
+        let fault = "isn't a digest of the path: write 64 hexadecimal digits";
+        path.push(digest.map_err(|_| lines.refused(fault))?)?;
     }
     Err(lines.refused("is too much: no path has more than 64 digests"))
 }
 
+// The claim of a line.
 fn claim_in(line: &[u8]) -> Option<Claim> {
-    let (kind, words) = text_in(line)?.split_once(' ')?;
-    match kind {
-        "inclusion" => inclusion_in(words),
-        "consistency" => consistency_in(words),
-        _ => None,
+    let mut words = str::from_utf8(line).ok()?.split(' ');
+    let claim = match words.next()? {
+        "inclusion" => {
+            let index = words.next()?.parse().ok()?;
+            Claim::Inclusion(index, checkpoint_of(words.next()?, words.next()?)?)
+        }
+        "consistency" => {
+            let old = checkpoint_of(words.next()?, words.next()?)?;
+            Claim::Consistency(old, checkpoint_of(words.next()?, words.next()?)?)
+        }
+        _ => return None,
+    };
+    if words.next().is_some() {
+        None
+    } else {
+        Some(claim)
     }
 }
 
-fn inclusion_in(words: &str) -> Option<Claim> {
-    let (index, words) = words.split_once(' ')?;
-    let checkpoint = checkpoint_in(words)?;
-    let index = index.parse().ok()?;
-    Some(Claim::Inclusion { index, checkpoint })
-}
-
-fn consistency_in(words: &str) -> Option<Claim> {
-    let (old_length, words) = words.split_once(' ')?;
-    let (old_root, new) = words.split_once(' ')?;
-    let old = Checkpoint::new(root_in(old_root)?, old_length.parse().ok()?);
-    let new = checkpoint_in(new)?;
-    Some(Claim::Consistency { old, new })
-}
-
-fn checkpoint_in(words: &str) -> Option<Checkpoint<Sha256>> {
-    let (length, root) = words.split_once(' ')?;
+/// The checkpoint of a length and a root, in base64, as in its text, or in hexadecimal digits.
+pub fn checkpoint_of(length: &str, root: &str) -> Option<Checkpoint<Sha256>> {
     Some(Checkpoint::new(root_in(root)?, length.parse().ok()?))
 }
 
-/// The root that a word spells: in base64, as in a checkpoint, or in hexadecimal digits.
-pub fn root_in(word: &str) -> Option<Hash<Sha256>> {
+fn root_in(word: &str) -> Option<Hash<Sha256>> {
     if let Ok(root) = word.parse::<Hash<Sha256>>() {
         return Some(root);
     }
@@ -130,8 +100,4 @@ pub fn root_in(word: &str) -> Option<Hash<Sha256>> {
         Ok(32) => Some(Hash::from_array(root)),
         _ => None,
     }
-}
-
-fn text_in(line: &[u8]) -> Option<&str> {
-    str::from_utf8(line).ok()
 }

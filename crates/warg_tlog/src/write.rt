@@ -1,108 +1,95 @@
-//! The commands that write: a new log, more entries, a signed checkpoint, and files that aren't needed.
+//! The commands that write.
 
-use crate::lines::Lines;
-use crate::refusal::{Cause, Refusal};
-use crate::session::Session;
-use crate::verify::root_in;
+use crate::lines::{Lines, read};
+use crate::refusal::Refusal;
+use crate::session::{Counted, Session};
+use crate::usage::number;
+use crate::verify::checkpoint_of;
+use clap::ArgMatches;
 use std::io::Read;
 use warg_crypto::Sha256;
 use warg_explorer::PAGE;
 use warg_log::Checkpoint;
-use warg_store::{Folder, LogFolder, Progress, SystemFolder, rebuild};
+use warg_store::{Folder, LogFolder, Progress, SystemFolder};
 
 // A signed note has fewer bytes.
 const MOST_NOTE: u64 = 1 << 20;
 
-/// What an append is asked for.
-#[derive(Drop)]
-pub struct Appending<'a> {
-    /// The log has to be at this checkpoint, if one is given: its length and its root.
-    pub from: Option<&'a str>,
-    /// A commit follows so many entries; without it one commit has all.
-    pub every: Option<usize>,
-    /// Entries are read as bundles have them.
-    pub is_binary: bool,
-}
-
 /// Makes a log of no entries.
 pub fn init(session: &Session<'_>, origin: &str) -> Result<(), Refusal> {
-    check_origin(session, origin)?;
+    if let Some(fault) = fault_of_origin(origin) {
+        return Err(Refusal::Argument(fault));
+    }
     session.make()?;
     let _lock = session.take_lock()?;
-    let folder = session.folder()?;
-    match LogFolder::create(session.rt.alloc(), folder, origin.as_bytes()) {
-        Ok(_) => Ok(()),
-        Err(error) => Err(session.of_create(error)),
-    }
-}
-
-// An origin has at least one byte and at most 65,535, and no space, plus sign or control character (C2SP tlog-checkpoint).
-fn check_origin(session: &Session<'_>, origin: &str) -> Result<(), Refusal> {
-    if origin.is_empty() || origin.len() > 65_535 {
-        return Err(Refusal::of_words(session.rt.alloc(), "an origin has 1 to 65,535 bytes"));
-    }
-    for byte in origin.as_bytes() {
-        if *byte <= b' ' || *byte == b'+' || *byte == 127 {
-            let fault = "an origin has no space, plus sign or control character";
-            return Err(Refusal::of_words(session.rt.alloc(), fault));
-        }
-    }
+    let made = LogFolder::create(session.rt.alloc(), session.files()?, origin.as_bytes());
+    made.try_map_err(|error| session.of_create(error))?;
     Ok(())
 }
 
+// Why a name can't be an origin (C2SP tlog-checkpoint).
+fn fault_of_origin(origin: &str) -> Option<&'static str> {
+    if origin.is_empty() || origin.len() > 65_535 {
+        return Some("an origin has 1 to 65,535 bytes");
+    }
+    let mut bytes = origin.bytes();
+    if bytes.any(|byte| byte <= b' ' || byte == b'+' || byte == 127) {
+        return Some("an origin has no space, plus sign or control character");
+    }
+    None
+}
+
 /// Adds the entries of standard input. Returns the index of the first one and the new length.
-pub fn append(session: &Session<'_>, asked: &Appending<'_>) -> Result<(usize, usize), Refusal> {
-    let lock = session.lock()?;
-    let mut log = session.log(&lock)?;
-    let before = log.checkpoint();
-    check_from(asked, &before)?;
-    let first = before.length();
+pub fn append(session: &Session<'_>, asked: &ArgMatches<'_>) -> Result<(usize, usize), Refusal> {
+    if number(asked, "every", 1) == 0 {
+        return Err(Refusal::Argument("--every has to be at least 1"));
+    }
+    let (_lock, mut log) = session.writer()?;
+    if let Some(from) = asked.get_str("from") {
+        check_from(from, &log.checkpoint())?;
+    }
+    let first = log.checkpoint().length();
     push_entries(session, &mut log, asked)?;
     commit(session, &mut log)?;
     Ok((first, log.length()))
 }
 
 // Refuses a log that isn't at the checkpoint that is asked for.
-fn check_from(asked: &Appending<'_>, found: &Checkpoint<Sha256>) -> Result<(), Refusal> {
-    let Some(words) = asked.from else {
-        return Ok(());
+fn check_from(from: &str, found: &Checkpoint<Sha256>) -> Result<(), Refusal> {
+    let Some((length, root)) = from.split_once(':') else {
+        return Err(Refusal::From);
     };
-    let Some((length, root)) = words.split_once(':') else {
-        return Err(Refusal::because(Cause::From));
-    };
-    let (Ok(length), Some(root)) = (length.parse::<usize>(), root_in(root)) else {
-        return Err(Refusal::because(Cause::From));
-    };
-    if Checkpoint::new(root, length) == *found {
-        return Ok(());
+    match checkpoint_of(length, root) {
+        Some(asked) if asked == *found => Ok(()),
+        Some(_) => Err(Refusal::Elsewhere(found.length())),
+        None => Err(Refusal::From),
     }
-    let length = found.length();
-    Err(Refusal::because(Cause::Elsewhere { length }))
 }
 
-// Adds an entry for each line of standard input.
+// Adds the entries of standard input, and commits each so many of them if that is asked for.
 fn push_entries(
     session: &Session<'_>,
     log: &mut LogFolder<SystemFolder<'_>>,
-    asked: &Appending<'_>,
+    asked: &ArgMatches<'_>,
 ) -> Result<(), Refusal> {
-    let alloc = session.rt.alloc();
+    let every = number(asked, "every", usize::MAX);
+    let is_binary = asked.get_flag("binary");
     let mut lines = Lines::new(session.rt)?;
-    let mut counted = session.counted();
+    let mut counted = Counted(session.rt, 0);
     let mut since = 0usize;
     for _ in 0..u64::MAX {
-        let entry = if asked.is_binary {
-            lines.next_binary(alloc)?
+        let entry = if is_binary {
+            lines.next_binary()?
         } else {
-            lines.next_entry(alloc)?
+            lines.next_entry()?
         };
         let Some(entry) = entry else {
             break;
         };
-        push(session, log, entry.as_slice())?;
+        log.push(entry).try_map_err(|error| session.of_push(error))?;
         counted.step();
         since = since.saturating_add(1);
-        if asked.every.is_some_and(|every| since >= every) {
+        if since >= every {
             commit(session, log)?;
             since = 0;
         }
@@ -110,70 +97,38 @@ fn push_entries(
     Ok(())
 }
 
-fn push(
-    session: &Session<'_>,
-    log: &mut LogFolder<SystemFolder<'_>>,
-    entry: &[u8],
-) -> Result<(), Refusal> {
-    match log.push(entry) {
-        Ok(()) => Ok(()),
-        Err(error) => Err(session.of_push(error)),
-    }
-}
-
 fn commit(session: &Session<'_>, log: &mut LogFolder<SystemFolder<'_>>) -> Result<(), Refusal> {
-    match log.commit() {
-        Ok(()) => Ok(()),
-        Err(error) => Err(session.of_commit(error)),
-    }
+    log.commit().try_map_err(|error| session.of_commit(error))
 }
 
 /// Serves the signed note on standard input as the log's checkpoint.
 pub fn sign(session: &Session<'_>) -> Result<(), Refusal> {
-    let mut note = Vec::new(session.rt.alloc());
-    if let Err(error) = session
-        .rt
-        .reader()
-        .take(MOST_NOTE + 1)
-        .read_to_end(&mut note)
-    {
-        let path = String::from_str(session.rt.alloc(), "standard input")?;
-        return Err(Refusal::of_read(path, error));
-    }
-    let lock = session.lock()?;
-    let mut log = session.log(&lock)?;
-    match log.sign(note.as_slice()) {
-        Ok(()) => Ok(()),
-        Err(error) => Err(session.of_sign(error)),
-    }
+    let alloc = session.rt.alloc();
+    let mut note = Vec::new(alloc);
+    let mut input = session.rt.reader().take(MOST_NOTE + 1);
+    read(alloc, input.read_to_end(&mut note))?;
+    let (_lock, mut log) = session.writer()?;
+    log.sign(note.as_slice())
+        .try_map_err(|error| session.of_sign(error))
 }
 
-/// Removes the partial tiles and bundles whose full one is there. Returns how many files were removed.
+/// Removes the partial tiles and bundles whose full one is there. Returns how many these were.
 pub fn prune(session: &Session<'_>) -> Result<usize, Refusal> {
-    let lock = session.lock()?;
-    let mut log = session.log(&lock)?;
-    match log.prune() {
-        Ok(removed) => Ok(removed),
-        Err(error) => Err(session.of_log(error)),
-    }
+    let (_lock, mut log) = session.writer()?;
+    log.prune().try_map_err(|error| session.of_log(error))
 }
 
-/// Makes each tile again from the bundles. Returns the log's checkpoint.
-pub fn rebuild_tiles(session: &Session<'_>) -> Result<Checkpoint<Sha256>, Refusal> {
+/// Makes each tile again from the bundles. Returns how many entries they have.
+pub fn rebuild(session: &Session<'_>) -> Result<usize, Refusal> {
     let _lock = session.lock()?;
-    let mut folder = session.folder()?;
-    match rebuild(session.rt.alloc(), &mut folder, &mut session.counted()) {
-        Ok(checkpoint) => Ok(checkpoint),
-        Err(error) => Err(session.of_log(error)),
-    }
+    let mut folder = session.files()?;
+    let made = warg_store::rebuild(session.rt.alloc(), &mut folder, &mut Counted(session.rt, 0));
+    Ok(made.try_map_err(|error| session.of_log(error))?.length())
 }
 
 /// Puts the page that shows the log in a browser into the folder, as `index.html`.
 pub fn put_page(session: &Session<'_>) -> Result<(), Refusal> {
     let _lock = session.lock()?;
-    let mut folder = session.folder()?;
-    match folder.replace("index.html", PAGE.as_bytes()) {
-        Ok(()) => Ok(()),
-        Err(error) => Err(session.of_folder(error)),
-    }
+    let put = session.files()?.replace("index.html", PAGE.as_bytes());
+    put.try_map_err(|error| session.of_folder(error))
 }

@@ -1,6 +1,4 @@
-use Rattle.std.proofs.Common.{sym, ap, ◌∙◌, length, arith}
-use Rattle.base64.specs.Engines.{standard}
-use Rattle.base64.specs.GeneralPurpose.{decode_of}
+use Rattle.std.proofs.Common.{sym, ◌∙◌, arith}
 use Rattle.warg_registry.proofs.MapLines.{root_is, root_read, decoded_length}
 use Rattle.warg_registry.proofs.extension.root_in.Goals as goal
 

@@ -1,0 +1,53 @@
+-- The last insertion under a key, by its place and by its value.
+use Rattle.std.proofs.Common.{◌≡◌, ℕ, suc, ◌+◌, Bool, true, false, List, [], ◌∷◌, length, Some, None, refl, sym, ap, ◌∙◌, ◌⊎◌, inl, inr, arith}
+use Rattle.std.specs.Prelude.{slice_get}
+use Rattle.std.specs.Option.{option_map}
+use Rattle.std.specs.FinMap.{get}
+use Rattle.std.proofs.lemmas.Bool.{cases_Bool}
+use Rattle.std.proofs.lemmas.Option.{slice_get-map}
+use Rattle.std.proofs.Math.Dec.{eqb-suc-zero}
+use Rattle.warg_crypto.specs.Tree.{leaf_digest}
+use Rattle.warg_map.specs.Bits.{key_bits}
+use Rattle.warg_map.specs.Sparse.{map_of}
+use Rattle.warg_map.specs.Last.{last_with, same_bits}
+use Rattle.warg_map.proofs.ForCallers.{all_bits, last_held, same_bits-true}
+use Rattle.warg_pages.specs.Prefixes.{begins, is_below, last_place, version}
+use Rattle.warg_registry.specs.Insertions.{entry_of, entries_of}
+
+-- Bits that begin with as many bits are these.
+begins_all : (p q : List Bool) → length p ≡ length q → begins p q ≡ same_bits p q
+begins_all [] [] e = refl
+begins_all [] (c ∷ q) e = let no : 0 ≡ length (c ∷ q) = e in absurd (omega arith)
+begins_all (b ∷ p) [] e = let no : length (b ∷ p) ≡ 0 = e in absurd (omega arith)
+begins_all (true ∷ p) (true ∷ q) e = begins_all p q (omega (arith, e))
+begins_all (true ∷ p) (false ∷ q) e = refl
+begins_all (false ∷ p) (true ∷ q) e = refl
+begins_all (false ∷ p) (false ∷ q) e = begins_all p q (omega (arith, e))
+
+-- No element passes a test, or the last one that does stands at its place.
+lasts : {X : Type 0} (p q : X → Bool) → ((x : X) → p x ≡ q x) → (xs : List X)
+    → ((last_place p xs ≡ 0) × (last_with q xs ≡ None))
+    ⊎ ((i : ℕ) × (x : X) × (last_place p xs ≡ suc i) × (last_with q xs ≡ Some x) × (slice_get xs i ≡ Some x) × (q x ≡ true))
+unfolding last_place last_with
+lasts p q same [] = inl (refl, refl)
+lasts p q same (x ∷ xs) = elim (lasts p q same xs) [
+  | inr h ↦ inr (suc h.0, h.1, rw h.2 (rw (eqb-suc-zero h.0) refl), rw h.3 refl, h.4, h.5)
+  | inl h ↦ elim (cases_Bool (q x)) [
+    | inl t ↦ inr (0, x, rw (h.0, same x, t) refl, rw (h.1, t) refl, refl, t)
+    | inr f ↦ inl (rw (h.0, same x, f) refl, rw (h.1, f) refl)
+  ]
+]
+
+pub held_entry : (H : List ℕ → List ℕ) (insertions : List (List ℕ × List ℕ)) (key leaf : List ℕ) (index : ℕ)
+    → index + 1 ≡ version H insertions (key_bits H key) → get (map_of H insertions) (key_bits H key) ≡ Some leaf
+    → (e : List ℕ × List ℕ) × (slice_get (entries_of insertions) index ≡ Some (entry_of e)) × (key_bits H e.0 ≡ key_bits H key) × (leaf_digest H e.1 ≡ leaf)
+held_entry H insertions key leaf index at held =
+    let same = λ (e : List ℕ × List ℕ). begins_all (key_bits H key) (key_bits H e.0) (all_bits H key ∙ sym (all_bits H e.0)) in
+    elim (lasts (is_below H (key_bits H key)) (λ e. same_bits (key_bits H key) (key_bits H e.0)) same insertions) [
+      | inl h ↦ absurd (omega (arith, at, h.0))
+      | inr h ↦
+          let place : index ≡ h.0 = omega (arith, at, h.2) in
+          let there : slice_get (entries_of insertions) index ≡ Some (entry_of h.1) = rw place (slice_get-map entry_of insertions h.0 ∙ ap (option_map entry_of) h.4) in
+          let leaves : Some (leaf_digest H h.1.1) ≡ Some leaf = ap (option_map (λ e. leaf_digest H e.1)) (sym h.3) ∙ sym (last_held H (key_bits H key) insertions) ∙ held in
+          (h.1, there, sym (same_bits-true (key_bits H key) (key_bits H h.1.0) h.5), cc)
+    ]
