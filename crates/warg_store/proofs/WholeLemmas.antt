@@ -29,6 +29,7 @@ use Rattle.warg_store.specs.Log.{LogOf, CanBeKept, Extends, Serves, Keeps, HasLo
 use Rattle.warg_store.specs.Reading.{checkpoint_said}
 use Rattle.warg_store.proofs.LeadLemmas.{end_inside, extends_length}
 use Rattle.warg_store.proofs.NameLemmas.{apart}
+use Rattle.warg_store.proofs.GrowingLemmas.{same_length}
 
 -- what holds of an error holds of a result that is this error
 pub err_same : {X E : Type 0} (P : E → Type 0) (e : E) (r : Result X E) → IsErrAnd r (λ f. f ≡ e) → P e → IfErr r P
@@ -96,15 +97,7 @@ text_no_fault said behind bytes text.Memory can is fault = refl
 
 -- a log that continues another and has no more entries is that one
 pub extends_same : (first log : LogOf) → Extends first log → length log.entries ≤ length first.entries → log ≡ first
-extends_same first log extends short =
-    let more = extends.entries.0 in
-    let none : length more ≡ 0 = omega (arith, ap length extends.entries.1, length-append first.entries more, short) in
-    let entries : log.entries ≡ first.entries = extends.entries.1 ∙ ap (λ (l : List (List ℕ)). first.entries ++ l) (empty more none) ∙ append-nil first.entries in
-    ap (λ (o : List ℕ). record log { origin = o }) extends.origin ∙ ap (λ (l : List (List ℕ)). record first { entries = l }) entries
-  where
-    empty : (xs : List (List ℕ)) → length xs ≡ 0 → xs ≡ []
-    empty [] none = refl
-    empty (x ∷ xs) none = absurd (omega (arith, none))
+extends_same first log extends short = sym (same_length first log extends (omega (arith, short, extends_length first log extends)))
 
 -- a folder's log is served whole unless the checkpoint is signed
 pub short_signed : (first log : LogOf) (files : Files) → Keeps first log files → length first.entries < length log.entries → is_signed (files checkpoint) ≡ false → ⊥

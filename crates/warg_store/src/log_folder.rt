@@ -1,6 +1,7 @@
 //! A log in a folder, as whoever adds to it holds it.
 
-ghost use Rattle.std.specs.Prelude.{◌≡◌, ◌+◌, ◌<◌, ◌≤◌, ◌↔◌, length, true, Err, IfOk, OnOk, OnErr};
+ghost use Rattle.std.specs.Prelude.{◌≡◌, ◌+◌, ◌<◌, ◌≤◌, ◌↔◌, ◌++◌, length, map, true, Err, IfOk, OnOk, OnErr};
+ghost use Rattle.std.specs.List.{AllByRecursion};
 ghost use Rattle.warg_crypto.specs.Digests.{sha256};
 ghost use Rattle.warg_log.specs.Tree.{leaves_of};
 ghost use Rattle.warg_tiles.specs.CheckpointText.{IsLine, text_of};
@@ -245,11 +246,11 @@ impl<F: Folder + Drop> LogFolder<F> {
         requires { F.IsFaithful → IsReady F.seen F.may_leave self.old }
         ensures ready { F.IsFaithful → IsReady F.seen F.may_leave self.new }
         ensures any_moment { F.IsFaithful → (served old next : LogOf)
-            → Has F.seen F.may_leave served old next self.old
+            → Has F.seen F.may_leave served old next self.old → next.lines ≡ old.lines
             → LeavesOnly F.moment F.left_since self.old.folder self.new.folder
             (IsCommitting served old next (F.seen self.old.folder)) }
         ensures committed { F.IsFaithful → OnOk result ((served old next : LogOf)
-            → Has F.seen F.may_leave served old next self.old
+            → Has F.seen F.may_leave served old next self.old → next.lines ≡ old.lines
             → (log : LogOf) × Has F.seen F.may_leave log next next self.new) }
     {
         if !self.is_open {
@@ -299,14 +300,17 @@ impl<F: Folder + Drop> LogFolder<F> {
         Ok(())
     }
 
-    // The text of the checkpoint over all that was pushed.
+    // The text of the checkpoint over all that was pushed, with the further lines of the state's.
     fn next_text(&self) -> Result<CheckpointText<Sha256>, CommitError>
         ensures said { IfOk result (λ text. (log : LogOf) → self.now.text.origin ≡ log.origin
+            → self.now.text.extensions ≡ log.lines
             → StandsFor sha256 self.now.edge (leaves_of sha256 log.entries) → text ≡ said_of log) }
         ensures line { IsLine self.now.text.origin }
+        ensures lines { AllByRecursion IsLine self.now.text.extensions }
     {
+        let lines = self.text.extensions();
         match CheckpointText::new(self.alloc, self.text.origin(), self.edge.checkpoint()) {
-            Ok(text) => Ok(text),
+            Ok(text) => with_lines(text, lines),
             Err(_) => Err(CommitError::Memory),
         }
     }
@@ -407,4 +411,21 @@ impl<F: Folder + Drop> LogFolder<F> {
             }
         }
     }
+}
+
+// The text with further lines behind its own.
+fn with_lines(
+    mut text: CheckpointText<Sha256>,
+    lines: &[Vec<u8>],
+) -> Result<CheckpointText<Sha256>, CommitError>
+    ensures { IfOk result (λ longer. longer ≡ record text {
+      extensions = text.extensions ++ map (λ l. l.items) lines.now;
+    }) }
+{
+    'lines: for line in lines {
+        if text.push_extension(line.as_slice()).is_err() {
+            return Err(CommitError::Memory);
+        }
+    }
+    Ok(text)
 }

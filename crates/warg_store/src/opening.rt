@@ -56,7 +56,7 @@ impl<F: Folder + Drop> LogFolder<F> {
     pub fn create(alloc: Global, mut folder: F, origin: &[u8]) -> Result<LogFolder<F>, CreateError>
         ensures ready { F.IsFaithful → IfOk result (IsReady F.seen F.may_leave) }
         ensures empty { IfOk result (λ log. (log.edge.len ≡ 0) × (log.text.origin ≡ origin.now)) }
-        ensures has { F.IsFaithful → IfOk result (λ log. let none : LogOf = record { origin = origin.now; entries = [] } in
+        ensures has { F.IsFaithful → IfOk result (λ log. let none : LogOf = record { origin = origin.now; entries = []; lines = []; pages = [] } in
             Has F.seen F.may_leave none none none log) }
     {
         if origin.len() > 65_535 {
