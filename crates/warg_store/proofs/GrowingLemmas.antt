@@ -234,6 +234,7 @@ beside_one_of served old next s c keeps beside =
         serves = (keeps_beside served old s c beside.outside keeps).serves;
         stay = λ n is. same n (served_not_staged n (file_served served n is));
       });
+      state = inl (record { can = keeps.can; text = beside.outside state refl ∙ keeps.state });
       opened = inl (keeps_beside served old s (opened c) (λ n isnt. same n isnt ∙ beside.outside n isnt) keeps);
     }
 

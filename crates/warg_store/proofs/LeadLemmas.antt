@@ -238,6 +238,10 @@ module _ (served old next : LogOf) (files : Files) (keeps : Keeps served old fil
         | inl is ↦ inl (as_before (⊎_elim (λ e. e) (λ all. all checkpoint refl ∙ rw is refl) was.whole))
         | inr isnt ↦ ⊎_elim (λ e. inl (as_before e)) (λ all. inr (as_next isnt all)) was.whole
       ];
+      state = ⊎_elim
+          (λ e. inl (record { can = keeps.can; text = e ∙ keeps.state }))
+          (λ e. inr (record { can = named; text = e ∙ ap (λ (b : List ℕ). Some b) says }))
+          was.state;
       opened = ⊎_elim
           (λ (e, same). inl (subst (Keeps served old) (sym e) (opened_idle_keeps)))
           (λ e. inr (next_keeps.0, subst (Keeps next_keeps.0 next) (sym e) next_keeps.1))
