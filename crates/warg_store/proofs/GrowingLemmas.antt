@@ -16,7 +16,7 @@ use Rattle.warg_tiles.specs.CheckpointText.{Said}
 use Rattle.warg_tiles.specs.TileLog.{RightEdge, StandsFor, full_between, partial_tiles, AreTilesOf}
 use Rattle.warg_tiles.proofs.ForCallers.{full_tiles, partial_of, own_tile, bundle_more, low_level}
 use Rattle.warg_store.specs.Files.{File, Files, put, IsNameOf}
-use Rattle.warg_store.specs.Names.{checkpoint, state, staged, is_staged, is_tile, page_name, is_served}
+use Rattle.warg_store.specs.Names.{checkpoint, state, staged, is_staged, is_tile, page_name}
 use Rattle.warg_store.specs.Opening.{IsBeside, IsStaging, NothingStaged, opened, opened_by}
 use Rattle.warg_store.specs.Log.{LogOf, said_of, Keeps, Extends, IsOneOf, IsCommitting, tile_bytes, bundle_bytes, IsTileIn, IsBundleIn, IsNewTile, ArePagesStaged, AreStagedFor}
 use Rattle.warg_store.specs.Staged.{staged_all, new_files}
@@ -248,6 +248,7 @@ beside_one_of served old next s c keeps beside =
         serves = (keeps_beside served old s c beside.outside keeps).serves;
         stay = λ n is. same n (served_not_staged n (file_served served n is));
       });
+      state = inl (record { can = keeps.can; text = beside.outside state refl ∙ keeps.state });
       opened = inl (keeps_beside served old s (opened c) (λ n isnt. same n isnt ∙ beside.outside n isnt) keeps);
     }
 

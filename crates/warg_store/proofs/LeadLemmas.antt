@@ -17,9 +17,9 @@ use Rattle.warg_tiles.specs.Between.{IsTileOf}
 use Rattle.warg_tiles.specs.TileLog.{tile_digests}
 use Rattle.warg_tiles.specs.EntryBundles.{bundle_of}
 use Rattle.warg_store.specs.Files.{File, Files}
-use Rattle.warg_store.specs.Names.{checkpoint, state, mark, staged, is_own, is_page, page_name, is_served}
+use Rattle.warg_store.specs.Names.{checkpoint, state, mark, staged, is_own, page_name, is_served}
 use Rattle.warg_store.specs.Opening.{is_signed, checkpoint_after, opened, committed, IsBetween}
-use Rattle.warg_store.specs.Log.{LogOf, CanBeKept, checkpoint_of, tile_bytes, bundle_bytes, IsTileIn, IsBundleIn, HasFiles, Serves, IsFileOf, Extends, Keeps, IsServed, IsOneOf, IsCommitting, HasPage, IsNewTile, IsNewPage, IsNewName, ArePagesStaged, AreStagedFor}
+use Rattle.warg_store.specs.Log.{LogOf, CanBeKept, checkpoint_of, tile_bytes, bundle_bytes, IsTileIn, IsBundleIn, HasFiles, Serves, IsFileOf, Extends, Keeps, IsServed, IsOneOf, IsCommitting, HasPage, IsNewPage, IsNewName, ArePagesStaged, AreStagedFor}
 use Rattle.warg_store.proofs.NameLemmas.{apart, served_not_own, served_kind, page_once}
 use Rattle.warg_store.proofs.PathLemmas.{tile_path_once, entries_path_once, no_tile_a_bundle, no_page_a_tile, no_page_a_bundle}
 use Rattle.warg_store.proofs.ServeLemmas.{idle_same, committed_served, opened_idle}
@@ -303,6 +303,10 @@ module _ (served old next : LogOf) (files : Files) (keeps : Keeps served old fil
         | inl is ↦ inl (as_before (⊎_elim (λ e. e) (λ all. all checkpoint refl ∙ rw is refl) was.whole))
         | inr isnt ↦ ⊎_elim (λ e. inl (as_before e)) (λ all. inr (as_next isnt all)) was.whole
       ];
+      state = ⊎_elim
+          (λ e. inl (record { can = keeps.can; text = e ∙ keeps.state }))
+          (λ e. inr (record { can = named; text = e ∙ ap (λ (b : List ℕ). Some b) says }))
+          was.state;
       opened = ⊎_elim
           (λ (e, same). inl (subst (Keeps served old) (sym e) (opened_idle_keeps)))
           (λ e. inr (next_keeps.0, subst (Keeps next_keeps.0 next) (sym e) next_keeps.1))

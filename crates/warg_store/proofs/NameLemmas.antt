@@ -6,7 +6,7 @@ use Rattle.std.proofs.lemmas.Bool.{cases_Bool}
 use Rattle.std.proofs.lemmas.Bool.Decides.{not_from_Decides, Decides-eqb}
 use Rattle.std.proofs.lemmas.Slice.Eq.{starts_is}
 use Rattle.std.proofs.lemmas.List.{append_cancel_left}
-use Rattle.warg_store.specs.Names.{checkpoint, state, mark, staged, is_staged, is_own, is_tile, is_page, page_name, is_served}
+use Rattle.warg_store.specs.Names.{checkpoint, state, mark, staged, is_staged, is_own, is_tile, page_name, is_served}
 
 -- two names are one, or not
 pub one_name : (a b : List ℕ) → ((pointwise nat_eq a b ≡ true) × (a ≡ b)) ⊎ ((pointwise nat_eq a b ≡ false) × (a ≢ b))

@@ -1,5 +1,5 @@
 -- A folder whose spare files go.
-use Rattle.std.proofs.Common.{◌≡◌, ◌⊎◌, inl, inr, ⊎_elim, ℕ, ◌^◌, ◌<◌, ◌≤◌, List, length, take, true, false, Option, Some, None, IsSome, refl, sym, ap, subst, ◌∙◌, arith}
+use Rattle.std.proofs.Common.{◌≡◌, ◌⊎◌, inl, inr, ⊎_elim, ℕ, ◌<◌, ◌≤◌, List, length, take, true, false, Option, Some, None, IsSome, refl, sym, ap, subst, ◌∙◌, arith}
 use Rattle.std.specs.Prelude.{option_map}
 use Rattle.warg_tiles.specs.Tiles.{TileAt}
 use Rattle.warg_tiles.specs.TilePaths.{tile_path, entries_path}
@@ -8,7 +8,7 @@ use Rattle.warg_store.specs.Files.{Files, without, Either}
 use Rattle.warg_store.specs.Moments.{Only}
 use Rattle.warg_store.specs.Names.{checkpoint, state, mark, staged, is_staged, is_served, page_name}
 use Rattle.warg_store.specs.Opening.{IsBeside, opened}
-use Rattle.warg_store.specs.Log.{LogOf, CanBeKept, IsFileOf, Keeps, IsOneOf}
+use Rattle.warg_store.specs.Log.{LogOf, IsFileOf, Keeps, IsOneOf}
 use Rattle.warg_store.specs.Growing.{LogIn, Has}
 use Rattle.warg_store.specs.Pruned.{HasFull, full_of, IsSpare, IsPruned}
 use Rattle.warg_store.specs.Private.Steps.{IsPruning}
@@ -137,6 +137,7 @@ module _ (served old : LogOf) (s : Files) (keeps : Keeps served old s) where
             serves = same_served served s c (λ n is. stays_at n (inr is)) (stays_own checkpoint refl refl) keeps.serves;
             stay = λ n is. same n (served_not_staged n (file_served served n is));
           });
+          state = inl (record { can = keeps.can; text = stays_own state refl refl ∙ keeps.state });
           opened = inl (same_kept served old c (opened c)
               (λ n is. same n (served_not_staged n (⊎_elim (λ one. file_served old n one) (λ other. file_served served n other) is)))
               (same checkpoint refl) (same state refl) pruned_keeps);

@@ -14,7 +14,7 @@ use Rattle.warg_tiles.specs.CheckpointText.{Said}
 use Rattle.warg_store.specs.Files.{Files}
 use Rattle.warg_store.specs.Names.{staged, is_tile}
 use Rattle.warg_store.specs.Opening.{IsStaging}
-use Rattle.warg_store.specs.Log.{LogOf, AreShort, said_of, tile_bytes, bundle_bytes, Extends, Keeps, ArePagesStaged, AreStagedFor}
+use Rattle.warg_store.specs.Log.{LogOf, AreShort, CanBeKept, said_of, checkpoint_of, tile_bytes, bundle_bytes, Extends, Keeps, ArePagesStaged, AreStagedFor}
 
 -- A log with one entry more.
 abbrev pub with_entry : LogOf → List ℕ → LogOf
@@ -91,6 +91,13 @@ pub record HasAll {F : Type 0} (seen : F → Files) (may_leave : F → Files →
   pub bundle : l.bundle ≡ bundle_of (drop (256 * (l.edge.len / 256)) next.entries)
   pub staged : AreStagedFor served old next (seen l.folder)
   pub staging : IsStaging (seen l.folder) (may_leave l.folder)
+
+-- These are the text of a log's checkpoint, the same in bytes, and the log's partial tiles.
+pub record IsEndOf (next : LogOf) (said : Said) (text : List ℕ) (parts : List (StoredTile Sha256 Global)) : Type 0 where
+  pub can : CanBeKept next
+  pub says : said ≡ said_of next
+  pub bytes : text ≡ checkpoint_of next
+  pub tiles : ArePartsOf next parts
 
 -- The log's folder keeps the entries of `next`, whose checkpoint's text is still to be noted.
 abbrev pub IsPut : {F : Type 0} → (F → Files) → (F → Files → Type 0) → LogOf → LogIn F → Type 0

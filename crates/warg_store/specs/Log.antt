@@ -1,5 +1,5 @@
 -- A log's entries as files.
-use Rattle.std.specs.Prelude.{◌≡◌, ◌⊎◌, ℕ, ◌*◌, ◌^◌, ◌<◌, ◌≤◌, true, false, List, [], ◌∷◌, ◌++◌, length, take, drop, Option, Some, None, IsSome}
+use Rattle.std.specs.Prelude.{◌≡◌, ◌⊎◌, ℕ, ◌*◌, ◌^◌, ◌<◌, ◌≤◌, true, false, List, ◌∷◌, ◌++◌, length, take, drop, Option, Some, None, IsSome}
 use Rattle.std.specs.List.{AllByRecursion, Contains, flat_map}
 use Rattle.warg_crypto.specs.Digests.{sha256}
 use Rattle.warg_log.specs.Tree.{root_of, leaves_of}
@@ -113,10 +113,16 @@ pub record IsServed (log : LogOf) (files : Files) : Type 0 where
   pub serves : Serves log files
   pub stay : (n : List ℕ) → IsFileOf log n → opened files n ≡ files n
 
--- What a commit's crash leaves: who reads the files finds the log that was served or the next one; opened they keep the old
--- one or the next one.
+-- The state's text is a log's.
+pub record HasState (log : LogOf) (files : Files) : Type 0 where
+  pub can : CanBeKept log
+  pub text : files state ≡ Some (checkpoint_of log)
+
+-- What a commit's crash leaves: who reads the files finds the log that was served or the next one, beside the state of the old
+-- one or the next one; opened they keep the old one or the next one.
 pub record IsOneOf (served old next : LogOf) (files : Files) : Type 0 where
   pub read : IsServed served files ⊎ IsServed next files
+  pub state : HasState old files ⊎ HasState next files
   pub opened : Keeps served old (opened files) ⊎ ((log : LogOf) × Keeps log next (opened files))
 
 -- The name is that of a tile or of a bundle which the next log has and the old one hasn't.

@@ -15,7 +15,7 @@ use crate::recovery::recover;
 use std::alloc::Global;
 use warg_crypto::Sha256;
 use warg_log::{Checkpoint, GREATEST_LENGTH, LogBuilder};
-use warg_tiles::{StoredTile, Tile, TileLog};
+use warg_tiles::{CheckpointText, StoredTile, Tile, TileLog};
 
 /// Told how far a long run has come.
 pub trait Progress {
@@ -57,6 +57,19 @@ pub fn rebuild<F: Folder, P: Progress>(
         return Err(LogError::of_recovery(alloc, &error));
     }
     let state = read_state(alloc, folder)?;
+    remade(alloc, folder, &state, progress)
+}
+
+// The checkpoint that a state says, once its log's tiles are made again.
+fn remade<F: Folder, P: Progress>(
+    alloc: Global,
+    folder: &mut F,
+    state: &CheckpointText<Sha256>,
+    progress: &mut P,
+) -> Result<Checkpoint<Sha256>, LogError>
+    requires { F.IsFaithful → IsStaging (F.seen folder.old) (F.may_leave folder.old) }
+    ensures { IfOk result IsOfEntries }
+{
     let checkpoint = state.checkpoint();
     let log = replayed(alloc, folder, checkpoint.length(), Use::Stage, progress)?;
     let found = same_root(alloc, &log, &checkpoint)?;
