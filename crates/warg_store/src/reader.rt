@@ -144,7 +144,9 @@ impl<F: Folder + Drop> LogReader<F> {
 
     /// As [`LogFolder::audit`], of the checkpoint.
     pub fn audit<P: Progress>(&mut self, progress: &mut P) -> Result<Checkpoint<Sha256>, LogError>
-        ensures { IfOk result IsOfEntries }
+        ensures entries { IfOk result IsOfEntries }
+        ensures cause { HasCauseOf (LogError.Folder FolderError.Failed) F.IsFaithful
+            (F.faults self.old.folder) (F.faults self.new.folder) result }
     {
         let checkpoint = self.text.checkpoint();
         audited(self.alloc, &mut self.folder, &checkpoint, progress)

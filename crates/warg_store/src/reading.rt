@@ -95,7 +95,9 @@ impl<F: Folder + Drop> LogFolder<F> {
     /// Reads every entry that the log keeps, makes each tile again, and compares. `Damaged` names the first file that differs. A
     /// checkpoint that passes is that of entries: those that were read.
     pub fn audit<P: Progress>(&mut self, progress: &mut P) -> Result<Checkpoint<Sha256>, LogError>
-        ensures { IfOk result IsOfEntries }
+        ensures entries { IfOk result IsOfEntries }
+        ensures cause { HasCauseOf (LogError.Folder FolderError.Failed) F.IsFaithful
+            (F.faults self.old.folder) (F.faults self.new.folder) result }
     {
         let checkpoint = self.checkpoint();
         audited(self.alloc, &mut self.folder, &checkpoint, progress)
