@@ -253,9 +253,11 @@ impl<F: Folder + Drop> LogFolder<F> {
     }
 
     /// Keeps what was pushed, and serves it, unless the checkpoint is signed: that one is served until another is signed. All
-    /// of it or nothing, whatever happens at whatever moment; after `Ok` a crash leaves all of it. No name of a tile or a bundle
-    /// that isn't new changes its bytes. A commit of nothing changes nothing. `Memory` only before anything is written, and the log is as it was; after another error it takes no more,
-    /// and the folder is opened again.
+    /// of it or nothing, whatever happens at whatever moment; after `Ok` a crash leaves all of it. The checkpoint's text keeps
+    /// its further lines. No name of a file that isn't new changes its bytes. A commit of nothing changes nothing.
+    ///
+    /// `Memory` and `TooLong` come only before anything is written, and the log is as it was; after another error it takes no
+    /// more, and the folder is opened again.
     pub fn commit(&mut self) -> Result<(), CommitError>
         requires { F.IsFaithful → IsReady F.seen F.may_leave self.old }
         ensures ready { F.IsFaithful → IsReady F.seen F.may_leave self.new }
