@@ -11,15 +11,15 @@ use Rattle.warg_tiles.specs.Between.{IsTileOf}
 use Rattle.warg_tiles.specs.TileLog.{RightEdge, StandsFor}
 use Rattle.warg_tiles.specs.EntryBundles.{bundle_of}
 use Rattle.warg_tiles.specs.CheckpointText.{Said}
-use Rattle.warg_store.specs.Files.{Files, put}
-use Rattle.warg_store.specs.Names.{checkpoint, state, mark, staged, is_staged}
+use Rattle.warg_store.specs.Files.{File, Files, put}
+use Rattle.warg_store.specs.Names.{checkpoint, state, mark, staged, is_staged, page_name}
 use Rattle.warg_store.specs.Opening.{is_signed, opened_by, committed, finished, published, told, IsStaging, NothingStaged}
 use Rattle.warg_store.specs.Log.{LogOf, CanBeKept, said_of, checkpoint_of, Keeps, HasFiles}
 use Rattle.warg_store.specs.Growing.{Has}
 use Rattle.warg_store.proofs.FileLemmas.{put_here}
 use Rattle.warg_store.proofs.ReadLemmas.{unsigned_is}
 use Rattle.warg_store.proofs.StepLemmas.{without_at, told_checkpoint, unmarked}
-use Rattle.warg_store.proofs.LeadLemmas.{extends_self}
+use Rattle.warg_store.proofs.LeadLemmas.{extends_self, own_pages}
 use Rattle.warg_store.proofs.GrowingLemmas.{none_some}
 
 -- a name that is listed nowhere has no file
@@ -34,13 +34,17 @@ absent s names n listed others = at (s n) refl
 
 -- the log of no entries
 abbrev pub no_entries : List ℕ → LogOf
-no_entries origin = record { origin = origin; entries = [] }
+no_entries origin = record { origin = origin; entries = []; lines = []; pages = [] }
 
 -- it has no tile
 pub no_tile : (t : TileAt) → IsTileOf 0 t → ⊥
 no_tile t is =
     let none : 0 / 2 ^ (8 * t.level) ≡ 0 = zero-div (2 ^ (8 * t.level)) in
     omega (arith, is.some, is.width, none)
+
+-- and no page
+no_page : {P : Type 0} (origin : List ℕ) (f : File) → Contains (no_entries origin).pages f → P
+no_page origin f (k, low, is) = absurd (omega arith)
 
 -- What a commit of its text makes of a folder without a checkpoint.
 module _ (origin : List ℕ) (named : CanBeKept (no_entries origin)) (s : Files) (none : s checkpoint ≡ None) where
@@ -54,7 +58,7 @@ module _ (origin : List ℕ) (named : CanBeKept (no_entries origin)) (s : Files)
   at_own n isnt = ap (λ (o : Option (List ℕ)). opened_by o marked n) (put_here (mark, text) s) ∙ without_at (finished text marked) n isnt
 
   no_files : HasFiles (no_entries origin) (committed text s)
-  no_files = record { tile = λ t is. absurd (no_tile t is.exists); bundle = λ t is. absurd (no_tile t is.exists) }
+  no_files = record { tile = λ t is. absurd (no_tile t is.exists); bundle = λ t is. absurd (no_tile t is.exists); page = λ f is. no_page origin f is }
 
   pub created : Keeps (no_entries origin) (no_entries origin) (committed (checkpoint_of (no_entries origin)) s)
   created = record {
@@ -105,5 +109,6 @@ has_none seen may_leave origin folder edge is stands keeps nothing staging =
         bundle = λ t level new. absurd (no_tile t (subst (λ n. IsTileOf n t) taken new.exists));
         nothing_else = λ n served some. absurd (none_some (seen folder (staged n)) (nothing (staged n) refl) some);
       };
+      pages = own_pages [] [] (seen folder) (λ path. nothing (staged (page_name path)) refl);
       staging = staging;
     }

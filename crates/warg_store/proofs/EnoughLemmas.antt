@@ -1,5 +1,5 @@
 -- The tiles that a path needs were read, and what is made of them leads to the log's root.
-use Rattle.std.proofs.Common.{◌≡◌, ⊎_elim, ℕ, ◌+◌, ◌-◌, ◌*◌, ◌/◌, ◌%◌, ◌^◌, ◌<◌, ◌≤◌, ◌||◌, Bool, true, false, cond, List, [], ◌∷◌, ◌++◌, length, map, take, drop, get_or, slice_index_or, Option, Some, None, IsSome, Result, Ok, Err, refl, sym, ap, subst, ◌∙◌, arith}
+use Rattle.std.proofs.Common.{◌≡◌, ℕ, ◌+◌, ◌-◌, ◌*◌, ◌^◌, ◌<◌, ◌≤◌, ◌||◌, Bool, true, false, cond, List, [], ◌∷◌, ◌++◌, length, map, take, drop, get_or, slice_index_or, Option, Some, None, IsSome, Result, Ok, Err, refl, sym, ap, ◌∙◌, arith}
 use Rattle.std.specs.Prelude.{OnOk, IfErr}
 use Rattle.std.specs.List.{AllByRecursion, slice_get}
 use Rattle.std.proofs.lemmas.Bool.{true≢false, le-leb}
@@ -12,7 +12,7 @@ use Rattle.warg_log.specs.Ranges.{leaves_from, IsAligned}
 use Rattle.warg_log.specs.Tree.{root_of, root_over, leaves_of, own_digest}
 use Rattle.warg_log.specs.Cut.{old_over}
 use Rattle.warg_log.proofs.ForCallers.{below_pow, old_more, old_own_range, node_at, root_over_one}
-use Rattle.warg_paths.specs.Paths.{inclusion_of, consistency_of, inclusion_root, consistency_roots, led_to, led_to_both}
+use Rattle.warg_paths.specs.Paths.{inclusion_root, consistency_roots, led_to, led_to_both}
 use Rattle.warg_paths.specs.declared.error.PathError.{PathError}
 use Rattle.warg_paths.specs.declared.error.PathError.TheVariants as path
 use Rattle.warg_paths.proofs.ForCallers.{own_inclusion_leads, own_consistency_leads}

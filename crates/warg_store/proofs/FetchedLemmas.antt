@@ -1,5 +1,5 @@
 -- What is made of a log's own tiles and bundles is the log's.
-use Rattle.std.proofs.Common.{◌≡◌, ℕ, ◌+◌, ◌-◌, ◌*◌, ◌/◌, ◌%◌, ◌^◌, ◌<◌, ◌≤◌, List, [], ◌∷◌, ◌++◌, length, take, drop, min, get_or, Option, Some, refl, sym, ap, subst, ◌∙◌, arith}
+use Rattle.std.proofs.Common.{◌≡◌, ℕ, ◌+◌, ◌-◌, ◌*◌, ◌/◌, ◌%◌, ◌^◌, ◌<◌, ◌≤◌, List, [], ◌∷◌, ◌++◌, length, take, drop, min, get_or, Some, sym, ap, subst, ◌∙◌, arith}
 use Rattle.std.specs.List.{slice_get}
 use Rattle.std.proofs.lemmas.List.{append-nil, length-map, length-drop, length-take-le, get_or-drop, get_or-take}
 use Rattle.std.proofs.lemmas.Option.{slice_get_within, slice_get-get_or, get_or_from_slice_get}
@@ -18,7 +18,7 @@ use Rattle.warg_tiles.specs.EntryBundles.{bundle_of}
 use Rattle.warg_tiles.proofs.ForCallers.{bundle_once, digest_by_own, low_level, tile_own}
 use Rattle.warg_store.specs.Files.{Files}
 use Rattle.warg_store.specs.Moments.{Within}
-use Rattle.warg_store.specs.Log.{LogOf, IsTileIn, IsBundleIn, bundle_bytes, Keeps}
+use Rattle.warg_store.specs.Log.{LogOf, IsTileIn, IsBundleIn, bundle_bytes, Keeps, ArePagesStaged}
 use Rattle.warg_store.specs.Growing.{LogIn, Has, AreFullStaged}
 use Rattle.warg_store.proofs.ReadyLemmas.{staging_kept}
 use Rattle.warg_store.specs.Reading.{inclusion_in, consistency_in}
@@ -110,5 +110,6 @@ has_read seen may_leave served old next l f same within has = record {
   most = has.most;
   bundle = has.bundle;
   staged = subst (AreFullStaged l.text.length l.edge.taken next) (sym same) has.staged;
+  pages = subst (ArePagesStaged served.pages old.pages next.pages) (sym same) has.pages;
   staging = staging_kept (seen l.folder) (seen f) (may_leave l.folder) (may_leave f) same within has.staging;
 }

@@ -16,9 +16,9 @@ use Rattle.warg_tiles.specs.CheckpointText.{Said}
 use Rattle.warg_tiles.specs.TileLog.{RightEdge, StandsFor, full_between, partial_tiles, AreTilesOf}
 use Rattle.warg_tiles.proofs.ForCallers.{full_tiles, partial_of, own_tile, bundle_more, low_level}
 use Rattle.warg_store.specs.Files.{File, Files, put, IsNameOf}
-use Rattle.warg_store.specs.Names.{checkpoint, state, staged, is_staged, is_served}
+use Rattle.warg_store.specs.Names.{checkpoint, state, staged, is_staged, is_tile, page_name}
 use Rattle.warg_store.specs.Opening.{IsBeside, IsStaging, NothingStaged, opened, opened_by}
-use Rattle.warg_store.specs.Log.{LogOf, said_of, Keeps, Extends, IsOneOf, IsCommitting, tile_bytes, bundle_bytes, IsTileIn, IsBundleIn, IsNewName, AreStagedFor}
+use Rattle.warg_store.specs.Log.{LogOf, said_of, Keeps, Extends, IsOneOf, IsCommitting, tile_bytes, bundle_bytes, IsTileIn, IsBundleIn, IsNewTile, ArePagesStaged, AreStagedFor}
 use Rattle.warg_store.specs.Staged.{staged_all, new_files}
 use Rattle.warg_store.specs.Moments.{LeavesOnly}
 use Rattle.warg_store.specs.Growing.{LogIn, Has, HasAll, with_entry, IsNewFull, AreFullStaged}
@@ -26,8 +26,8 @@ use Rattle.warg_store.proofs.NameLemmas.{one_name, apart, staged_once, served_no
 use Rattle.warg_store.proofs.FileLemmas.{put_here, put_apart}
 use Rattle.warg_protobuf.proofs.ForCallers.{all_append}
 use Rattle.warg_store.proofs.MomentLemmas.{stays}
-use Rattle.warg_store.proofs.PathLemmas.{tile_path_once, entries_path_once, no_tile_a_bundle}
-use Rattle.warg_store.proofs.LeadLemmas.{tile_between, end_inside, same_kept, file_served, tile_kept, bundle_kept, extends_self, extends_then}
+use Rattle.warg_store.proofs.PathLemmas.{tile_path_once, entries_path_once, no_tile_a_bundle, no_page_a_tile, no_page_a_bundle}
+use Rattle.warg_store.proofs.LeadLemmas.{tile_between, end_inside, same_kept, file_served, tile_kept, bundle_kept, extends_self, extends_then, pages_stay, own_pages}
 use Rattle.warg_store.proofs.StagedLemmas.{staged_there, staged_from, staged_outside}
 
 -- Tiles of a length, and of an older one.
@@ -99,6 +99,13 @@ all_tiles : (P Q : TileAt × List (List ℕ) → Type 0) → ((x : TileAt × Lis
 all_tiles P Q weak [] each = tt
 all_tiles P Q weak (x ∷ xs) each = (weak x each.0, all_tiles P Q weak xs each.1)
 
+-- at another name nothing changes
+others : (n : List ℕ) (fs : List File) (u : Files) → AllByRecursion (λ f. f.0 ≡ n → ⊥) fs
+    → staged_all fs u (staged n) ≡ u (staged n)
+others n [] u each = refl
+others n (f ∷ fs) u each = others n fs (put (staged f.0, f.1) u) each.1
+    ∙ put_apart (staged f.0, f.1) u (staged n) (λ e. each.0 (staged_once f.0 n e))
+
 -- Tiles of a log that are staged: R says of each which one it is.
 module _ (log : LogOf) (R : TileAt → Type 0) (low : (t : TileAt) → R t → t.level < 8) (most : (t : TileAt) → R t → t.width ≤ 256) (older : ℕ) (tiles : Tiles)
     (own : AllByRecursion (λ (x : TileAt × List (List ℕ)). R x.0 × (flat_map (λ digest. digest) x.1 ≡ tile_bytes log x.0)) tiles) (s : Files) where
@@ -114,12 +121,13 @@ module _ (log : LogOf) (R : TileAt → Type 0) (low : (t : TileAt) → R t → t
 
   -- at the path of a bundle nothing changes
   pub bundle_there : (t : TileAt) → t.level < 8 → after (staged (entries_path t)) ≡ s (staged (entries_path t))
-  bundle_there t lt = others (new_files older tiles) s
+  bundle_there t lt = others (entries_path t) (new_files older tiles) s
       (each_file (λ f. f.0 ≡ entries_path t → ⊥) older tiles (all_tiles _ _ (λ x is new path. no_tile_a_bundle x.0 t (low x.0 is.0) path) tiles own))
-    where
-      others : (fs : List File) (u : Files) → AllByRecursion (λ f. f.0 ≡ entries_path t → ⊥) fs → staged_all fs u (staged (entries_path t)) ≡ u (staged (entries_path t))
-      others [] u each = refl
-      others (f ∷ fs) u each = others fs (put (staged f.0, f.1) u) each.1 ∙ put_apart (staged f.0, f.1) u (staged (entries_path t)) (λ e. each.0 (staged_once f.0 (entries_path t) e))
+
+  -- nor at the name of a page
+  pub page_there : (path : List ℕ) → after (staged (page_name path)) ≡ s (staged (page_name path))
+  page_there path = others (page_name path) (new_files older tiles) s
+      (each_file (λ f. f.0 ≡ page_name path → ⊥) older tiles (all_tiles _ _ (λ x is new at. no_page_a_tile x.0 path at) tiles own))
 
   -- what is staged was staged, or is one of these
   pub staged_by : (n : List ℕ) → IsSome (after (staged n)) → IsSome (s (staged n)) ⊎ ((t : TileAt) × R t × (tile_end t ≤ older → ⊥) × (tile_path t ≡ n))
@@ -186,6 +194,12 @@ module _ (log : LogOf) (older taken number : ℕ) (tiles : Tiles) (bytes : List 
   apart_tile : (t : TileAt) → t.level < 8 → staged (entries_path (bundle_tile number)) ≢ staged (tile_path t)
   apart_tile t lt e = no_tile_a_bundle t (bundle_tile number) lt (sym (staged_once (entries_path (bundle_tile number)) (tile_path t) e))
 
+  pub full_pages : (path : List ℕ) → now (staged (page_name path)) ≡ s (staged (page_name path))
+  full_pages path = put_apart (staged (entries_path (bundle_tile number)), bytes) (staged_all (new_files older tiles) s)
+      (staged (page_name path))
+      (λ e. no_page_a_bundle (bundle_tile number) path (staged_once (entries_path (bundle_tile number)) (page_name path) e))
+      ∙ page_there log IsFilled low wide older tiles files s path
+
   pub full_staged : AreFullStaged older (length log.entries) log now
   full_staged = record {
     tile = λ t lt is. put_apart (staged (entries_path (bundle_tile number)), bytes) (staged_all (new_files older tiles) s) (staged (tile_path t)) (apart_tile t lt)
@@ -234,6 +248,7 @@ beside_one_of served old next s c keeps beside =
         serves = (keeps_beside served old s c beside.outside keeps).serves;
         stay = λ n is. same n (served_not_staged n (file_served served n is));
       });
+      state = inl (record { can = keeps.can; text = beside.outside state refl ∙ keeps.state });
       opened = inl (keeps_beside served old s (opened c) (λ n isnt. same n isnt ∙ beside.outside n isnt) keeps);
     }
 
@@ -298,6 +313,11 @@ module _ {F : Type 0} (seen : F → Files) (may_leave : F → Files → Type 0) 
   unfolding bundle_of
   empty_now = sym (ap bundle_of (drop_all (256 * (m.edge.taken / 256)) next.entries (omega (arith, taken_now, count, filled_len))))
 
+  same_pages : (path : List ℕ) → seen m.folder (staged (page_name path)) ≡ seen l.folder (staged (page_name path))
+  same_pages path = ap (λ (f : Files). f (staged (page_name path))) puts
+      ∙ full_pages next l.text.length l.edge.taken number tiles l.bundle (seen l.folder) has.since (omega (arith, has.order, count)) (omega (arith, most, count)) (omega (arith, count, filled_len, at_block)) (sym at_block)
+      (subst (λ n. AreTilesOf sha256 (leaves_of sha256 next.entries) (full_between l.edge.taken n) tiles) (sym count) (own (leaves_of sha256 next.entries) has.edge)) holds has.staged path
+
   pub filled_has : Has seen may_leave served old next m
   filled_has = record {
     is_open = is_open ∙ has.is_open;
@@ -312,6 +332,7 @@ module _ {F : Type 0} (seen : F → Files) (may_leave : F → Files → Type 0) 
     most = omega (arith, held_now);
     bundle = bundle ∙ empty_now;
     staged = all_staged;
+    pages = pages_stay served.pages old.pages next.pages (seen l.folder) (seen m.folder) same_pages has.pages;
     staging = staging;
   }
 
@@ -326,7 +347,11 @@ module _ {F : Type 0} (seen : F → Files) (may_leave : F → Files → Type 0) 
   kept_added = ap (λ (s : Said). s.length) text
 
   grown : Extends next longer
-  grown = record { origin = refl; entries = (entry ∷ [], refl) }
+  grown = record {
+    origin = refl;
+    entries = (entry ∷ [], refl);
+    still = λ same. absurd (omega (arith, same, length-append next.entries (entry ∷ [])));
+  }
 
   size : length next.entries ≡ l.edge.len
   size = sym (length-map next.entries (λ (e : List ℕ). sha256 (0 ∷ e))) ∙ has.edge.count
@@ -370,6 +395,7 @@ module _ {F : Type 0} (seen : F → Files) (may_leave : F → Files → Type 0) 
     most = omega (arith, held, room);
     bundle = bundle ∙ sym tail;
     staged = subst (λ (f : F). AreFullStaged m.text.length m.edge.taken longer (seen f)) (sym folder) (subst (λ k. AreFullStaged k m.edge.taken longer (seen l.folder)) (sym kept_added) (subst (λ n. AreFullStaged l.text.length n longer (seen l.folder)) (sym taken) more_staged));
+    pages = subst (λ (f : F). ArePagesStaged served.pages old.pages next.pages (seen f)) (sym folder) has.pages;
     staging = subst (λ (f : F). IsStaging (seen f) (may_leave f)) (sym folder) has.staging;
   }
 
@@ -387,10 +413,10 @@ abbrev pub last_bundle : ℕ → ℕ → TileAt
 last_bundle number held = record { level = 0; number = number; width = held }
 
 -- With the tiles and the bundle of the log's end staged, all that is new is.
-module _ (old next : LogOf) (taken held : ℕ) (tiles : Tiles) (bytes : List ℕ) (s final : Files) (before : length old.entries ≤ taken) (order : taken ≤ length next.entries) (grown : length old.entries < length next.entries)
+module _ (served old next : LogOf) (taken held : ℕ) (tiles : Tiles) (bytes : List ℕ) (s final : Files) (before : length old.entries ≤ taken) (order : taken ≤ length next.entries) (grown : length old.entries < length next.entries)
     (most : length next.entries ≤ 2 ^ 63) (block : taken / 256 ≡ length next.entries / 256) (ends : 256 * (length next.entries / 256) + held ≡ length next.entries)
     (own : AreTilesOf sha256 (leaves_of sha256 next.entries) (partial_tiles (length next.entries)) tiles) (holds : bytes ≡ bundle_of (drop (256 * (length next.entries / 256)) next.entries))
-    (was : AreFullStaged (length old.entries) taken next s)
+    (was : AreFullStaged (length old.entries) taken next s) (pages : ArePagesStaged served.pages old.pages next.pages s)
     (puts : ((held ≡ 0) × (final ≡ staged_all (new_files (length old.entries) tiles) s))
     ⊎ ((0 < held) × (final ≡ put (staged (entries_path (last_bundle (length next.entries / 256) held)), bytes) (staged_all (new_files (length old.entries) tiles) s)))) where
   abbrev IsPart : TileAt → Type 0
@@ -453,7 +479,7 @@ module _ (old next : LogOf) (taken held : ℕ) (tiles : Tiles) (bytes : List ℕ
   bundle_before : (t : TileAt) → t.level ≡ 0 → t.width ≡ 256 → IsTileOf (length next.entries) t → (IsTileOf older t → ⊥) → so_far (staged (entries_path t)) ≡ Some (bundle_bytes next t)
   bundle_before t level full is new = bundle_there next IsPart part_low part_wide older tiles part_files s t (omega (arith, level)) ∙ was.bundle t level (full_new t full is new)
 
-  nothing_before : (n : List ℕ) → is_served n ≡ true → IsSome (so_far (staged n)) → IsNewName old next n
+  nothing_before : (n : List ℕ) → is_tile n ≡ true → IsSome (so_far (staged n)) → IsNewTile old next n
   nothing_before n is_there some = ⊎_elim
       (λ before. ⊎_elim
       (λ (t, lt, is, path). inl (t, record { level = lt; exists = is.exists }, (λ (was_in : IsTileIn old t). is.new was_in.exists), path))
@@ -462,8 +488,12 @@ module _ (old next : LogOf) (taken held : ℕ) (tiles : Tiles) (bytes : List ℕ
       (λ by. inl (by.0, record { level = part_low by.0 by.1; exists = by.1.0 }, (λ (was_in : IsTileIn old by.0). by.2 (end_inside older by.0 was_in.exists)), by.3))
       (staged_by next IsPart part_low part_wide older tiles part_files s n some)
 
+  pages_before : ArePagesStaged served.pages old.pages next.pages so_far
+  pages_before = pages_stay served.pages old.pages next.pages s so_far
+      (page_there next IsPart part_low part_wide older tiles part_files s) pages
+
   -- where no bundle is left
-  none_left : held ≡ 0 → AreStagedFor old next so_far
+  none_left : held ≡ 0 → AreStagedFor served old next so_far
   none_left none = record {
     tile = λ t is new. tile_at t is.level is.exists (λ was_in. new (record { level = is.level; exists = was_in }));
     bundle = λ t is new. elim (cases_eq t.width 256) [
@@ -471,13 +501,14 @@ module _ (old next : LogOf) (taken held : ℕ) (tiles : Tiles) (bytes : List ℕ
       | inr other ↦ let last = the_last_part t is.level is.exists (part_width t is.exists other) in absurd (omega (arith, last.1, none))
     ];
     nothing_else = nothing_before;
+    pages = pages_before;
   }
 
   abbrev last : TileAt
   last = last_bundle (length next.entries / 256) held
 
   -- and where one is
-  one_left : 0 < held → AreStagedFor old next (put (staged (entries_path (last_bundle (length next.entries / 256) held)), bytes) so_far)
+  one_left : 0 < held → AreStagedFor served old next (put (staged (entries_path (last_bundle (length next.entries / 256) held)), bytes) so_far)
   one_left some = record {
     tile = λ t is new. put_apart (staged (entries_path last), bytes) so_far (staged (tile_path t)) (λ e. no_tile_a_bundle t last is.level (sym (staged_once (entries_path last) (tile_path t) e)))
         ∙ tile_at t is.level is.exists (λ was_in. new (record { level = is.level; exists = was_in }));
@@ -494,10 +525,14 @@ module _ (old next : LogOf) (taken held : ℕ) (tiles : Tiles) (bytes : List ℕ
       | inl here ↦ inr (last, record { level = refl; exists = last_part some }, (λ (was_in : IsBundleIn old last). last_new some was_in.exists), staged_once (entries_path last) n here.1)
       | inr other ↦ nothing_before n is_there (subst IsSome (put_apart (staged (entries_path last), bytes) so_far (staged n) other.1) found)
     ];
+    pages = pages_stay served.pages old.pages next.pages so_far (put (staged (entries_path last), bytes) so_far)
+        (λ path. put_apart (staged (entries_path last), bytes) so_far (staged (page_name path))
+        (λ e. no_page_a_bundle last path (staged_once (entries_path last) (page_name path) e))) pages_before;
   }
 
-  pub end_staged : AreStagedFor old next final
-  end_staged = ⊎_elim (λ (none, is). subst (AreStagedFor old next) (sym is) (none_left none)) (λ (some, is). subst (AreStagedFor old next) (sym is) (one_left some)) puts
+  pub end_staged : AreStagedFor served old next final
+  end_staged = ⊎_elim (λ (none, is). subst (AreStagedFor served old next) (sym is) (none_left none))
+      (λ (some, is). subst (AreStagedFor served old next) (sym is) (one_left some)) puts
 
 -- The log's end staged beside what its entries filled.
 module _ {F : Type 0} (seen : F → Files) (may_leave : F → Files → Type 0) (served old next : LogOf) (l m : LogIn F) (tiles : Tiles) (has : Has seen may_leave served old next l) (room : l.held < 256) (new : l.text.length < l.edge.len)
@@ -542,8 +577,8 @@ module _ {F : Type 0} (seen : F → Files) (may_leave : F → Files → Type 0) 
     edge = subst (λ (e : RightEdge). StandsFor sha256 e (leaves_of sha256 next.entries)) (sym edge) has.edge;
     held = omega (arith, ap (λ (e : RightEdge). e.len) edge, held, has.held, room);
     bundle = bundle ∙ bundle_now ∙ ap (λ n. bundle_of (drop (256 * (n / 256)) next.entries)) (size_now ∙ sym (ap (λ (e : RightEdge). e.len) edge));
-    staged = end_staged old next l.edge.taken l.held tiles l.bundle (seen l.folder) (seen m.folder) (omega (arith, has.since, kept_old)) (omega (arith, has.order, size_now)) (omega (arith, new, kept_old, size_now))
-        (omega (arith, most, size_now)) blocks (omega (arith, has.held, room, size_now)) own bundle_now (subst (λ n. AreFullStaged n l.edge.taken next (seen l.folder)) kept_old has.staged) puts_now;
+    staged = end_staged served old next l.edge.taken l.held tiles l.bundle (seen l.folder) (seen m.folder) (omega (arith, has.since, kept_old)) (omega (arith, has.order, size_now)) (omega (arith, new, kept_old, size_now))
+        (omega (arith, most, size_now)) blocks (omega (arith, has.held, room, size_now)) own bundle_now (subst (λ n. AreFullStaged n l.edge.taken next (seen l.folder)) kept_old has.staged) has.pages puts_now;
     staging = staging;
   }
 
@@ -577,6 +612,7 @@ all_kept seen may_leave served old next log l m all keeps nothing staging is_ope
         bundle = λ t level is. absurd (none t is.exists is.new taken size kept);
         nothing_else = λ n served some. absurd (none_staged n (nothing (staged n) refl) some);
       };
+      pages = own_pages log.pages next.pages (seen m.folder) (λ path. nothing (staged (page_name path)) refl);
       staging = staging;
     }
   where
@@ -591,8 +627,14 @@ pub same_length : (old next : LogOf) → Extends old next → length old.entries
 same_length old next by same =
     let more = nil_from_length by.entries.0 (omega (arith, same, ap (λ (es : List (List ℕ)). length es) by.entries.1, length-append old.entries by.entries.0)) in
     let whole : next.entries ≡ old.entries = by.entries.1 ∙ ap (λ (es : List (List ℕ)). old.entries ++ es) more ∙ append-nil old.entries in
-    subst (λ o. old ≡ record { origin = o; entries = next.entries }) (sym by.origin)
-    (subst (λ (es : List (List ℕ)). old ≡ record { origin = old.origin; entries = es }) (sym whole) refl)
+    let still = by.still (sym same) in
+    ap (λ o. make o old.entries old.lines old.pages) (sym by.origin)
+    ∙ ap (λ es. make next.origin es old.lines old.pages) (sym whole)
+    ∙ ap (λ ls. make next.origin next.entries ls old.pages) (sym still.0)
+    ∙ ap (λ ps. make next.origin next.entries next.lines ps) (sym still.1)
+  where
+    make : List ℕ → List (List ℕ) → List (List ℕ) → List File → LogOf
+    make origin entries lines pages = record { origin = origin; entries = entries; lines = lines; pages = pages }
 
 -- Where no call is made, a crash leaves the log.
 module _ {F : Type 0} (seen : F → Files) (may_leave : F → Files → Type 0) (moment : F → ℕ) (left_since : F → ℕ → Files → Type 0) (served old next : LogOf) (l : LogIn F) where

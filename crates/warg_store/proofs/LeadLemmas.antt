@@ -1,7 +1,7 @@
 -- A log that grows, as files.
 use Rattle.std.proofs.Common.{◌≡◌, ◌⊎◌, inl, inr, ⊎_elim, ℕ, zero, suc, ◌+◌, ◌-◌, ◌*◌, ◌/◌, ◌^◌, ◌<◌, ◌≤◌, true, false, List, [], ◌++◌, length, take, drop, map, min, Option, Some, None, IsSome, append_assoc, refl, sym, ap, ◌∙◌, subst, arith}
 use Rattle.std.specs.Option.{option_or}
-use Rattle.std.specs.List.{flat_map, range_with_len}
+use Rattle.std.specs.List.{Contains, flat_map, range_with_len}
 use Rattle.std.proofs.lemmas.Bool.{cases_Bool, cases_eq}
 use Rattle.std.proofs.lemmas.List.{take-append-le, drop-append-le, length-drop, length-map, length-append, map-append, append-nil}
 use Rattle.std.proofs.Math.Nat.{div-mul-le_self, mul-le-mul_right}
@@ -16,12 +16,12 @@ use Rattle.warg_tiles.specs.TilePaths.{tile_path, entries_path}
 use Rattle.warg_tiles.specs.Between.{IsTileOf}
 use Rattle.warg_tiles.specs.TileLog.{tile_digests}
 use Rattle.warg_tiles.specs.EntryBundles.{bundle_of}
-use Rattle.warg_store.specs.Files.{Files}
-use Rattle.warg_store.specs.Names.{checkpoint, state, mark, staged, is_own, is_served}
+use Rattle.warg_store.specs.Files.{File, Files}
+use Rattle.warg_store.specs.Names.{checkpoint, state, mark, staged, is_own, page_name, is_served}
 use Rattle.warg_store.specs.Opening.{is_signed, checkpoint_after, opened, committed, IsBetween}
-use Rattle.warg_store.specs.Log.{LogOf, CanBeKept, checkpoint_of, tile_bytes, bundle_bytes, IsTileIn, IsBundleIn, HasFiles, Serves, IsFileOf, Extends, Keeps, IsServed, IsOneOf, IsCommitting, IsNewName, AreStagedFor}
-use Rattle.warg_store.proofs.NameLemmas.{apart, served_not_own}
-use Rattle.warg_store.proofs.PathLemmas.{tile_path_once, entries_path_once, no_tile_a_bundle}
+use Rattle.warg_store.specs.Log.{LogOf, CanBeKept, checkpoint_of, tile_bytes, bundle_bytes, IsTileIn, IsBundleIn, HasFiles, Serves, IsFileOf, Extends, Keeps, IsServed, IsOneOf, IsCommitting, HasPage, IsNewPage, IsNewName, ArePagesStaged, AreStagedFor}
+use Rattle.warg_store.proofs.NameLemmas.{apart, served_not_own, served_kind, page_once}
+use Rattle.warg_store.proofs.PathLemmas.{tile_path_once, entries_path_once, no_tile_a_bundle, no_page_a_tile, no_page_a_bundle}
 use Rattle.warg_store.proofs.ServeLemmas.{idle_same, committed_served, opened_idle}
 
 -- a part of a list is that of a longer one
@@ -95,7 +95,8 @@ module _ (old next : LogOf) (extends : Extends old next) where
 -- each file of a log is a served one, and none of the log's own
 pub file_served : (log : LogOf) (n : List ℕ) → IsFileOf log n → is_served n ≡ true
 file_served log n (inl tile) = ap is_served (sym tile.2)
-file_served log n (inr bundle) = ap is_served (sym bundle.2)
+file_served log n (inr (inl bundle)) = ap is_served (sym bundle.2)
+file_served log n (inr (inr page)) = ap is_served (sym page.2)
 
 file_outside : (log : LogOf) (n : List ℕ) → IsFileOf log n → is_own n ≡ false
 file_outside log n is = served_not_own n (file_served log n is)
@@ -104,7 +105,8 @@ file_outside log n is = served_not_own n (file_served log n is)
 pub same_files : (log : LogOf) (s c : Files) → ((n : List ℕ) → IsFileOf log n → c n ≡ s n) → HasFiles log s → HasFiles log c
 same_files log s c same has = record {
   tile = λ t is. same (tile_path t) (inl (t, is, refl)) ∙ has.tile t is;
-  bundle = λ t is. same (entries_path t) (inr (t, is, refl)) ∙ has.bundle t is;
+  bundle = λ t is. same (entries_path t) (inr (inl (t, is, refl))) ∙ has.bundle t is;
+  page = λ f is. same (page_name f.0) (inr (inr (f, is, refl))) ∙ has.page f is;
 }
 
 pub same_served : (log : LogOf) (s c : Files) → ((n : List ℕ) → IsFileOf log n → c n ≡ s n) → c checkpoint ≡ s checkpoint → Serves log s → Serves log c
@@ -121,22 +123,68 @@ same_kept served log s c same text says keeps = record {
 }
 
 pub extends_self : (log : LogOf) → Extends log log
-extends_self log = record { origin = refl; entries = ([], sym (append-nil log.entries)) }
+extends_self log = record { origin = refl; entries = ([], sym (append-nil log.entries)); still = λ same. (refl, refl) }
+
+pub extends_length : (a b : LogOf) → Extends a b → length a.entries ≤ length b.entries
+extends_length a b one = omega (arith, ap length one.entries.1, length-append a.entries one.entries.0)
 
 pub extends_then : (a b c : LogOf) → Extends a b → Extends b c → Extends a c
 extends_then a b c one two = record {
   origin = two.origin ∙ one.origin;
   entries = (one.entries.0 ++ two.entries.0, two.entries.1 ∙ ap (λ (l : List (List ℕ)). l ++ two.entries.0) one.entries.1 ∙ append_assoc a.entries one.entries.0 two.entries.0);
+  still = λ same.
+      let first = one.still (omega (arith, same, extends_length a b one, extends_length b c two)) in
+      let second = two.still (omega (arith, same, extends_length a b one, extends_length b c two)) in
+      (second.0 ∙ first.0, second.1 ∙ first.1);
 }
 
-pub extends_length : (a b : LogOf) → Extends a b → length a.entries ≤ length b.entries
-extends_length a b one = omega (arith, ap length one.entries.1, length-append a.entries one.entries.0)
+-- Pages that are staged beside those of one log are staged beside those of another in its place.
+pub pages_beside : (served other old next : List File) (s t : Files) → ((path : List ℕ) → HasPage other path → HasPage old path)
+    → ((path : List ℕ) → t (staged (page_name path)) ≡ s (staged (page_name path)))
+    → ArePagesStaged served old next s → ArePagesStaged other old next t
+pages_beside served other old next s t within same are = record {
+  page = λ f is. ⊎_elim (λ was. inl was)
+      (λ new. inr (new.0, (λ has. new.0 (within f.0 has)), same f.0 ∙ new.2)) (are.page f is);
+  nothing_else = λ path some. are.nothing_else path (subst IsSome (same path) some);
+}
 
-module _ (served old next : LogOf) (begins : Extends served old) (extends : Extends old next) (files : Files) (are_staged : AreStagedFor old next files) where
+-- where staged files stay, so do staged pages
+pub pages_stay : (served old next : List File) (s t : Files)
+    → ((path : List ℕ) → t (staged (page_name path)) ≡ s (staged (page_name path)))
+    → ArePagesStaged served old next s → ArePagesStaged served old next t
+pages_stay served old next s t same are = record {
+  page = λ f is. ⊎_elim (λ was. inl was) (λ new. inr (new.0, new.1, same f.0 ∙ new.2)) (are.page f is);
+  nothing_else = λ path some. are.nothing_else path (subst IsSome (same path) some);
+}
+
+-- old pages alone are there where none is staged
+pub own_pages : (served old : List File) (s : Files) → ((path : List ℕ) → s (staged (page_name path)) ≡ None)
+    → ArePagesStaged served old old s
+own_pages served old s none = record {
+  page = λ f is. inl is;
+  nothing_else = λ path some. absurd (apart (sym (subst IsSome (none path) some)));
+}
+
+module _ (served old next : LogOf) (begins : Extends served old) (extends : Extends old next) (files : Files) (are_staged : AreStagedFor served old next files) where
+  -- what is staged is a file that the next log has and the old one hasn't
+  new_by : (n : List ℕ) → is_served n ≡ true → IsSome (files (staged n)) → IsNewName old next n
+  new_by n is some = elim (served_kind n is) [
+    | inl tile ↦ inl (are_staged.nothing_else n tile some)
+    | inr page ↦ inr (subst (IsNewPage old.pages next.pages) (sym page.1)
+        (are_staged.pages.nothing_else page.0 (subst (λ m. IsSome (files (staged m))) page.1 some)))
+  ]
+
   -- nothing is staged at the name of a file that the old log has, or one that it continues
   none_by : (n : List ℕ) → is_served n ≡ true → (IsNewName old next n → ⊥) → (o : Option (List ℕ)) → files (staged n) ≡ o → o ≡ None
   none_by n is old_name None e = refl
-  none_by n is old_name (Some bytes) e = absurd (old_name (are_staged.nothing_else n is (subst IsSome (sym e) refl)))
+  none_by n is old_name (Some bytes) e = absurd (old_name (new_by n is (subst IsSome (sym e) refl)))
+
+  -- no page of the served log is new
+  no_new_page : (f g : File) → Contains next.pages g → f.0 ≡ g.0 → Contains served.pages f → (HasPage old.pages g.0 → ⊥) → ⊥
+  no_new_page f g is same was new = ⊎_elim
+      (λ own. new (g.1, own))
+      (λ fresh. fresh.1 (f.1, subst (λ path. Contains served.pages (path, f.1)) same was))
+      (are_staged.pages.page g is)
 
   tile_old : (t : TileAt) → IsTileIn served t → IsTileIn next t → IsTileIn old t
   tile_old t is new = record { level = is.level; exists = tile_between _ _ _ t (extends_length served old begins) (extends_length old next extends) is.exists new.exists }
@@ -145,14 +193,19 @@ module _ (served old next : LogOf) (begins : Extends served old) (extends : Exte
   bundle_old t is new = record { level = is.level; exists = tile_between _ _ _ t (extends_length served old begins) (extends_length old next extends) is.exists new.exists }
 
   pub not_new : (n : List ℕ) → IsFileOf served n → IsNewName old next n → ⊥
-  not_new n (inl is) (inl new) =
+  not_new n (inl is) (inl (inl new)) =
       let same : new.0 ≡ is.0 = tile_path_once new.0 is.0 new.1.level is.1.level (width_at_most _ new.0 new.1.exists) (width_at_most _ is.0 is.1.exists) (new.3 ∙ sym is.2) in
       new.2 (subst (IsTileIn old) (sym same) (tile_old is.0 is.1 (subst (IsTileIn next) same new.1)))
-  not_new n (inl is) (inr new) = no_tile_a_bundle is.0 new.0 is.1.level (is.2 ∙ sym new.3)
-  not_new n (inr is) (inl new) = no_tile_a_bundle new.0 is.0 new.1.level (new.3 ∙ sym is.2)
-  not_new n (inr is) (inr new) =
+  not_new n (inl is) (inl (inr new)) = no_tile_a_bundle is.0 new.0 is.1.level (is.2 ∙ sym new.3)
+  not_new n (inl is) (inr new) = no_page_a_tile is.0 new.0.0 (is.2 ∙ sym new.3)
+  not_new n (inr (inl is)) (inl (inl new)) = no_tile_a_bundle new.0 is.0 new.1.level (new.3 ∙ sym is.2)
+  not_new n (inr (inl is)) (inl (inr new)) =
       let same : new.0 ≡ is.0 = entries_path_once new.0 is.0 new.1.level is.1.level (width_at_most _ new.0 new.1.exists) (width_at_most _ is.0 is.1.exists) (new.3 ∙ sym is.2) in
       new.2 (subst (IsBundleIn old) (sym same) (bundle_old is.0 is.1 (subst (IsBundleIn next) same new.1)))
+  not_new n (inr (inl is)) (inr new) = no_page_a_bundle is.0 new.0.0 (is.2 ∙ sym new.3)
+  not_new n (inr (inr is)) (inl (inl new)) = no_page_a_tile new.0 is.0.0 (new.3 ∙ sym is.2)
+  not_new n (inr (inr is)) (inl (inr new)) = no_page_a_bundle new.0 is.0.0 (new.3 ∙ sym is.2)
+  not_new n (inr (inr is)) (inr new) = no_new_page is.0 new.0 new.1 (page_once is.0.0 new.0.0 (is.2 ∙ sym new.3)) is.1 new.2
 
   pub stays : (text n : List ℕ) → IsFileOf served n → committed text files n ≡ files n
   stays text n is =
@@ -160,7 +213,16 @@ module _ (served old next : LogOf) (begins : Extends served old) (extends : Exte
       let none : files (staged n) ≡ None = none_by n served_name (not_new n is) (files (staged n)) refl in
       committed_served files text n served_name ∙ ap (λ (o : Option (List ℕ)). option_or o (files n)) none
 
-module _ (old next : LogOf) (extends : Extends old next) (files : Files) (are_staged : AreStagedFor old next files) where
+module _ (served old next : LogOf) (extends : Extends old next) (files : Files) (are_staged : AreStagedFor served old next files) where
+  -- they are staged beside the old log's, too
+  staged_for_old : AreStagedFor old old next files
+  staged_for_old = record {
+    tile = are_staged.tile;
+    bundle = are_staged.bundle;
+    nothing_else = are_staged.nothing_else;
+    pages = pages_beside served.pages old.pages old.pages next.pages files files (λ path has. has) (λ path. refl) are_staged.pages;
+  }
+
   new_at : (text n bytes : List ℕ) → is_served n ≡ true → files (staged n) ≡ Some bytes → committed text files n ≡ Some bytes
   new_at text n bytes is there = committed_served files text n is ∙ ap (λ (o : Option (List ℕ)). option_or o (files n)) there
 
@@ -168,14 +230,17 @@ module _ (old next : LogOf) (extends : Extends old next) (files : Files) (are_st
   pub next_files : (text : List ℕ) → HasFiles old files → HasFiles next (committed text files)
   next_files text has = record {
     tile = λ t is. ⊎_elim
-        (λ was. stays old old next (extends_self old) extends files are_staged text (tile_path t) (inl (t, was, refl)) ∙ has.tile t was ∙ ap (λ (b : List ℕ). Some b) (sym (tile_kept old next extends t was)))
+        (λ was. stays old old next (extends_self old) extends files staged_for_old text (tile_path t) (inl (t, was, refl)) ∙ has.tile t was ∙ ap (λ (b : List ℕ). Some b) (sym (tile_kept old next extends t was)))
         (λ new. new_at text (tile_path t) (tile_bytes next t) refl (are_staged.tile t is new)) (tile_was old next extends t is);
     bundle = λ t is. ⊎_elim
-        (λ was. stays old old next (extends_self old) extends files are_staged text (entries_path t) (inr (t, was, refl)) ∙ has.bundle t was ∙ ap (λ (b : List ℕ). Some b) (sym (bundle_kept old next extends t was)))
+        (λ was. stays old old next (extends_self old) extends files staged_for_old text (entries_path t) (inr (inl (t, was, refl))) ∙ has.bundle t was ∙ ap (λ (b : List ℕ). Some b) (sym (bundle_kept old next extends t was)))
         (λ new. new_at text (entries_path t) (bundle_bytes next t) refl (are_staged.bundle t is new)) (bundle_was old next extends t is);
+    page = λ f is. ⊎_elim
+        (λ was. stays old old next (extends_self old) extends files staged_for_old text (page_name f.0) (inr (inr (f, was, refl))) ∙ has.page f was)
+        (λ new. new_at text (page_name f.0) f.1 refl new.2) (are_staged.pages.page f is);
   }
 
-module _ (served old next : LogOf) (files : Files) (keeps : Keeps served old files) (extends : Extends old next) (are_staged : AreStagedFor old next files) (text : List ℕ) (says : text ≡ checkpoint_of next) (named : CanBeKept next) where
+module _ (served old next : LogOf) (files : Files) (keeps : Keeps served old files) (extends : Extends old next) (are_staged : AreStagedFor served old next files) (text : List ℕ) (says : text ≡ checkpoint_of next) (named : CanBeKept next) where
   committed_checkpoint : committed text files checkpoint ≡ checkpoint_after text (files checkpoint)
   committed_checkpoint = refl
 
@@ -187,7 +252,7 @@ module _ (served old next : LogOf) (files : Files) (keeps : Keeps served old fil
   signed_keeps is = record {
     can = named;
     state = ap (λ (b : List ℕ). Some b) says;
-    holds = next_files old next extends files are_staged text keeps.holds;
+    holds = next_files served old next extends files are_staged text keeps.holds;
     serves = same_served served files (committed text files) served_stays (rw is refl) keeps.serves;
     begins = extends_then served old next keeps.begins extends;
     newest = λ unsigned. absurd (apart (sym is ∙ ap is_signed (sym (rw is refl)) ∙ unsigned));
@@ -197,8 +262,8 @@ module _ (served old next : LogOf) (files : Files) (keeps : Keeps served old fil
   unsigned_keeps isnt = record {
     can = named;
     state = ap (λ (b : List ℕ). Some b) says;
-    holds = next_files old next extends files are_staged text keeps.holds;
-    serves = record { can = named; checkpoint = (None, rw isnt (ap (λ (b : List ℕ). Some b) says)); holds = next_files old next extends files are_staged text keeps.holds };
+    holds = next_files served old next extends files are_staged text keeps.holds;
+    serves = record { can = named; checkpoint = (None, rw isnt (ap (λ (b : List ℕ). Some b) says)); holds = next_files served old next extends files are_staged text keeps.holds };
     begins = extends_self next;
     newest = λ unsigned. refl;
   }
@@ -238,6 +303,10 @@ module _ (served old next : LogOf) (files : Files) (keeps : Keeps served old fil
         | inl is ↦ inl (as_before (⊎_elim (λ e. e) (λ all. all checkpoint refl ∙ rw is refl) was.whole))
         | inr isnt ↦ ⊎_elim (λ e. inl (as_before e)) (λ all. inr (as_next isnt all)) was.whole
       ];
+      state = ⊎_elim
+          (λ e. inl (record { can = keeps.can; text = e ∙ keeps.state }))
+          (λ e. inr (record { can = named; text = e ∙ ap (λ (b : List ℕ). Some b) says }))
+          was.state;
       opened = ⊎_elim
           (λ (e, same). inl (subst (Keeps served old) (sym e) (opened_idle_keeps)))
           (λ e. inr (next_keeps.0, subst (Keeps next_keeps.0 next) (sym e) next_keeps.1))

@@ -1,5 +1,5 @@
 -- How a run of calls goes on.
-use Rattle.std.proofs.Common.{inl, inr, ⊎_elim, ℕ, arith}
+use Rattle.std.proofs.Common.{◌≤◌, inl, inr, ⊎_elim, ℕ, arith}
 use Rattle.warg_store.specs.Files.{Files}
 use Rattle.warg_store.specs.Moments.{Within, Elapses, LeavesOnly}
 
@@ -50,3 +50,13 @@ module _ {D : Type 0} (moment : D → ℕ) (left_since : D → ℕ → Files →
     each = λ c left. weak c (run.each c left);
     before = λ t c le left. ⊎_elim (λ e. inl e) (λ p. inr (weak c p)) (run.before t c le left);
   }
+
+module _ {D : Type 0} (moment : D → ℕ) (left_since : D → ℕ → Files → Type 0) (may_leave : D → Files → Type 0)
+    (counts_now : (folder : D) (t : ℕ) (c : Files) → t ≤ moment folder → may_leave folder c → left_since folder t c) where
+  -- what a crash leaves once a run is over
+  pub in_end : (old new : D) (P : Files → Type 0) → LeavesOnly moment left_since old new P → (c : Files) → may_leave new c → P c
+  in_end old new P run c left = run.each c (counts_now new (moment old) c run.later left)
+
+  -- a run, and calls behind it that only read
+  pub then_reads : (old mid new : D) (P : Files → Type 0) → LeavesOnly moment left_since old mid P → LeavesOnly moment left_since mid new (may_leave mid) → LeavesOnly moment left_since old new P
+  then_reads old mid new P run reads = then moment left_since old mid new P (may_leave mid) P run reads (λ c was. was) (in_end old mid P run)

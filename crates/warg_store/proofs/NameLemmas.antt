@@ -6,7 +6,7 @@ use Rattle.std.proofs.lemmas.Bool.{cases_Bool}
 use Rattle.std.proofs.lemmas.Bool.Decides.{not_from_Decides, Decides-eqb}
 use Rattle.std.proofs.lemmas.Slice.Eq.{starts_is}
 use Rattle.std.proofs.lemmas.List.{append_cancel_left}
-use Rattle.warg_store.specs.Names.{checkpoint, state, mark, staged, is_staged, is_own, is_served}
+use Rattle.warg_store.specs.Names.{checkpoint, state, mark, staged, is_staged, is_own, is_tile, page_name, is_served}
 
 -- two names are one, or not
 pub one_name : (a b : List ℕ) → ((pointwise nat_eq a b ≡ true) × (a ≡ b)) ⊎ ((pointwise nat_eq a b ≡ false) × (a ≢ b))
@@ -65,3 +65,14 @@ same_name s a n value test = sym value ∙ (bytes_decides a n).0 (sym test)
 
 pub other_name : (s a n : List ℕ) → a ≡ s → false ≡ pointwise nat_eq a n → s ≡ n → ⊥
 other_name s a n value test here = not_from_Decides _ (bytes_decides a n) (sym test) (value ∙ here)
+
+-- a served name is that of a tile or bundle, or of a page
+pub served_kind : (n : List ℕ) → is_served n ≡ true → (is_tile n ≡ true) ⊎ ((path : List ℕ) × (n ≡ page_name path))
+served_kind n is = elim (cases_Bool (is_tile n)) [
+  | inl tile ↦ inl tile
+  | inr other ↦ inr (drop (length (codes "map/")) n, front_of n (codes "map/") (rw other at is))
+]
+
+-- pages of one name have one path
+pub page_once : (m n : List ℕ) → page_name m ≡ page_name n → m ≡ n
+page_once m n e = append_cancel_left (codes "map/") m n e

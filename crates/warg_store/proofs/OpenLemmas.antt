@@ -1,7 +1,7 @@
 -- A log that a folder keeps, as it is read back.
-use Rattle.std.proofs.Common.{◌≡◌, ◌⊎◌, inl, inr, ℕ, zero, suc, ◌+◌, ◌-◌, ◌*◌, ◌/◌, ◌%◌, ◌^◌, ◌<◌, ◌≤◌, List, [], ◌∷◌, ◌++◌, true, cond, length, take, drop, map, filter, false, Option, Some, None, append_assoc, refl, sym, ap, subst, ◌∙◌, arith}
+use Rattle.std.proofs.Common.{◌≡◌, inl, inr, ℕ, zero, suc, ◌+◌, ◌-◌, ◌*◌, ◌/◌, ◌%◌, ◌^◌, ◌<◌, ◌≤◌, List, [], ◌∷◌, ◌++◌, true, cond, length, take, drop, map, filter, Option, Some, None, append_assoc, refl, sym, ap, subst, ◌∙◌, arith}
 use Rattle.std.specs.Prelude.{nat_lt, option_map, slice_get}
-use Rattle.std.specs.List.{AllByRecursion, Contains, flat_map, range_with_len}
+use Rattle.std.specs.List.{AllByRecursion, Contains, range_with_len}
 use Rattle.std.proofs.lemmas.Bool.{cases_lt, lt-ltb, le-ltb}
 use Rattle.std.proofs.lemmas.List.{take_all, drop_all, length-append, length-map, length-drop, length-take-le, map-append, append-nil}
 use Rattle.std.proofs.lemmas.List.FromFn.{length-map-range_with_len, filter_of_map_range_with_len_more}
@@ -23,7 +23,7 @@ use Rattle.warg_tiles.specs.EntryBundles.{bundle_of}
 use Rattle.warg_tiles.specs.CheckpointText.{Said, CanBeSaid, line, lines, behind, text_before, text_of}
 use Rattle.warg_tiles.proofs.ForCallers.{partial_of, tile_own}
 use Rattle.warg_store.specs.Files.{Files, put, SameBut}
-use Rattle.warg_store.specs.Names.{checkpoint, state, staged, is_staged, is_own}
+use Rattle.warg_store.specs.Names.{checkpoint, state, staged, is_staged, is_own, page_name}
 use Rattle.warg_store.specs.Opening.{IsStaging, NothingStaged, CanBeServed, AgreesWith}
 use Rattle.warg_store.specs.Log.{LogOf, AreShort, CanBeKept, said_of, checkpoint_of, tile_bytes, bundle_bytes, HasFiles, Serves, Keeps, IsFileOf}
 use Rattle.warg_store.specs.Growing.{Has}
@@ -31,7 +31,7 @@ use Rattle.warg_store.proofs.NameLemmas.{apart, served_not_state}
 use Rattle.warg_store.proofs.FileLemmas.{put_here, put_apart}
 use Rattle.warg_protobuf.proofs.ForCallers.{all_append}
 use Rattle.warg_store.proofs.ListLemmas.{all_take, all_drop}
-use Rattle.warg_store.proofs.LeadLemmas.{end_inside, extends_self, file_served, same_files, same_served}
+use Rattle.warg_store.proofs.LeadLemmas.{end_inside, extends_self, file_served, same_files, same_served, own_pages}
 use Rattle.warg_store.proofs.GrowingLemmas.{ground, none_some, same_tile}
 
 -- Digests of a log.
@@ -105,7 +105,7 @@ bundle_read log t o bytes short wide is read =
 
 -- what a log says can be said
 pub can_be_said : (log : LogOf) → CanBeKept log → CanBeSaid (said_of log)
-can_be_said log can = record { origin = can.origin; length = can.most; root = root_digest (leaves_of sha256 log.entries) (leaves_digests log.entries); extensions = tt }
+can_be_said log can = record { origin = can.origin; length = can.most; root = root_digest (leaves_of sha256 log.entries) (leaves_digests log.entries); extensions = can.lines }
 
 line_on : (a r x : List ℕ) → line a r ++ x ≡ line a (r ++ x)
 line_on a r x = append_assoc a (10 ∷ r) x
@@ -261,6 +261,7 @@ opened_has seen may_leave served log folder said edge bundle held is keeps nothi
     bundle = λ t level new. absurd (new.new (subst (λ n. IsTileOf n t) taken new.exists));
     nothing_else = λ n is_there some. absurd (none_some (seen folder (staged n)) (nothing (staged n) refl) some);
   };
+  pages = own_pages served.pages log.pages (seen folder) (λ path. nothing (staged (page_name path)) refl);
   staging = staging;
 }
 

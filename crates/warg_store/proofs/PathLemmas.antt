@@ -10,6 +10,8 @@ use Rattle.std.proofs.lemmas.List.{append_cancel_left, append-nil}
 use Rattle.std.proofs.lemmas.Str.Parse.{IsNumeralModel, numerals_by_value, tells_digits, not_in_digits}
 use Rattle.warg_tiles.specs.Tiles.{TileAt}
 use Rattle.warg_tiles.specs.TilePaths.{three_digits, group_of, groups_within, groups_of, number_path, place_path, tile_path, entries_path}
+use Rattle.warg_store.specs.Names.{is_page, page_name}
+use Rattle.warg_store.proofs.NameLemmas.{apart}
 
 -- the number whose digits are those of n and then those in a text, whatever else stands between them
 abbrev value_on : ℕ → List ℕ → ℕ
@@ -143,6 +145,13 @@ entries_path_once t u tl ul tw uw e =
 begins_otherwise : (xs ys zs : List ℕ) → Without 101 xs → xs ++ (47 ∷ ys) ≡ 101 ∷ zs → ⊥
 begins_otherwise [] ys zs xw e = absurd (omega (arith, ap (λ l. get_or l 0 0) e))
 begins_otherwise (x ∷ xs) ys zs xw e = xw.0 cc
+
+-- no tile and no bundle has a page's name
+pub no_page_a_tile : (t : TileAt) (path : List ℕ) → tile_path t ≡ page_name path → ⊥
+no_page_a_tile t path e = apart (sym (ap is_page e))
+
+pub no_page_a_bundle : (t : TileAt) (path : List ℕ) → entries_path t ≡ page_name path → ⊥
+no_page_a_bundle t path e = apart (sym (ap is_page e))
 
 -- no tile has a bundle's path
 pub no_tile_a_bundle : (t u : TileAt) → t.level < 8 → tile_path t ≡ entries_path u → ⊥

@@ -1,22 +1,22 @@
 -- A folder whose spare files go.
-use Rattle.std.proofs.Common.{◌≡◌, ◌⊎◌, inl, inr, ⊎_elim, ℕ, ◌^◌, ◌<◌, ◌≤◌, List, length, take, true, false, Option, Some, None, IsSome, refl, sym, ap, subst, ◌∙◌, arith}
+use Rattle.std.proofs.Common.{◌≡◌, ◌⊎◌, inl, inr, ⊎_elim, ℕ, ◌<◌, ◌≤◌, List, length, take, true, false, Option, Some, None, IsSome, refl, sym, ap, subst, ◌∙◌, arith}
 use Rattle.std.specs.Prelude.{option_map}
 use Rattle.warg_tiles.specs.Tiles.{TileAt}
 use Rattle.warg_tiles.specs.TilePaths.{tile_path, entries_path}
 use Rattle.warg_tiles.specs.Between.{IsTileOf}
 use Rattle.warg_store.specs.Files.{Files, without, Either}
 use Rattle.warg_store.specs.Moments.{Only}
-use Rattle.warg_store.specs.Names.{checkpoint, state, mark, staged, is_staged, is_served}
+use Rattle.warg_store.specs.Names.{checkpoint, state, mark, staged, is_staged, is_served, page_name}
 use Rattle.warg_store.specs.Opening.{IsBeside, opened}
-use Rattle.warg_store.specs.Log.{LogOf, CanBeKept, IsFileOf, Keeps, IsOneOf}
+use Rattle.warg_store.specs.Log.{LogOf, IsFileOf, Keeps, IsOneOf}
 use Rattle.warg_store.specs.Growing.{LogIn, Has}
 use Rattle.warg_store.specs.Pruned.{HasFull, full_of, IsSpare, IsPruned}
 use Rattle.warg_store.specs.Private.Steps.{IsPruning}
 use Rattle.warg_store.proofs.NameLemmas.{one_name, apart, served_not_staged}
 use Rattle.warg_store.proofs.FileLemmas.{without_here, without_apart}
-use Rattle.warg_store.proofs.PathLemmas.{tile_path_once, entries_path_once, no_tile_a_bundle}
+use Rattle.warg_store.proofs.PathLemmas.{tile_path_once, entries_path_once, no_tile_a_bundle, no_page_a_tile, no_page_a_bundle}
 use Rattle.warg_store.proofs.ServeLemmas.{opened_idle}
-use Rattle.warg_store.proofs.LeadLemmas.{width_at_most, file_served, same_served, same_kept}
+use Rattle.warg_store.proofs.LeadLemmas.{width_at_most, file_served, same_served, same_kept, pages_stay}
 use Rattle.warg_tiles.proofs.ForCallers.{low_level}
 use Rattle.warg_store.proofs.GrowingLemmas.{none_some}
 use Rattle.warg_store.proofs.StepLemmas.{either}
@@ -80,16 +80,12 @@ module _ (served old : LogOf) (s : Files) (keeps : Keeps served old s) where
   level_of : (t : TileAt) → IsTileOf (length old.entries) (full_of t) → t.level < 8
   level_of t is = low_level (length old.entries) (full_of t) keeps.can.most is
 
-  either_tile : (n : List ℕ) → IsFileOf old n ⊎ IsFileOf served n
-      → (u : TileAt) × (u.width ≤ 256) × (IsTileOf (length old.entries) u ⊎ IsTileOf (length served.entries) u) × (((u.level < 8) × (tile_path u ≡ n)) ⊎ ((u.level ≡ 0) × (entries_path u ≡ n)))
-  either_tile n (inl (inl f)) = (f.0, width_at_most _ f.0 f.1.exists, inl f.1.exists, inl (f.1.level, f.2))
-  either_tile n (inl (inr f)) = (f.0, width_at_most _ f.0 f.1.exists, inl f.1.exists, inr (f.1.level, f.2))
-  either_tile n (inr (inl f)) = (f.0, width_at_most _ f.0 f.1.exists, inr f.1.exists, inl (f.1.level, f.2))
-  either_tile n (inr (inr f)) = (f.0, width_at_most _ f.0 f.1.exists, inr f.1.exists, inr (f.1.level, f.2))
+  abbrev IsEither : List ℕ → Type 0
+  IsEither n = (u : TileAt) × (u.width ≤ 256) × (IsTileOf (length old.entries) u ⊎ IsTileOf (length served.entries) u)
+      × (((u.level < 8) × (tile_path u ≡ n)) ⊎ ((u.level ≡ 0) × (entries_path u ≡ n)))
 
-  not_spare : (n : List ℕ) → IsFileOf old n ⊎ IsFileOf served n → IsSpare (length old.entries) (length served.entries) s n → ⊥
-  not_spare n file spare =
-      let u = either_tile n file in
+  needed_not_spare : (n : List ℕ) → IsEither n → IsSpare (length old.entries) (length served.entries) s n → ⊥
+  needed_not_spare n u spare =
       let t = spare.tile in
       let low : t.level < 8 = level_of t spare.exists in
       let small : t.width ≤ 256 = omega (arith, spare.partial) in
@@ -104,6 +100,23 @@ module _ (served old : LogOf) (s : Files) (keeps : Keeps served old s) where
       (λ own. needed (entries_path_once t u.0 bundle.0 own.0 small u.1 (bundle.1 ∙ sym own.1)))
       u.3)
       spare.paths
+
+  page_not_spare : (n path : List ℕ) → page_name path ≡ n → IsSpare (length old.entries) (length served.entries) s n → ⊥
+  page_not_spare n path is spare = ⊎_elim
+      (λ tile. no_page_a_tile spare.tile path (tile.0 ∙ sym is))
+      (λ bundle. no_page_a_bundle spare.tile path (bundle.1 ∙ sym is))
+      spare.paths
+
+  not_spare : (n : List ℕ) → IsFileOf old n ⊎ IsFileOf served n
+      → IsSpare (length old.entries) (length served.entries) s n → ⊥
+  not_spare n (inl (inl f)) = needed_not_spare n (f.0, width_at_most _ f.0 f.1.exists, inl f.1.exists, inl (f.1.level, f.2))
+  not_spare n (inl (inr (inl f))) =
+      needed_not_spare n (f.0, width_at_most _ f.0 f.1.exists, inl f.1.exists, inr (f.1.level, f.2))
+  not_spare n (inl (inr (inr f))) = page_not_spare n f.0.0 f.2
+  not_spare n (inr (inl f)) = needed_not_spare n (f.0, width_at_most _ f.0 f.1.exists, inr f.1.exists, inl (f.1.level, f.2))
+  not_spare n (inr (inr (inl f))) =
+      needed_not_spare n (f.0, width_at_most _ f.0 f.1.exists, inr f.1.exists, inr (f.1.level, f.2))
+  not_spare n (inr (inr (inr f))) = page_not_spare n f.0.0 f.2
 
   module _ (c : Files) (was : IsPruning (length old.entries) (length served.entries) s c) where
     stays_at : (n : List ℕ) → IsFileOf old n ⊎ IsFileOf served n → c n ≡ s n
@@ -124,6 +137,7 @@ module _ (served old : LogOf) (s : Files) (keeps : Keeps served old s) where
             serves = same_served served s c (λ n is. stays_at n (inr is)) (stays_own checkpoint refl refl) keeps.serves;
             stay = λ n is. same n (served_not_staged n (file_served served n is));
           });
+          state = inl (record { can = keeps.can; text = stays_own state refl refl ∙ keeps.state });
           opened = inl (same_kept served old c (opened c)
               (λ n is. same n (served_not_staged n (⊎_elim (λ one. file_served old n one) (λ other. file_served served n other) is)))
               (same checkpoint refl) (same state refl) pruned_keeps);
@@ -150,6 +164,7 @@ prune_has seen may_leave served old next l folder has was same only = record {
   most = has.most;
   bundle = has.bundle;
   staged = full_staged_same l.text.length l.edge.taken next (seen l.folder) (seen folder) (λ n. same (staged n) refl) has.staged;
+  pages = pages_stay served.pages old.pages next.pages (seen l.folder) (seen folder) (λ path. same (staged (page_name path)) refl) has.pages;
   staging = λ c left. subst (λ (f : Files). IsBeside (seen folder) f) (sym (only c left)) (record { outside = λ n isnt. refl; no_mark = was.no_mark });
 }
 

@@ -1,18 +1,18 @@
 -- A signed checkpoint, over what a folder keeps.
-use Rattle.std.proofs.Common.{◌≡◌, ◌≢◌, ℕ, ◌<◌, List, [], ◌∷◌, ◌++◌, length, take, drop, get_or, nat_eq, true, false, Option, Some, IsSome, inl, inr, refl, sym, ap, subst, ◌∙◌, arith}
+use Rattle.std.proofs.Common.{◌≡◌, ◌≢◌, ℕ, ◌<◌, List, [], ◌∷◌, ◌++◌, length, take, drop, get_or, nat_eq, true, false, Some, IsSome, inl, inr, refl, sym, ap, subst, ◌∙◌, arith}
 use Rattle.std.specs.Cmp.Lexicographic.{pointwise, bytes_decides}
 use Rattle.std.proofs.lemmas.List.{take-append-drop, take_at, drop_at}
 use Rattle.warg_tiles.specs.TilePaths.{tile_path, entries_path}
 use Rattle.warg_store.specs.Files.{Files, put, Either}
 use Rattle.warg_store.specs.Moments.{Follows, LeavesOnly}
-use Rattle.warg_store.specs.Names.{checkpoint, state, mark, staged, is_staged, is_own}
+use Rattle.warg_store.specs.Names.{checkpoint, state, mark, staged, is_staged, is_own, page_name}
 use Rattle.warg_store.specs.Opening.{IsBeside, IsStaging}
 use Rattle.warg_store.specs.Log.{said_of, LogOf, Keeps, IsOneOf, IsFileOf, IsNoteOf, checkpoint_of}
 use Rattle.warg_store.specs.Growing.{LogIn, Has, AreFullStaged}
 use Rattle.warg_store.proofs.NameLemmas.{one_name, apart, served_not_checkpoint}
 use Rattle.warg_store.proofs.FileLemmas.{put_here, put_apart}
 use Rattle.warg_store.proofs.MomentLemmas.{stays}
-use Rattle.warg_store.proofs.LeadLemmas.{extends_self, file_served, same_files}
+use Rattle.warg_store.proofs.LeadLemmas.{extends_self, file_served, same_files, pages_beside}
 use Rattle.warg_store.proofs.GrowingLemmas.{beside_one_of}
 use Rattle.warg_store.proofs.OpenLemmas.{text_parts}
 
@@ -97,6 +97,7 @@ module _ (note : List ℕ) (s : Files) where
       later : IsOneOf old old old c → IsOneOf served old old c
       later one = record {
         read = elim (one.read) [ inl r ↦ inr r | inr r ↦ inr r ];
+        state = one.state;
         opened = elim (one.opened) [ inl k ↦ inr (old, k) | inr k ↦ inr k ];
       }
 
@@ -121,6 +122,9 @@ sign_has seen may_leave served old next l folder note is put_is follows has = re
   held = has.held;
   most = has.most;
   bundle = has.bundle;
+  pages = pages_beside served.pages old.pages old.pages next.pages (seen l.folder) (seen folder) (λ path has. has)
+      (λ path. ap (λ (f : Files). f (staged (page_name path))) put_is
+      ∙ put_apart (checkpoint, note) (seen l.folder) (staged (page_name path)) (λ e. apart (ap is_own (sym e)))) has.pages;
   staged = subst (λ (f : Files). AreFullStaged l.text.length l.edge.taken next f) (sym put_is)
       (full_staged_same l.text.length l.edge.taken next (seen l.folder) (put (checkpoint, note) (seen l.folder)) (λ n. put_apart (checkpoint, note) (seen l.folder) (staged n) (λ e. apart (ap is_own (sym e)))) has.staged);
   staging = subst (λ (f : Files). IsStaging f (may_leave folder)) (sym put_is) (sign_staging note (seen l.folder) (may_leave l.folder) (may_leave folder) follows has.staging);

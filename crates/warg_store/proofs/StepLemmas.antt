@@ -158,6 +158,7 @@ moving_between s c text stands was = record {
     | inl is ↦ ⊎_elim (λ (same, there). inl same) (λ (same, none, some). inr (same ∙ chosen (s (staged n)) (s n) some ∙ sym (opened_served s text n stands is))) (was.each n is)
     | inr other ↦ inl (was.outside n (not_staged n out) other)
   ];
+  state = inl (was.outside state refl refl);
   whole = inl (was.outside checkpoint refl refl);
 }
   where
@@ -166,10 +167,11 @@ moving_between s c text stands was = record {
     chosen (Some bytes) p some = refl
 
 -- with the state's text in its place already
-pub state_put : (s t c : Files) (text : List ℕ) → c mark ≡ Some text → IsBetween s t c → IsBetween s t (put (state, text) c)
-state_put s t c text stands was = record {
+pub state_put : (s t c : Files) (text : List ℕ) → c mark ≡ Some text → t state ≡ Some text → IsBetween s t c → IsBetween s t (put (state, text) c)
+state_put s t c text stands says was = record {
   stands_for = ⊎_elim (λ (e, same). inl (alike ∙ e, λ n out. here n out ∙ same n out)) (λ e. inr (alike ∙ e)) was.stands_for;
   each = λ n out. ⊎_elim (λ e. inl (here n out ∙ e)) (λ e. inr (here n out ∙ e)) (was.each n out);
+  state = inr (sym says);
   whole = ⊎_elim (λ e. inl e) (λ all. inr (λ n out. here n out ∙ all n out)) was.whole;
 }
   where
@@ -217,12 +219,13 @@ removing_opened s c text done was = ⊎_elim
 pub removing_between : (s d c : Files) (text : List ℕ) → IsDone text d → opened d ≡ opened s → IsRemoving d c → IsBetween s (opened s) c
 removing_between s d c text done same was = record {
   stands_for = inr (removing_opened d c text done was ∙ same);
-  each = λ n out. inr (now n out);
-  whole = inr now;
+  each = λ n out. inr (now n (not_staged n out));
+  state = inr (now state refl);
+  whole = inr (λ n out. now n (not_staged n out));
 }
   where
-    now : (n : List ℕ) → is_own n ≡ false → c n ≡ opened s n
-    now n out = was.outside n (not_staged n out) ∙ sym (without_at d n (not_staged n out)) ∙ sym (ap (λ (f : Files). f n) (done_opened d text done)) ∙ ap (λ (f : Files). f n) same
+    now : (n : List ℕ) → is_staged n ≡ false → c n ≡ opened s n
+    now n isnt = was.outside n isnt ∙ sym (without_at d n isnt) ∙ sym (ap (λ (f : Files). f n) (done_opened d text done)) ∙ ap (λ (f : Files). f n) same
 
 -- Committing.
 
@@ -230,6 +233,7 @@ pub beside_between : (s t c : Files) → s mark ≡ None → IsBeside s c → Is
 beside_between s t c none was = record {
   stands_for = inl (beside_opened s c none was, λ n out. was.outside n (not_staged n out));
   each = λ n out. inl (was.outside n (not_staged n out));
+  state = inl (was.outside state refl);
   whole = inl (was.outside checkpoint refl);
 }
 
@@ -237,12 +241,13 @@ pub unmarked : (s : Files) (text n : List ℕ) → is_own n ≡ false → put (m
 unmarked s text n out = put_apart (mark, text) s n (λ e. apart (ap is_own e ∙ out))
 
 pub marked_between : (s : Files) (text : List ℕ) → IsBetween s (committed text s) (put (mark, text) s)
-marked_between s text = record { stands_for = inr refl; each = λ n out. inl (unmarked s text n out); whole = inl refl }
+marked_between s text = record { stands_for = inr refl; each = λ n out. inl (unmarked s text n out); state = inl refl; whole = inl refl }
 
 pub from_unmarked : (s c : Files) (text : List ℕ) → IsBetween (put (mark, text) s) (committed text s) c → IsBetween s (committed text s) c
 from_unmarked s c text was = record {
   stands_for = inr (⊎_elim (λ (e, same). e) (λ e. e) was.stands_for);
   each = λ n out. ⊎_elim (λ e. inl (e ∙ unmarked s text n out)) (λ e. inr e) (was.each n out);
+  state = was.state;
   whole = ⊎_elim (λ e. inl e) (λ all. inr all) was.whole;
 }
 
@@ -326,7 +331,7 @@ put_done s d text stands was gone =
 pub put_between : (s d c : Files) (text : List ℕ) → s mark ≡ Some text → IsMoving s d → ((n : List ℕ) → is_served n ≡ true → d (staged n) ≡ None) → IsPut text d c → IsBetween s (opened s) c
 put_between s d c text stands was gone (inl same) = subst (IsBetween s (opened s)) (sym same) (moving_between s d text stands was)
 put_between s d c text stands was gone (inr (inl same)) =
-    subst (IsBetween s (opened s)) (sym same) (state_put s (opened s) d text (was.mark ∙ stands) (moving_between s d text stands was))
+    subst (IsBetween s (opened s)) (sym same) (state_put s (opened s) d text (was.mark ∙ stands) (ap (λ (o : Option (List ℕ)). opened_by o s state) stands) (moving_between s d text stands was))
 put_between s d c text stands was gone (inr (inr same)) =
     let done = put_done s d text stands was gone in
     let last = told text d in
@@ -355,7 +360,7 @@ pub removed_here : (d t : Files) (name : List ℕ) → t ≡ without name d → 
 removed_here d t name is = ap (λ (f : Files). f name) is ∙ without_here name d
 
 pub between_self : (s t : Files) → IsBetween s t s
-between_self s t = record { stands_for = inl (refl, λ n out. refl); each = λ n out. inl refl; whole = inl refl }
+between_self s t = record { stands_for = inl (refl, λ n out. refl); each = λ n out. inl refl; state = inl refl; whole = inl refl }
 
 pub put_done_by : (s d b : Files) (text : List ℕ) → s mark ≡ Some text → IsMoving s d → ((n : List ℕ) → is_served n ≡ true → d (staged n) ≡ None)
     → b ≡ told text d → IsDone text b × (opened b ≡ opened s)

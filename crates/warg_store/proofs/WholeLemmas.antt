@@ -1,16 +1,13 @@
 -- What is read of a log's own files is never at fault.
-use Rattle.std.proofs.Common.{◌≡◌, ◌⊎◌, inl, inr, ℕ, ◌+◌, ◌*◌, ◌^◌, ◌<◌, ◌≤◌, List, [], ◌∷◌, ◌++◌, length, take, drop, map, ◌==◌, ◌&&◌, nat_eq, Bor, true, false, Option, Some, None, IsSome, Result, Ok, Err, refl, sym, ap, subst, ◌∙◌, arith}
-use Rattle.std.specs.Prelude.{option_map, option_copied, unwrap_or, IfErr}
+use Rattle.std.proofs.Common.{◌≡◌, ◌⊎◌, inl, inr, ⊎_elim, ℕ, ◌+◌, ◌*◌, ◌^◌, ◌<◌, ◌≤◌, List, [], ◌∷◌, length, take, drop, map, ◌==◌, ◌&&◌, nat_eq, Bor, true, false, Option, Some, None, IsSome, Result, Ok, Err, refl, sym, ap, subst, ◌∙◌, arith}
+use Rattle.std.specs.Prelude.{option_map, option_copied, unwrap_or, IfErr, MatchResult}
 use Rattle.std.specs.Result.{IsErrAnd}
 use Rattle.std.specs.Cmp.Lexicographic.{pointwise, bytes_decides}
 use Rattle.std.proofs.lemmas.Bool.{cases_lt, eq-eqb}
-use Rattle.std.proofs.lemmas.List.{append-nil, length-append, length-drop, length-take-le}
-use Rattle.warg_crypto.specs.Digests.{sha256}
+use Rattle.std.proofs.lemmas.List.{length-drop, length-take-le}
 use Rattle.warg_log.specs.Claims.{RootAndLength}
-use Rattle.warg_log.specs.Tree.{leaves_of}
-use Rattle.warg_paths.specs.Pieces.{hashes_of}
 use Rattle.warg_tiles.specs.Tiles.{TileAt}
-use Rattle.warg_tiles.specs.TileLog.{tile_digests, tile_fault, tiles_fault}
+use Rattle.warg_tiles.specs.TileLog.{tile_fault, tiles_fault}
 use Rattle.warg_tiles.specs.EntryBundles.{bundle_of}
 use Rattle.warg_tiles.specs.CheckpointText.{Said, CanBeSaid, text_before}
 use Rattle.warg_tiles.specs.CheckpointFaults.{IsFirstFault}
@@ -25,15 +22,21 @@ use Rattle.warg_store.specs.declared.error.LogError.TheVariants as refused
 use Rattle.warg_store.specs.Files.{Files}
 use Rattle.warg_store.specs.Names.{checkpoint, state, mark}
 use Rattle.warg_store.specs.Opening.{is_signed, opened, opened_by}
-use Rattle.warg_store.specs.Log.{LogOf, CanBeKept, Extends, Serves, Keeps, HasLog, IsBundleIn, bundle_bytes, said_of, checkpoint_of}
+use Rattle.warg_store.specs.Log.{LogOf, Extends, Serves, Keeps, HasLog, HasState, IsOneOf, IsBundleIn, bundle_bytes, said_of, checkpoint_of}
 use Rattle.warg_store.specs.Reading.{checkpoint_said}
-use Rattle.warg_store.proofs.LeadLemmas.{end_inside, extends_length}
-use Rattle.warg_store.proofs.NameLemmas.{apart}
+use Rattle.warg_store.proofs.LeadLemmas.{end_inside, extends_length, file_served, same_kept}
+use Rattle.warg_store.proofs.NameLemmas.{served_not_staged}
+use Rattle.warg_store.proofs.ServeLemmas.{opened_idle}
+use Rattle.warg_store.proofs.GrowingLemmas.{same_length}
 
 -- what holds of an error holds of a result that is this error
 pub err_same : {X E : Type 0} (P : E → Type 0) (e : E) (r : Result X E) → IsErrAnd r (λ f. f ≡ e) → P e → IfErr r P
 err_same P e (Ok x) is holds = tt
 err_same P e (Err f) is holds = subst P (sym is) holds
+
+pub err_match : {X E : Type 0} (Q : X → Type 0) (P : E → Type 0) (e : E) (r : Result X E) → IsErrAnd r (λ f. f ≡ e) → P e → MatchResult r Q P
+err_match Q P e (Ok x) is holds = absurd is
+err_match Q P e (Err f) is holds = subst P (sym is) holds
 
 -- a refusal for no fault is one, whatever else may be refused
 pub no_fault_more : (beyond : Type 0) (e : LogError) → IsNoFault ⊥ e → IsNoFault beyond e
@@ -96,15 +99,7 @@ text_no_fault said behind bytes text.Memory can is fault = refl
 
 -- a log that continues another and has no more entries is that one
 pub extends_same : (first log : LogOf) → Extends first log → length log.entries ≤ length first.entries → log ≡ first
-extends_same first log extends short =
-    let more = extends.entries.0 in
-    let none : length more ≡ 0 = omega (arith, ap length extends.entries.1, length-append first.entries more, short) in
-    let entries : log.entries ≡ first.entries = extends.entries.1 ∙ ap (λ (l : List (List ℕ)). first.entries ++ l) (empty more none) ∙ append-nil first.entries in
-    ap (λ (o : List ℕ). record log { origin = o }) extends.origin ∙ ap (λ (l : List (List ℕ)). record first { entries = l }) entries
-  where
-    empty : (xs : List (List ℕ)) → length xs ≡ 0 → xs ≡ []
-    empty [] none = refl
-    empty (x ∷ xs) none = absurd (omega (arith, none))
+extends_same first log extends short = sym (same_length first log extends (omega (arith, short, extends_length first log extends)))
 
 -- a folder's log is served whole unless the checkpoint is signed
 pub short_signed : (first log : LogOf) (files : Files) → Keeps first log files → length first.entries < length log.entries → is_signed (files checkpoint) ≡ false → ⊥
@@ -136,3 +131,32 @@ served_is first log files keeps = elim (cases_lt (length first.entries) (length 
 -- a checkpoint is known by its root and its length
 pub same_said : (c : RootAndLength) (said : Said) → c.root ≡ said.root → c.length ≡ said.length → c ≡ checkpoint_said said
 same_said c said root length = λ i. record { root = root i; length = length i }
+
+-- What stands at each moment of a commit: one of the logs is served, and the state is one's.
+pub one_serves : (served old next : LogOf) (files : Files) → IsOneOf served old next files → (log : LogOf) × Serves log files
+one_serves served old next files one = ⊎_elim (λ is. (served, is.serves)) (λ is. (next, is.serves)) one.read
+
+pub one_state : (served old next : LogOf) (files : Files) → IsOneOf served old next files → (log : LogOf) × HasState log files
+one_state served old next files one = ⊎_elim (λ is. (old, is)) (λ is. (next, is)) one.state
+
+-- where no commit stands, the folder keeps one
+one_kept : (served old next : LogOf) (files : Files) → IsOneOf served old next files → files mark ≡ None → (first log : LogOf) × Keeps first log files
+one_kept served old next files one none = ⊎_elim (λ keeps. (served, old, kept served old keeps)) (λ (first, keeps). (first, next, kept first next keeps)) one.opened
+  where
+    kept : (first log : LogOf) → Keeps first log (opened files) → Keeps first log files
+    kept first log keeps = same_kept first log (opened files) files
+        (λ n is. sym (opened_idle files n none (served_not_staged n (⊎_elim (λ one. file_served log n one) (λ other. file_served first n other) is))))
+        (sym (opened_idle files checkpoint none refl)) (sym (opened_idle files state none refl)) keeps
+
+-- so the state that was read is a log's, which the folder keeps where no commit stands
+pub one_newest : (served old next : LogOf) (files now : Files) (said : Said) → now ≡ files → IsOneOf served old next files → ((log : LogOf) → HasState log files → said ≡ said_of log)
+    → (first log : LogOf) × (now mark ≡ None → Keeps first log now) × (said ≡ said_of log)
+one_newest served old next files now said same one says = by_mark (files mark) refl
+  where
+    by_mark : (o : Option (List ℕ)) → files mark ≡ o → (first log : LogOf) × (now mark ≡ None → Keeps first log now) × (said ≡ said_of log)
+    by_mark None none =
+        let kept = one_kept served old next files one none in
+        (kept.0, kept.1, λ idle. subst (Keeps kept.0 kept.1) (sym same) kept.2, says kept.1 (record { can = kept.2.can; text = kept.2.state }))
+    by_mark (Some text) stands =
+        let is = one_state served old next files one in
+        (is.0, is.0, λ idle. absurd (let both : ◌≡◌ {A = Option (List ℕ)} (Some text) None = sym stands ∙ sym (ap (λ (f : Files). f mark) same) ∙ idle in cc), says is.0 is.1)

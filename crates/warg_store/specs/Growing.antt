@@ -12,9 +12,9 @@ use Rattle.warg_tiles.specs.TileLog.{RightEdge, StandsFor, AreTilesOf, partial_t
 use Rattle.warg_tiles.specs.EntryBundles.{bundle_of}
 use Rattle.warg_tiles.specs.CheckpointText.{Said}
 use Rattle.warg_store.specs.Files.{Files}
-use Rattle.warg_store.specs.Names.{staged, is_served}
+use Rattle.warg_store.specs.Names.{staged, is_tile}
 use Rattle.warg_store.specs.Opening.{IsStaging}
-use Rattle.warg_store.specs.Log.{LogOf, AreShort, said_of, tile_bytes, bundle_bytes, Extends, Keeps, AreStagedFor}
+use Rattle.warg_store.specs.Log.{LogOf, AreShort, CanBeKept, said_of, checkpoint_of, tile_bytes, bundle_bytes, Extends, Keeps, ArePagesStaged, AreStagedFor}
 
 -- A log with one entry more.
 abbrev pub with_entry : LogOf → List ℕ → LogOf
@@ -50,12 +50,13 @@ pub record IsNewFull (older length : ℕ) (t : TileAt) : Type 0 where
 abbrev pub IsNewFullName : ℕ → ℕ → List ℕ → Type 0
 IsNewFullName older length n = ((t : TileAt) × (t.level < 8) × IsNewFull older length t × (tile_path t ≡ n)) ⊎ ((t : TileAt) × (t.level ≡ 0) × IsNewFull older length t × (entries_path t ≡ n))
 
--- The new full tiles of a length are staged, and the bundles below them, with the bytes of the log's entries; and nothing but
--- new full tiles and bundles of the log is.
+-- The new full tiles of a length are staged, and the bundles below them, with the bytes of the log's entries; and no other tiles
+-- and bundles than new full ones of the log are.
 pub record AreFullStaged (older taken : ℕ) (log : LogOf) (files : Files) : Type 0 where
   pub tile : (t : TileAt) → t.level < 8 → IsNewFull older taken t → files (staged (tile_path t)) ≡ Some (tile_bytes log t)
   pub bundle : (t : TileAt) → t.level ≡ 0 → IsNewFull older taken t → files (staged (entries_path t)) ≡ Some (bundle_bytes log t)
-  pub nothing_else : (n : List ℕ) → is_served n ≡ true → IsSome (files (staged n)) → IsNewFullName older (length log.entries) n
+  pub nothing_else : (n : List ℕ) → is_tile n ≡ true → IsSome (files (staged n))
+      → IsNewFullName older (length log.entries) n
 
 -- The log has the entries of `next`. Its folder keeps those of `old` and serves those of `served`, and beside that has staged
 -- what the entries filled.
@@ -72,6 +73,7 @@ pub record Has {F : Type 0} (seen : F → Files) (may_leave : F → Files → Ty
   pub most : l.held ≤ 256
   pub bundle : l.bundle ≡ bundle_of (drop (256 * (l.edge.taken / 256)) next.entries)
   pub staged : AreFullStaged l.text.length l.edge.taken next (seen l.folder)
+  pub pages : ArePagesStaged served.pages old.pages next.pages (seen l.folder)
   pub staging : IsStaging (seen l.folder) (may_leave l.folder)
 
 -- The tiles are the partial ones of the log's length, with its digests.
@@ -87,8 +89,15 @@ pub record HasAll {F : Type 0} (seen : F → Files) (may_leave : F → Files →
   pub edge : StandsFor sha256 l.edge (leaves_of sha256 next.entries)
   pub held : 256 * (l.edge.len / 256) + l.held ≡ l.edge.len
   pub bundle : l.bundle ≡ bundle_of (drop (256 * (l.edge.len / 256)) next.entries)
-  pub staged : AreStagedFor old next (seen l.folder)
+  pub staged : AreStagedFor served old next (seen l.folder)
   pub staging : IsStaging (seen l.folder) (may_leave l.folder)
+
+-- These are the text of a log's checkpoint, the same in bytes, and the log's partial tiles.
+pub record IsEndOf (next : LogOf) (said : Said) (text : List ℕ) (parts : List (StoredTile Sha256 Global)) : Type 0 where
+  pub can : CanBeKept next
+  pub says : said ≡ said_of next
+  pub bytes : text ≡ checkpoint_of next
+  pub tiles : ArePartsOf next parts
 
 -- The log's folder keeps the entries of `next`, whose checkpoint's text is still to be noted.
 abbrev pub IsPut : {F : Type 0} → (F → Files) → (F → Files → Type 0) → LogOf → LogIn F → Type 0

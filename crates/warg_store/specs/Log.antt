@@ -1,6 +1,6 @@
 -- A log's entries as files.
-use Rattle.std.specs.Prelude.{◌≡◌, ◌⊎◌, ℕ, ◌*◌, ◌^◌, ◌<◌, ◌≤◌, true, false, List, [], ◌∷◌, ◌++◌, length, take, drop, Option, Some, None, IsSome}
-use Rattle.std.specs.List.{AllByRecursion, flat_map}
+use Rattle.std.specs.Prelude.{◌≡◌, ◌⊎◌, ℕ, ◌*◌, ◌^◌, ◌<◌, ◌≤◌, true, false, List, ◌∷◌, ◌++◌, length, take, drop, Option, Some, None, IsSome}
+use Rattle.std.specs.List.{AllByRecursion, Contains, flat_map}
 use Rattle.warg_crypto.specs.Digests.{sha256}
 use Rattle.warg_log.specs.Tree.{root_of, leaves_of}
 use Rattle.warg_tiles.specs.Tiles.{TileAt}
@@ -9,14 +9,17 @@ use Rattle.warg_tiles.specs.Between.{IsTileOf}
 use Rattle.warg_tiles.specs.TileLog.{tile_digests}
 use Rattle.warg_tiles.specs.EntryBundles.{bundle_of}
 use Rattle.warg_tiles.specs.CheckpointText.{Said, IsLine, text_of, text_before}
-use Rattle.warg_store.specs.Files.{Files}
-use Rattle.warg_store.specs.Names.{checkpoint, state, staged, is_served}
+use Rattle.warg_store.specs.Files.{File, Files}
+use Rattle.warg_store.specs.Names.{checkpoint, state, staged, is_tile, page_name, is_served}
 use Rattle.warg_store.specs.Opening.{is_signed, opened}
 
--- A log: its origin, and its entries.
+-- A log: its origin, its entries, the further lines of its checkpoint's text, and its pages, which are files beside its tiles
+-- and bundles: each with its path below `map/`, and its bytes.
 pub record LogOf : Type 0 where
   pub origin : List ℕ
   pub entries : List (List ℕ)
+  pub lines : List (List ℕ)
+  pub pages : List File
 
 -- What the log's checkpoint says.
 abbrev pub said_of : LogOf → Said
@@ -24,7 +27,7 @@ said_of log = record {
   origin = log.origin;
   length = length log.entries;
   root = root_of sha256 (leaves_of sha256 log.entries);
-  extensions = [];
+  extensions = log.lines;
 }
 
 -- The checkpoint's text.
@@ -35,10 +38,11 @@ checkpoint_of log = text_of (said_of log)
 abbrev pub AreShort : List (List ℕ) → Type 0
 AreShort entries = AllByRecursion (λ entry. length entry < 65536) entries
 
--- A log that a folder can keep: its origin is a line, it has at most 2 ^ 63 short entries, and its checkpoint's text has at
--- most 2 ^ 20 bytes.
+-- A log that a folder can keep: its origin and further lines are lines, it has at most 2 ^ 63 short entries, and its
+-- checkpoint's text has at most 2 ^ 20 bytes.
 pub record CanBeKept (log : LogOf) : Type 0 where
   pub origin : IsLine log.origin
+  pub lines : AllByRecursion IsLine log.lines
   pub most : length log.entries ≤ 2 ^ 63
   pub short : AreShort log.entries
   pub text : length (checkpoint_of log) ≤ 2 ^ 20
@@ -65,26 +69,30 @@ pub record IsBundleIn (log : LogOf) (t : TileAt) : Type 0 where
   pub level : t.level ≡ 0
   pub exists : IsTileOf (length log.entries) t
 
--- The files have each tile and bundle of the log's length at its path, with the bytes of the log's entries.
+-- The files have each tile and bundle of the log's length at its path, with the bytes of the log's entries, and its pages.
 pub record HasFiles (log : LogOf) (files : Files) : Type 0 where
   pub tile : (t : TileAt) → IsTileIn log t → files (tile_path t) ≡ Some (tile_bytes log t)
   pub bundle : (t : TileAt) → IsBundleIn log t → files (entries_path t) ≡ Some (bundle_bytes log t)
+  pub page : (f : File) → Contains log.pages f → files (page_name f.0) ≡ Some f.1
 
--- A folder serves a log where it has the checkpoint's text, with whatever signatures behind an empty line, and the tiles and
--- bundles of its length.
+-- A folder serves a log where it has the checkpoint's text, with whatever signatures behind an empty line, and the log's
+-- files.
 pub record Serves (log : LogOf) (files : Files) : Type 0 where
   pub can : CanBeKept log
   pub checkpoint : (behind : Option (List ℕ)) × (files checkpoint ≡ Some (text_before (said_of log) behind))
   pub holds : HasFiles log files
 
--- The name is that of a tile or of a bundle of the log.
+-- The name is that of a tile, a bundle or a page of the log.
 abbrev pub IsFileOf : LogOf → List ℕ → Type 0
-IsFileOf log n = ((t : TileAt) × IsTileIn log t × (tile_path t ≡ n)) ⊎ ((t : TileAt) × IsBundleIn log t × (entries_path t ≡ n))
+IsFileOf log n = ((t : TileAt) × IsTileIn log t × (tile_path t ≡ n))
+    ⊎ ((t : TileAt) × IsBundleIn log t × (entries_path t ≡ n))
+    ⊎ ((f : File) × Contains log.pages f × (page_name f.0 ≡ n))
 
--- The next log has further entries behind those of the old one.
+-- The next log has further entries behind those of the old one. Where it has none, it is the old one.
 pub record Extends (old next : LogOf) : Type 0 where
   pub origin : next.origin ≡ old.origin
   pub entries : (more : List (List ℕ)) × (next.entries ≡ old.entries ++ more)
+  pub still : length next.entries ≡ length old.entries → (next.lines ≡ old.lines) × (next.pages ≡ old.pages)
 
 -- A folder keeps a log, and serves a beginning of it: its state is the log's checkpoint, its tiles and bundles are there, and
 -- unless the checkpoint is signed, it serves the log itself.
@@ -105,25 +113,53 @@ pub record IsServed (log : LogOf) (files : Files) : Type 0 where
   pub serves : Serves log files
   pub stay : (n : List ℕ) → IsFileOf log n → opened files n ≡ files n
 
--- What a commit's crash leaves: who reads the files finds the log that was served or the next one; opened they keep the old
--- one or the next one.
+-- The state's text is a log's.
+pub record HasState (log : LogOf) (files : Files) : Type 0 where
+  pub can : CanBeKept log
+  pub text : files state ≡ Some (checkpoint_of log)
+
+-- What a commit's crash leaves: who reads the files finds the log that was served or the next one, beside the state of the old
+-- one or the next one; opened they keep the old one or the next one.
 pub record IsOneOf (served old next : LogOf) (files : Files) : Type 0 where
   pub read : IsServed served files ⊎ IsServed next files
+  pub state : HasState old files ⊎ HasState next files
   pub opened : Keeps served old (opened files) ⊎ ((log : LogOf) × Keeps log next (opened files))
 
 -- The name is that of a tile or of a bundle which the next log has and the old one hasn't.
-abbrev pub IsNewName : LogOf → LogOf → List ℕ → Type 0
-IsNewName old next n = ((t : TileAt) × IsTileIn next t × (IsTileIn old t → ⊥) × (tile_path t ≡ n))
+abbrev pub IsNewTile : LogOf → LogOf → List ℕ → Type 0
+IsNewTile old next n = ((t : TileAt) × IsTileIn next t × (IsTileIn old t → ⊥) × (tile_path t ≡ n))
     ⊎ ((t : TileAt) × IsBundleIn next t × (IsBundleIn old t → ⊥) × (entries_path t ≡ n))
 
+-- One of the pages has this path.
+abbrev pub HasPage : List File → List ℕ → Type 0
+HasPage pages path = (bytes : List ℕ) × Contains pages (path, bytes)
+
+-- The name is that of one of the next pages, and none of the old ones has its path.
+abbrev pub IsNewPage : List File → List File → List ℕ → Type 0
+IsNewPage old next n = (f : File) × Contains next f × (HasPage old f.0 → ⊥) × (page_name f.0 ≡ n)
+
+-- The name is that of a file which the next log has and the old one hasn't.
+abbrev pub IsNewName : LogOf → LogOf → List ℕ → Type 0
+IsNewName old next n = IsNewTile old next n ⊎ IsNewPage old.pages next.pages n
+
 -- What a commit's crash leaves of files: who reads or opens them finds the one log or the next, and each name at which commits
--- put files has its bytes, but for those of tiles and bundles that the next log has and the old one hasn't.
+-- put files has its bytes, but for those of files that the next log has and the old one hasn't.
 pub record IsCommitting (served old next : LogOf) (before after : Files) : Type 0 where
   pub one : IsOneOf served old next after
   pub names : (n : List ℕ) → is_served n ≡ true → (IsNewName old next n → ⊥) → after n ≡ before n
 
--- What is staged are the tiles and bundles that the next log has and the old one hasn't, with their bytes.
-pub record AreStagedFor (old next : LogOf) (files : Files) : Type 0 where
-  pub tile : (t : TileAt) → IsTileIn next t → (IsTileIn old t → ⊥) → files (staged (tile_path t)) ≡ Some (tile_bytes next t)
-  pub bundle : (t : TileAt) → IsBundleIn next t → (IsBundleIn old t → ⊥) → files (staged (entries_path t)) ≡ Some (bundle_bytes next t)
-  pub nothing_else : (n : List ℕ) → is_served n ≡ true → IsSome (files (staged n)) → IsNewName old next n
+-- Each of the next pages is an old one, or is staged at a path that neither an old nor a served page has; and no other page is
+-- staged.
+pub record ArePagesStaged (served old next : List File) (files : Files) : Type 0 where
+  pub page : (f : File) → Contains next f → Contains old f ⊎ ((HasPage old f.0 → ⊥)
+      × (HasPage served f.0 → ⊥) × (files (staged (page_name f.0)) ≡ Some f.1))
+  pub nothing_else : (path : List ℕ) → IsSome (files (staged (page_name path))) → IsNewPage old next (page_name path)
+
+-- What is staged are the files that the next log has and the old one hasn't, with their bytes.
+pub record AreStagedFor (served old next : LogOf) (files : Files) : Type 0 where
+  pub tile : (t : TileAt) → IsTileIn next t → (IsTileIn old t → ⊥)
+      → files (staged (tile_path t)) ≡ Some (tile_bytes next t)
+  pub bundle : (t : TileAt) → IsBundleIn next t → (IsBundleIn old t → ⊥)
+      → files (staged (entries_path t)) ≡ Some (bundle_bytes next t)
+  pub nothing_else : (n : List ℕ) → is_tile n ≡ true → IsSome (files (staged n)) → IsNewTile old next n
+  pub pages : ArePagesStaged served.pages old.pages next.pages files

@@ -27,9 +27,21 @@ is_staged n = starts_with nat_eq n (codes ".log/staged/")
 abbrev pub is_own : List ℕ → Bool
 is_own n = starts_with nat_eq n (codes ".log/")
 
--- The name is one at which a commit puts files: of a tile, an entry bundle or a page.
+-- The name is one of a tile or of an entry bundle.
+abbrev pub is_tile : List ℕ → Bool
+is_tile n = starts_with nat_eq n (codes "tile/")
+
+-- The name is one of a page.
+abbrev pub is_page : List ℕ → Bool
+is_page n = starts_with nat_eq n (codes "map/")
+
+-- The name of the page with this path below `map/`.
+abbrev pub page_name : List ℕ → List ℕ
+page_name n = codes "map/" ++ n
+
+-- The name is one at which a commit puts files.
 abbrev pub is_served : List ℕ → Bool
-is_served n = starts_with nat_eq n (codes "tile/") || starts_with nat_eq n (codes "map/")
+is_served n = is_tile n || is_page n
 
 -- The name is one of a log's files.
 abbrev pub is_log_file : List ℕ → Bool

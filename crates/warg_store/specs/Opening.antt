@@ -2,7 +2,7 @@
 use Rattle.std.specs.Prelude.{◌≡◌, ◌⊎◌, ℕ, ◌^◌, ◌≤◌, ◌==◌, nat_eq, nat_lt, Bool, ◌&&◌, ◌||◌, true, false, List, [], ◌∷◌, length, Option, Some, None, if◌then◌else◌}
 use Rattle.std.specs.Cmp.Lexicographic.{pointwise}
 use Rattle.std.specs.Option.{option_or}
-use Rattle.warg_tiles.specs.CheckpointText.{Said, CanBeSaid, text_of}
+use Rattle.warg_tiles.specs.CheckpointText.{Said, CanBeSaid, text_of, text_before}
 use Rattle.warg_store.specs.Files.{Files, put}
 use Rattle.warg_store.specs.Names.{checkpoint, state, mark, staged, is_staged, is_own, is_served}
 
@@ -79,9 +79,21 @@ abbrev pub IsStaging : Files → (Files → Type 0) → Type 0
 IsStaging seen may_leave = (c : Files) → may_leave c → IsBeside seen c
 
 -- Files between old ones and next ones, for those who open them and for those who read: opened they are the old ones, with
--- every served file as it was, or the next ones; each served file is the old one or the next one; and the checkpoint is the
--- old one unless all of them are the next ones.
+-- every served file as it was, or the next ones; each served file, and the state, is the old one or the next one; and the
+-- checkpoint is the old one unless all of them are the next ones.
 pub record IsBetween (old next c : Files) : Type 0 where
   pub stands_for : ((opened c ≡ opened old) × ((n : List ℕ) → is_own n ≡ false → c n ≡ old n)) ⊎ (opened c ≡ next)
   pub each : (n : List ℕ) → is_own n ≡ false → (c n ≡ old n) ⊎ (c n ≡ next n)
+  pub state : (c state ≡ old state) ⊎ (c state ≡ next state)
   pub whole : (c checkpoint ≡ old checkpoint) ⊎ ((n : List ℕ) → is_own n ≡ false → c n ≡ next n)
+
+-- A folder that had no state is taken over: the text that its checkpoint says is put as its state.
+pub record IsTakenOver (old c : Files) : Type 0 where
+  pub none : old state ≡ None
+  pub text : List ℕ
+  pub says : (said : Said) (behind : Option (List ℕ)) → CanBeServed said → old checkpoint ≡ Some (text_before said behind) → text ≡ text_of said
+  pub put : c ≡ put (state, text) old
+
+-- What a crash leaves while a folder is opened: files between the old ones and those that they stand for, or these taken over.
+abbrev pub IsOpening : Files → Files → Type 0
+IsOpening old c = IsBetween old (opened old) c ⊎ IsTakenOver (opened old) c

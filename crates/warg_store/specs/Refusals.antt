@@ -1,5 +1,6 @@
 -- Why a call on a log in files is refused.
-use Rattle.std.specs.Prelude.{ℕ}
+use Rattle.std.specs.Prelude.{◌≢◌}
+use Rattle.warg_store.specs.declared.device.FolderError.TheVariants.{Failed}
 use Rattle.warg_store.specs.declared.error.LogError.{LogError}
 use Rattle.warg_store.specs.declared.error.LogError.TheVariants.{NoLog, Damaged, RolledBack, OutOfRange, Folder}
 
@@ -10,3 +11,7 @@ IsNoFault beyond (Damaged damage) = ⊥
 IsNoFault beyond (RolledBack found newest) = ⊥
 IsNoFault beyond (OutOfRange bound) = beyond
 IsNoFault beyond (Folder cause) = Unit {0}
+
+-- The device hasn't failed.
+abbrev pub IsNoFailure : LogError → Type 0
+IsNoFailure error = error ≢ Folder Failed

@@ -1,8 +1,10 @@
 //! Every tile made again from the entries.
 
-ghost use Rattle.std.specs.Prelude.{◌≡◌, IfOk, OnOk};
+ghost use Rattle.std.specs.Prelude.{◌≡◌, IfErr, IfOk, OnOk};
 ghost use Rattle.warg_store.specs.Audited.{HasEntries, IsOfEntries};
+ghost use Rattle.warg_store.specs.Moments.{HasCauseOf};
 ghost use Rattle.warg_store.specs.Opening.{IsStaging};
+ghost use Rattle.warg_store.specs.Refusals.{IsNoFailure};
 
 use crate::committing::{MOST_TEXT, commit};
 use crate::device::{Folder, FolderError};
@@ -15,7 +17,7 @@ use crate::recovery::recover;
 use std::alloc::Global;
 use warg_crypto::Sha256;
 use warg_log::{Checkpoint, GREATEST_LENGTH, LogBuilder};
-use warg_tiles::{StoredTile, Tile, TileLog};
+use warg_tiles::{CheckpointText, StoredTile, Tile, TileLog};
 
 /// Told how far a long run has come.
 pub trait Progress {
@@ -37,7 +39,9 @@ pub(crate) fn audited<F: Folder, P: Progress>(
     checkpoint: &Checkpoint<Sha256>,
     progress: &mut P,
 ) -> Result<Checkpoint<Sha256>, LogError>
-    ensures { IfOk result IsOfEntries }
+    ensures entries { IfOk result IsOfEntries }
+    ensures cause { HasCauseOf (LogError.Folder FolderError.Failed) F.IsFaithful
+        (F.faults folder.old) (F.faults folder.new) result }
 {
     let log = replayed(alloc, folder, checkpoint.length(), Use::Compare, progress)?;
     same_root(alloc, &log, checkpoint)
@@ -51,12 +55,29 @@ pub fn rebuild<F: Folder, P: Progress>(
     folder: &mut F,
     progress: &mut P,
 ) -> Result<Checkpoint<Sha256>, LogError>
-    ensures { IfOk result IsOfEntries }
+    ensures entries { IfOk result IsOfEntries }
+    ensures cause { HasCauseOf (LogError.Folder FolderError.Failed) F.IsFaithful
+        (F.faults folder.old) (F.faults folder.new) result }
 {
     if let Err(error) = recover(alloc, folder) {
         return Err(LogError::of_recovery(alloc, &error));
     }
     let state = read_state(alloc, folder)?;
+    remade(alloc, folder, &state, progress)
+}
+
+// The checkpoint that a state says, once its log's tiles are made again.
+fn remade<F: Folder, P: Progress>(
+    alloc: Global,
+    folder: &mut F,
+    state: &CheckpointText<Sha256>,
+    progress: &mut P,
+) -> Result<Checkpoint<Sha256>, LogError>
+    requires { F.IsFaithful → IsStaging (F.seen folder.old) (F.may_leave folder.old) }
+    ensures entries { IfOk result IsOfEntries }
+    ensures cause { HasCauseOf (LogError.Folder FolderError.Failed) F.IsFaithful
+        (F.faults folder.old) (F.faults folder.new) result }
+{
     let checkpoint = state.checkpoint();
     let log = replayed(alloc, folder, checkpoint.length(), Use::Stage, progress)?;
     let found = same_root(alloc, &log, &checkpoint)?;
@@ -75,7 +96,8 @@ fn same_root(
     checkpoint: &Checkpoint<Sha256>,
 ) -> Result<Checkpoint<Sha256>, LogError>
     requires { HasEntries log.now }
-    ensures { IfOk result IsOfEntries }
+    ensures entries { IfOk result IsOfEntries }
+    ensures other { IfErr result IsNoFailure }
 {
     let found = log.checkpoint();
     if found == *checkpoint {
@@ -97,6 +119,8 @@ fn replayed<F: Folder, P: Progress>(
     ensures has { IfOk result HasEntries }
     ensures staging { use_as ≡ Use.Stage → F.IsFaithful
         → OnOk result (IsStaging (F.seen folder.new) (F.may_leave folder.new)) }
+    ensures cause { HasCauseOf (LogError.Folder FolderError.Failed) F.IsFaithful
+        (F.faults folder.old) (F.faults folder.new) result }
 {
     let mut log = TileLog::new(alloc);
     'bundles: for number in 0..length.div_ceil(256) {
@@ -122,6 +146,8 @@ fn push_bundle<F: Folder, P: Progress>(
     ensures has { OnOk result (HasEntries log.new) }
     ensures staging { F.IsFaithful → IsStaging (F.seen folder.old) (F.may_leave folder.old)
         → OnOk result (IsStaging (F.seen folder.new) (F.may_leave folder.new)) }
+    ensures cause { HasCauseOf (LogError.Folder FolderError.Failed) F.IsFaithful
+        (F.faults folder.old) (F.faults folder.new) result }
 {
     let bytes = read_bundle(alloc, folder, tile)?;
     let entries = entries_of(alloc, tile, bytes.as_slice())?;
@@ -135,7 +161,8 @@ fn push_all<P: Progress>(
     progress: &mut P,
 ) -> Result<(), LogError>
     requires { HasEntries log.old }
-    ensures { OnOk result (HasEntries log.new) }
+    ensures has { OnOk result (HasEntries log.new) }
+    ensures other { IfErr result IsNoFailure }
 {
     let mut bytes = Vec::new(alloc);
     'entries: for entry in entries {
@@ -150,7 +177,8 @@ fn push_all<P: Progress>(
 // Adds an entry to a log.
 fn push_one(log: &mut TileLog<Sha256, Vec<u8>>, entry: &Vec<u8>) -> Result<(), FolderError>
     requires { HasEntries log.old }
-    ensures { OnOk result (HasEntries log.new) }
+    ensures has { OnOk result (HasEntries log.new) }
+    ensures memory { IfErr result (λ error. error ≡ FolderError.Memory) }
 {
     if log.length() >= GREATEST_LENGTH {
         return Err(FolderError::Memory);
@@ -167,8 +195,10 @@ fn use_tiles<F: Folder>(
     tiles: &[StoredTile<Sha256>],
 ) -> Result<(), LogError>
     requires { use_as ≡ Use.Stage → F.IsFaithful → IsStaging (F.seen folder.old) (F.may_leave folder.old) }
-    ensures { use_as ≡ Use.Stage → F.IsFaithful
+    ensures staging { use_as ≡ Use.Stage → F.IsFaithful
         → OnOk result (IsStaging (F.seen folder.new) (F.may_leave folder.new)) }
+    ensures cause { HasCauseOf (LogError.Folder FolderError.Failed) F.IsFaithful
+        (F.faults folder.old) (F.faults folder.new) result }
 {
     match use_as {
         Use::Stage => Ok(stage_tiles(alloc, folder, 0, tiles)?),
@@ -180,7 +210,10 @@ fn compare_tiles<F: Folder>(
     alloc: Global,
     folder: &mut F,
     tiles: &[StoredTile<Sha256>],
-) -> Result<(), LogError> {
+) -> Result<(), LogError>
+    ensures cause { HasCauseOf (LogError.Folder FolderError.Failed) F.IsFaithful
+        (F.faults folder.old) (F.faults folder.new) result }
+{
     'tiles: for tile in tiles {
         compare_tile(alloc, folder, tile)?;
     }
@@ -192,7 +225,10 @@ fn compare_tile<F: Folder>(
     alloc: Global,
     folder: &mut F,
     stored: &StoredTile<Sha256>,
-) -> Result<(), LogError> {
+) -> Result<(), LogError>
+    ensures cause { HasCauseOf (LogError.Folder FolderError.Failed) F.IsFaithful
+        (F.faults folder.old) (F.faults folder.new) result }
+{
     let found = read_tile(alloc, folder, stored.tile)?;
     if found.digests.as_slice() == stored.digests.as_slice() {
         return Ok(());

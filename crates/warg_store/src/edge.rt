@@ -9,10 +9,10 @@ ghost use Rattle.warg_tiles.specs.TileLog.{StandsFor, tile_digests};
 ghost use Rattle.warg_tiles.specs.TilePaths.{tile_path, entries_path};
 ghost use Rattle.warg_store.specs.Growing.{ArePartsOf};
 ghost use Rattle.warg_store.specs.Log.{LogOf, AreShort, CanBeKept, IsBundleIn, HasFiles, said_of, tile_bytes, bundle_bytes};
-ghost use Rattle.warg_store.specs.Moments.{Within};
+ghost use Rattle.warg_store.specs.Moments.{Within, LeavesOnly, HasCauseOf};
 ghost use Rattle.warg_store.specs.Opening.{IsStaging};
 ghost use Rattle.warg_store.specs.Reading.{checkpoint_said};
-ghost use Rattle.warg_store.specs.Refusals.{IsNoFault};
+ghost use Rattle.warg_store.specs.Refusals.{IsNoFault, IsNoFailure};
 
 use crate::device::{Folder, FolderError};
 use crate::error::LogError;
@@ -47,8 +47,12 @@ pub(crate) fn read_tile<F: Folder>(
         → F.seen folder.old (tile_path tile) ≡ Some (tile_bytes log tile) → IfErr result (IsNoFault ⊥) }
     ensures seen { F.IsFaithful → F.seen folder.new ≡ F.seen folder.old }
     ensures crash { F.IsFaithful → Within (F.may_leave folder.old) (F.may_leave folder.new) }
+    ensures any_moment { F.IsFaithful
+        → OnOk result (LeavesOnly F.moment F.left_since folder.old folder.new (F.may_leave folder.old)) }
     ensures ready { F.IsFaithful → IsStaging (F.seen folder.old) (F.may_leave folder.old)
         → OnOk result (IsStaging (F.seen folder.new) (F.may_leave folder.new)) }
+    ensures cause { HasCauseOf (LogError.Folder FolderError.Failed) F.IsFaithful
+        (F.faults folder.old) (F.faults folder.new) result }
 {
     let path = tile.path(alloc)?;
     let Some(bytes) = folder.read(alloc, path.as_str(), MOST_TILE)? else {
@@ -78,8 +82,12 @@ pub(crate) fn read_edge<F: Folder>(
     ensures whole { F.IsFaithful → (log : LogOf) → log_length ≡ length log.entries
         → HasFiles log (F.seen folder.old) → IfErr result (IsNoFault ⊥) }
     ensures seen { F.IsFaithful → F.seen folder.new ≡ F.seen folder.old }
+    ensures any_moment { F.IsFaithful
+        → OnOk result (LeavesOnly F.moment F.left_since folder.old folder.new (F.may_leave folder.old)) }
     ensures ready { F.IsFaithful → IsStaging (F.seen folder.old) (F.may_leave folder.old)
         → OnOk result (IsStaging (F.seen folder.new) (F.may_leave folder.new)) }
+    ensures cause { HasCauseOf (LogError.Folder FolderError.Failed) F.IsFaithful
+        (F.faults folder.old) (F.faults folder.new) result }
 {
     let mut edge = Vec::new(alloc);
     'levels: for level in 0..8 {
@@ -106,6 +114,7 @@ pub(crate) fn open_edge(
         → StandsFor sha256 log (leaves_of sha256 kept.entries)) }
     ensures whole { (kept : LogOf) → checkpoint.now ≡ checkpoint_said (said_of kept)
         → ArePartsOf kept edge.now → IfErr result (IsNoFault ⊥) }
+    ensures other { IfErr result IsNoFailure }
 {
     let log = match TileLog::open(alloc, checkpoint.length(), edge) {
         Ok(log) => log,
@@ -119,7 +128,8 @@ pub(crate) fn open_edge(
 
 // Why no log goes on from the partial tiles.
 fn refused_edge(alloc: Global, error: &OpenError) -> LogError
-    ensures { error.now ≡ OpenError.Memory → IsNoFault ⊥ result }
+    ensures memory { error.now ≡ OpenError.Memory → IsNoFault ⊥ result }
+    ensures other { IsNoFailure result }
 {
     match error {
         OpenError::Memory => LogError::Folder(FolderError::Memory),
@@ -128,7 +138,9 @@ fn refused_edge(alloc: Global, error: &OpenError) -> LogError
 }
 
 // That the state's root isn't that of the last tiles.
-fn other_root(alloc: Global) -> LogError {
+fn other_root(alloc: Global) -> LogError
+    ensures { IsNoFailure result }
+{
     LogError::damaged(alloc, STATE, "has another root than the log's last tiles")
 }
 
@@ -149,8 +161,12 @@ pub(crate) fn read_bundle<F: Folder>(
         → IfErr result (IsNoFault ⊥) }
     ensures seen { F.IsFaithful → F.seen folder.new ≡ F.seen folder.old }
     ensures crash { F.IsFaithful → Within (F.may_leave folder.old) (F.may_leave folder.new) }
+    ensures any_moment { F.IsFaithful
+        → OnOk result (LeavesOnly F.moment F.left_since folder.old folder.new (F.may_leave folder.old)) }
     ensures ready { F.IsFaithful → IsStaging (F.seen folder.old) (F.may_leave folder.old)
         → OnOk result (IsStaging (F.seen folder.new) (F.may_leave folder.new)) }
+    ensures cause { HasCauseOf (LogError.Folder FolderError.Failed) F.IsFaithful
+        (F.faults folder.old) (F.faults folder.new) result }
 {
     let path = tile.entries_path(alloc)?;
     match folder.read(alloc, path.as_str(), MOST_BUNDLE)? {
@@ -170,6 +186,7 @@ pub(crate) fn entries_of<'a>(
     ensures count { IfOk result (λ entries. length entries.items ≡ tile.now.width) }
     ensures whole { (log : LogOf) → AreShort log.entries → IsBundleIn log tile.now
         → bytes.now ≡ bundle_bytes log tile.now → IfErr result (IsNoFault ⊥) }
+    ensures other { IfErr result IsNoFailure }
 {
     let entries = match read_entries(alloc, bytes) {
         Ok(entries) => entries,
@@ -185,6 +202,7 @@ pub(crate) fn entries_of<'a>(
 /// That a bundle isn't what it is to be.
 pub(crate) fn damaged_bundle(alloc: Global, tile: &Tile, fault: &'static str) -> LogError
     requires { tile.now.level ≡ 0 }
+    ensures { IsNoFailure result }
 {
     match tile.entries_path(alloc) {
         Ok(path) => LogError::damaged(alloc, path.as_str(), fault),
@@ -204,8 +222,12 @@ pub(crate) fn read_last_bundle<F: Folder>(
     ensures whole { F.IsFaithful → (log : LogOf) → CanBeKept log → HasFiles log (F.seen folder.old)
         → ArePartsOf log edge.now → IfErr result (IsNoFault ⊥) }
     ensures seen { F.IsFaithful → F.seen folder.new ≡ F.seen folder.old }
+    ensures any_moment { F.IsFaithful
+        → OnOk result (LeavesOnly F.moment F.left_since folder.old folder.new (F.may_leave folder.old)) }
     ensures ready { F.IsFaithful → IsStaging (F.seen folder.old) (F.may_leave folder.old)
         → OnOk result (IsStaging (F.seen folder.new) (F.may_leave folder.new)) }
+    ensures cause { HasCauseOf (LogError.Folder FolderError.Failed) F.IsFaithful
+        (F.faults folder.old) (F.faults folder.new) result }
 {
     match edge.first() {
         Some(stored) if stored.tile.level() == 0 => {
@@ -220,10 +242,11 @@ pub(crate) fn read_last_bundle<F: Folder>(
 // Refuses entries that aren't those of the tile.
 fn check_entries(alloc: Global, stored: &StoredTile<Sha256>, bytes: &[u8]) -> Result<(), LogError>
     requires { stored.now.tile.level ≡ 0 }
-    ensures { (log : LogOf) → AreShort log.entries → IsBundleIn log stored.now.tile
+    ensures whole { (log : LogOf) → AreShort log.entries → IsBundleIn log stored.now.tile
         → bytes.now ≡ bundle_bytes log stored.now.tile
         → stored.now.digests.items ≡ tile_digests sha256 (leaves_of sha256 log.entries) stored.now.tile
         → IfErr result (IsNoFault ⊥) }
+    ensures other { IfErr result IsNoFailure }
 {
     let entries = entries_of(alloc, &stored.tile, bytes)?;
     'entries: for (place, entry) in entries.as_slice().iter().enumerate() {

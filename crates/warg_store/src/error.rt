@@ -69,10 +69,12 @@ impl<T: Drop> From<AllocFailed<T>> for LogError {
 }
 
 impl LogError {
-    ghost use Rattle.warg_store.specs.Refusals.{IsNoFault};
+    ghost use Rattle.warg_store.specs.Refusals.{IsNoFault, IsNoFailure};
 
     /// That a file isn't what it is to be.
-    pub(crate) fn damaged(alloc: Global, name: &str, fault: &'static str) -> LogError {
+    pub(crate) fn damaged(alloc: Global, name: &str, fault: &'static str) -> LogError
+        ensures { IsNoFailure result }
+    {
         match String::from_str(alloc, name) {
             Ok(name) => LogError::Damaged(Damage { name, fault }),
             Err(_) => LogError::Folder(FolderError::Memory),
@@ -80,13 +82,16 @@ impl LogError {
     }
 
     /// That tiles don't lead to the root of the log's state.
-    pub(crate) fn no_root(alloc: Global) -> LogError {
+    pub(crate) fn no_root(alloc: Global) -> LogError
+        ensures { IsNoFailure result }
+    {
         LogError::damaged(alloc, "tile", "doesn't lead to the root of the log's state")
     }
 
     /// Why a folder wasn't recovered.
     pub(crate) fn of_recovery(alloc: Global, error: &RecoverError) -> LogError
-        ensures { error.now ≢ RecoverError.TooLong → IsNoFault ⊥ result }
+        ensures whole { error.now ≢ RecoverError.TooLong → IsNoFault ⊥ result }
+        ensures cause { error.now ≢ RecoverError.Folder FolderError.Failed → IsNoFailure result }
     {
         match error {
             RecoverError::Folder(FolderError::Memory) => LogError::Folder(FolderError::Memory),

@@ -6,11 +6,11 @@ ghost use Rattle.warg_crypto.specs.Digests.{sha256};
 ghost use Rattle.warg_log.specs.Tree.{leaves_of};
 ghost use Rattle.warg_tiles.specs.Between.{IsTileOf};
 ghost use Rattle.warg_store.specs.Log.{LogOf, IsTileIn, HasFiles};
-ghost use Rattle.warg_store.specs.Moments.{Within};
+ghost use Rattle.warg_store.specs.Moments.{Within, HasCauseOf};
 ghost use Rattle.warg_store.specs.Private.Fetched.{AreOwn, GivesMore};
 ghost use Rattle.warg_store.specs.Refusals.{IsNoFault};
 
-use crate::device::Folder;
+use crate::device::{Folder, FolderError};
 use crate::edge::read_tile;
 use crate::error::LogError;
 use std::alloc::Global;
@@ -38,6 +38,8 @@ pub(crate) fn fetch<F: Folder>(
         → AllByRecursion (IsTileOf n) tiles.now → IfErr result (IsNoFault ⊥) }
     ensures seen { F.IsFaithful → F.seen folder.new ≡ F.seen folder.old }
     ensures crash { F.IsFaithful → Within (F.may_leave folder.old) (F.may_leave folder.new) }
+    ensures cause { HasCauseOf (LogError.Folder FolderError.Failed) F.IsFaithful
+        (F.faults folder.old) (F.faults folder.new) result }
 {
     'tiles: for tile in tiles {
         fetch_one(alloc, folder, fetched, tile_at(tile, log_length))?;
@@ -59,6 +61,8 @@ fn fetch_one<F: Folder>(
         → IsTileIn log tile → IfErr result (IsNoFault ⊥) }
     ensures seen { F.IsFaithful → F.seen folder.new ≡ F.seen folder.old }
     ensures crash { F.IsFaithful → Within (F.may_leave folder.old) (F.may_leave folder.new) }
+    ensures cause { HasCauseOf (LogError.Folder FolderError.Failed) F.IsFaithful
+        (F.faults folder.old) (F.faults folder.new) result }
 {
     if fetched.has_tile(&tile) {
         return Ok(());
@@ -88,6 +92,8 @@ pub(crate) fn fetch_leaf<F: Folder>(
         → length log.entries ≡ log_length → index < log_length → IfErr result (IsNoFault ⊥) }
     ensures seen { F.IsFaithful → F.seen folder.new ≡ F.seen folder.old }
     ensures crash { F.IsFaithful → Within (F.may_leave folder.old) (F.may_leave folder.new) }
+    ensures cause { HasCauseOf (LogError.Folder FolderError.Failed) F.IsFaithful
+        (F.faults folder.old) (F.faults folder.new) result }
 {
     let leaf = Node::leaf(index);
     if let Some(digest) = fetched.hash_for(leaf) {

@@ -27,11 +27,11 @@ pub(crate) fn commit_log<F: Folder>(
     requires staging { F.IsFaithful → IsStaging (F.seen folder.old) (F.may_leave folder.old) }
     requires short { length text.now ≤ MOST_TEXT }
     ensures any_moment { F.IsFaithful → (served old next : LogOf) → Keeps served old (F.seen folder.old)
-        → Extends old next → AreStagedFor old next (F.seen folder.old) → text.now ≡ checkpoint_of next → CanBeKept next
+        → Extends old next → AreStagedFor served old next (F.seen folder.old) → text.now ≡ checkpoint_of next → CanBeKept next
         → LeavesOnly F.moment F.left_since folder.old folder.new
         (IsCommitting served old next (F.seen folder.old)) }
     ensures next { F.IsFaithful → OnOk result ((served old next : LogOf) → Keeps served old (F.seen folder.old)
-        → Extends old next → AreStagedFor old next (F.seen folder.old) → text.now ≡ checkpoint_of next → CanBeKept next
+        → Extends old next → AreStagedFor served old next (F.seen folder.old) → text.now ≡ checkpoint_of next → CanBeKept next
         → (log : LogOf) × Keeps log next (F.seen folder.new)) }
     ensures durable { F.IsFaithful → OnOk result (Only (F.seen folder.new) (F.may_leave folder.new)) }
     ensures ready { F.IsFaithful → OnOk result (IsStaging (F.seen folder.new) (F.may_leave folder.new)) }

@@ -1,13 +1,14 @@
 //! A log in a folder, as whoever adds to it holds it.
 
-ghost use Rattle.std.specs.Prelude.{◌≡◌, ◌+◌, ◌<◌, ◌≤◌, ◌↔◌, length, true, Err, IfOk, OnOk, OnErr};
+ghost use Rattle.std.specs.Prelude.{◌≡◌, ◌+◌, ◌<◌, ◌≤◌, ◌⊎◌, ◌↔◌, ◌++◌, length, map, true, false, Err, IfOk, IfErr, OnOk, OnErr};
+ghost use Rattle.std.specs.List.{AllByRecursion};
 ghost use Rattle.warg_crypto.specs.Digests.{sha256};
 ghost use Rattle.warg_log.specs.Tree.{leaves_of};
 ghost use Rattle.warg_tiles.specs.CheckpointText.{IsLine, text_of};
 ghost use Rattle.warg_tiles.specs.TileLog.{StandsFor};
-ghost use Rattle.warg_store.specs.Moments.{LeavesOnly};
+ghost use Rattle.warg_store.specs.Moments.{LeavesOnly, HasCause, HasCauseOf};
 ghost use Rattle.warg_store.specs.Opening.{IsBeside, IsStaging};
-ghost use Rattle.warg_store.specs.Growing.{IsReady, IsSameBut, Has, HasAll, IsPut, ArePartsOf, with_entry};
+ghost use Rattle.warg_store.specs.Growing.{IsReady, IsSameBut, Has, HasAll, IsEndOf, IsPut, ArePartsOf, with_entry};
 ghost use Rattle.warg_store.specs.Log.{LogOf, CanBeKept, IsCommitting, said_of, checkpoint_of};
 
 use crate::committing::MOST_TEXT;
@@ -137,6 +138,14 @@ impl<F: Folder + Drop> Model for LogFolder<F> {
     } };
 }
 
+// What a log's end has for a commit: the checkpoint's text, the same in bytes, and the partial tiles.
+#[derive(Drop)]
+struct LogEnd {
+    text: CheckpointText<Sha256>,
+    bytes: Vec<u8>,
+    tiles: Vec<StoredTile<Sha256>>,
+}
+
 impl<F: Folder + Drop> LogFolder<F> {
     // The log of a folder that keeps this checkpoint, with its right edge and the entries of its last bundle.
     pub(crate) fn with(
@@ -220,6 +229,12 @@ impl<F: Folder + Drop> LogFolder<F> {
         ensures length { OnOk result (self.new.edge.len ≡ self.old.edge.len + 1) }
         ensures refused { OnErr result (self.new.edge.len ≡ self.old.edge.len) }
         ensures too_long { (result ≡ Err PushError.TooLong) ↔ (65535 < length entry.now) }
+        ensures full { (result ≡ Err PushError.Full)
+            ↔ ((length entry.now ≤ 65535) × (GREATEST_LENGTH ≤ self.old.edge.len)) }
+        ensures closed { (result ≡ Err PushError.Closed) ↔ ((length entry.now ≤ 65535)
+            × (self.old.edge.len < GREATEST_LENGTH) × (self.old.is_open ≡ false)) }
+        ensures cause { HasCauseOf (PushError.Folder FolderError.Failed) F.IsFaithful
+            (F.faults self.old.folder) (F.faults self.new.folder) result }
         ensures any_moment { F.IsFaithful → self.old.is_open ≡ true
             → LeavesOnly F.moment F.left_since self.old.folder self.new.folder
             (IsBeside (F.seen self.old.folder)) }
@@ -238,19 +253,24 @@ impl<F: Folder + Drop> LogFolder<F> {
     }
 
     /// Keeps what was pushed, and serves it, unless the checkpoint is signed: that one is served until another is signed. All
-    /// of it or nothing, whatever happens at whatever moment; after `Ok` a crash leaves all of it. No name of a tile or a bundle
-    /// that isn't new changes its bytes. A commit of nothing changes nothing. `Memory` only before anything is written, and the log is as it was; after another error it takes no more,
-    /// and the folder is opened again.
+    /// of it or nothing, whatever happens at whatever moment; after `Ok` a crash leaves all of it. The checkpoint's text keeps
+    /// its further lines. No name of a file that isn't new changes its bytes. A commit of nothing changes nothing.
+    ///
+    /// `Memory` and `TooLong` come only before anything is written, and the log is as it was; after another error it takes no
+    /// more, and the folder is opened again.
     pub fn commit(&mut self) -> Result<(), CommitError>
         requires { F.IsFaithful → IsReady F.seen F.may_leave self.old }
         ensures ready { F.IsFaithful → IsReady F.seen F.may_leave self.new }
         ensures any_moment { F.IsFaithful → (served old next : LogOf)
-            → Has F.seen F.may_leave served old next self.old
+            → Has F.seen F.may_leave served old next self.old → next.lines ≡ old.lines
             → LeavesOnly F.moment F.left_since self.old.folder self.new.folder
             (IsCommitting served old next (F.seen self.old.folder)) }
         ensures committed { F.IsFaithful → OnOk result ((served old next : LogOf)
-            → Has F.seen F.may_leave served old next self.old
+            → Has F.seen F.may_leave served old next self.old → next.lines ≡ old.lines
             → (log : LogOf) × Has F.seen F.may_leave log next next self.new) }
+        ensures closed { (result ≡ Err CommitError.Closed) ↔ (self.old.is_open ≡ false) }
+        ensures cause { HasCauseOf (CommitError.Folder FolderError.Failed) F.IsFaithful
+            (F.faults self.old.folder) (F.faults self.new.folder) result }
     {
         if !self.is_open {
             return Err(CommitError::Closed);
@@ -258,15 +278,10 @@ impl<F: Folder + Drop> LogFolder<F> {
         if self.edge.length() == self.text.checkpoint().length() {
             return Ok(());
         }
-        let text = self.next_text()?;
-        let bytes = text.write(self.alloc)?;
-        if bytes.len() > MOST_TEXT {
-            return Err(CommitError::TooLong);
-        }
-        let tiles = self.edge.partial(self.alloc)?;
-        match self.put(tiles.as_slice(), bytes.as_slice()) {
+        let end = self.end()?;
+        match self.put(&end) {
             Ok(()) => {
-                self.text = text;
+                self.text = end.text;
                 Ok(())
             }
             Err(error) => {
@@ -276,37 +291,59 @@ impl<F: Folder + Drop> LogFolder<F> {
         }
     }
 
+    // What the log's end has for the next commit.
+    fn end(&self) -> Result<LogEnd, CommitError>
+        ensures is { IfOk result (λ end. (served old next : LogOf) → Has F.seen F.may_leave served old next self.now
+            → next.lines ≡ old.lines → IsEndOf next end.text end.bytes.items end.tiles.items) }
+        ensures short { IfOk result (λ end. length end.bytes.items ≤ MOST_TEXT) }
+        ensures refused { IfErr result (λ error. (error ≡ CommitError.Memory) ⊎ (error ≡ CommitError.TooLong)) }
+    {
+        let text = self.next_text()?;
+        let bytes = text.write(self.alloc)?;
+        if bytes.len() > MOST_TEXT {
+            return Err(CommitError::TooLong);
+        }
+        let tiles = self.edge.partial(self.alloc)?;
+        Ok(LogEnd { text, bytes, tiles })
+    }
+
     // Stages what the log's end has, and commits all that is staged.
-    fn put(&mut self, tiles: &[StoredTile<Sha256>], text: &[u8]) -> Result<(), FolderError>
+    fn put(&mut self, end: &LogEnd) -> Result<(), FolderError>
         requires staging { F.IsFaithful → IsStaging (F.seen self.old.folder) (F.may_leave self.old.folder) }
-        requires short { length text.now ≤ MOST_TEXT }
+        requires short { length end.now.bytes.items ≤ MOST_TEXT }
         ensures ready { F.IsFaithful
             → OnOk result (IsStaging (F.seen self.new.folder) (F.may_leave self.new.folder)) }
         ensures same { IsSameBut self.old self.new }
         ensures any_moment { F.IsFaithful → (served old next : LogOf)
             → Has F.seen F.may_leave served old next self.old → self.old.text.length < self.old.edge.len
-            → ArePartsOf next tiles.now → text.now ≡ checkpoint_of next → CanBeKept next
+            → IsEndOf next end.now.text end.now.bytes.items end.now.tiles.items
             → LeavesOnly F.moment F.left_since self.old.folder self.new.folder
             (IsCommitting served old next (F.seen self.old.folder)) }
         ensures put { F.IsFaithful → OnOk result ((served old next : LogOf)
             → Has F.seen F.may_leave served old next self.old → self.old.text.length < self.old.edge.len
-            → ArePartsOf next tiles.now → text.now ≡ checkpoint_of next → CanBeKept next
+            → IsEndOf next end.now.text end.now.bytes.items end.now.tiles.items
             → IsPut F.seen F.may_leave next self.new) }
+        ensures cause { HasCause F.IsFaithful (F.faults self.old.folder) (F.faults self.new.folder) result }
     {
-        self.stage_edge(tiles)?;
-        commit_log(self.alloc, &mut self.folder, text)?;
+        self.stage_edge(end.tiles.as_slice())?;
+        commit_log(self.alloc, &mut self.folder, end.bytes.as_slice())?;
         let _ = self.edge.take_full();
         Ok(())
     }
 
-    // The text of the checkpoint over all that was pushed.
+    // The text of the checkpoint over all that was pushed, with the further lines of the state's.
     fn next_text(&self) -> Result<CheckpointText<Sha256>, CommitError>
         ensures said { IfOk result (λ text. (log : LogOf) → self.now.text.origin ≡ log.origin
+            → self.now.text.extensions ≡ log.lines
             → StandsFor sha256 self.now.edge (leaves_of sha256 log.entries) → text ≡ said_of log) }
         ensures line { IsLine self.now.text.origin }
+        ensures lines { AllByRecursion IsLine self.now.text.extensions }
+        ensures fits { self.now.edge.len ≤ GREATEST_LENGTH }
+        ensures memory { IfErr result (λ error. error ≡ CommitError.Memory) }
     {
+        let lines = self.text.extensions();
         match CheckpointText::new(self.alloc, self.text.origin(), self.edge.checkpoint()) {
-            Ok(text) => Ok(text),
+            Ok(text) => with_lines(text, lines),
             Err(_) => Err(CommitError::Memory),
         }
     }
@@ -322,6 +359,7 @@ impl<F: Folder + Drop> LogFolder<F> {
             → Has F.seen F.may_leave served old next self.old → self.old.text.length < self.old.edge.len
             → ArePartsOf next tiles.now
             → HasAll F.seen F.may_leave served old next self.new) }
+        ensures cause { HasCause F.IsFaithful (F.faults self.old.folder) (F.faults self.new.folder) result }
     {
         self.make_room()?;
         let older = self.text.checkpoint().length();
@@ -345,6 +383,7 @@ impl<F: Folder + Drop> LogFolder<F> {
         ensures has { F.IsFaithful → OnOk result ((served old next : LogOf)
             → Has F.seen F.may_leave served old next self.old
             → Has F.seen F.may_leave served old next self.new) }
+        ensures cause { HasCause F.IsFaithful (F.faults self.old.folder) (F.faults self.new.folder) result }
     {
         if self.held < 256 {
             return Ok(());
@@ -363,6 +402,7 @@ impl<F: Folder + Drop> LogFolder<F> {
         ensures has { F.IsFaithful → OnOk result ((served old next : LogOf) → self.old.held ≡ 256
             → Has F.seen F.may_leave served old next self.old
             → Has F.seen F.may_leave served old next self.new) }
+        ensures cause { HasCause F.IsFaithful (F.faults self.old.folder) (F.faults self.new.folder) result }
     {
         stage_tiles(
             self.alloc,
@@ -386,7 +426,7 @@ impl<F: Folder + Drop> LogFolder<F> {
         ensures folder { self.new.folder ≡ self.old.folder }
         ensures length { OnOk result (self.new.edge.len ≡ self.old.edge.len + 1) }
         ensures refused { OnErr result (self.new ≡ self.old) }
-        ensures not_long { result ≡ Err PushError.TooLong → ⊥ }
+        ensures memory { OnErr result (result ≡ Err (PushError.Folder FolderError.Memory)) }
         ensures has { OnOk result ((served old next : LogOf)
             → Has F.seen F.may_leave served old next self.old
             → Has F.seen F.may_leave served old (with_entry next entry.now) self.new) }
@@ -407,4 +447,22 @@ impl<F: Folder + Drop> LogFolder<F> {
             }
         }
     }
+}
+
+// The text with further lines behind its own.
+fn with_lines(
+    mut text: CheckpointText<Sha256>,
+    lines: &[Vec<u8>],
+) -> Result<CheckpointText<Sha256>, CommitError>
+    ensures longer { IfOk result (λ longer. longer ≡ record text {
+      extensions = text.extensions ++ map (λ l. l.items) lines.now;
+    }) }
+    ensures memory { IfErr result (λ error. error ≡ CommitError.Memory) }
+{
+    'lines: for line in lines {
+        if text.push_extension(line.as_slice()).is_err() {
+            return Err(CommitError::Memory);
+        }
+    }
+    Ok(text)
 }

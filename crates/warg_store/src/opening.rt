@@ -4,12 +4,12 @@ ghost use Rattle.std.specs.Prelude.{◌≡◌, ◌≢◌, ◌⊎◌, ◌↔◌, 
 ghost use Rattle.std.specs.List.{All};
 ghost use Rattle.warg_tiles.specs.CheckpointText.{Said, CanBeSaid, text_before};
 ghost use Rattle.warg_store.specs.Files.{SameBut};
-ghost use Rattle.warg_store.specs.Moments.{Within, Elapses};
+ghost use Rattle.warg_store.specs.Moments.{Only, Within, Elapses, LeavesOnly, HasCause, HasCauseOf, HasLostCause};
 ghost use Rattle.warg_store.specs.Growing.{IsReady, Has};
-ghost use Rattle.warg_store.specs.Log.{LogOf, CanBeKept, Serves, Keeps, HasLog, said_of};
+ghost use Rattle.warg_store.specs.Log.{LogOf, CanBeKept, Serves, Keeps, HasLog, IsOneOf, said_of};
 ghost use Rattle.warg_store.specs.Names.{checkpoint, state, mark};
-ghost use Rattle.warg_store.specs.Opening.{IsStaging, CanBeServed, AgreesWith, opened};
-ghost use Rattle.warg_store.specs.Refusals.{IsNoFault};
+ghost use Rattle.warg_store.specs.Opening.{IsStaging, CanBeServed, AgreesWith, IsTakenOver, IsOpening, opened};
+ghost use Rattle.warg_store.specs.Refusals.{IsNoFault, IsNoFailure};
 
 use crate::committing::{MOST_TEXT, commit, is_signed};
 use crate::device::{Folder, FolderError};
@@ -39,12 +39,21 @@ pub enum CreateError {
 }
 
 impl From<FolderError> for CreateError {
+    ghost use Rattle.warg_store.specs.declared.opening.CreateError.TheVariants.{Folder};
+
+    ghost from_gives = { λ cause error. error ≡ Folder cause };
+
     fn from(cause: FolderError) -> Self {
         CreateError::Folder(cause)
     }
 }
 
 impl From<AllocError> for CreateError {
+    ghost use Rattle.warg_store.specs.declared.device.FolderError.TheVariants.{Memory};
+    ghost use Rattle.warg_store.specs.declared.opening.CreateError.TheVariants.{Folder};
+
+    ghost from_gives = { λ _ error. error ≡ Folder Memory };
+
     fn from(_error: AllocError) -> Self {
         CreateError::Folder(FolderError::Memory)
     }
@@ -56,8 +65,9 @@ impl<F: Folder + Drop> LogFolder<F> {
     pub fn create(alloc: Global, mut folder: F, origin: &[u8]) -> Result<LogFolder<F>, CreateError>
         ensures ready { F.IsFaithful → IfOk result (IsReady F.seen F.may_leave) }
         ensures empty { IfOk result (λ log. (log.edge.len ≡ 0) × (log.text.origin ≡ origin.now)) }
-        ensures has { F.IsFaithful → IfOk result (λ log. let none : LogOf = record { origin = origin.now; entries = [] } in
+        ensures has { F.IsFaithful → IfOk result (λ log. let none : LogOf = record { origin = origin.now; entries = []; lines = []; pages = [] } in
             Has F.seen F.may_leave none none none log) }
+        ensures cause { HasLostCause F.faults (CreateError.Folder FolderError.Failed) F.IsFaithful folder result }
     {
         if origin.len() > 65_535 {
             return Err(CreateError::Origin);
@@ -94,6 +104,13 @@ impl<F: Folder + Drop> LogFolder<F> {
             → opened (F.seen folder) checkpoint ≡ Some (text_before served behind) → AgreesWith log.text served) }
         ensures opens { F.IsFaithful → (served kept : LogOf) → HasLog served kept (opened (F.seen folder))
             → IfErr result (IsNoFault ⊥) }
+
+        // A crash, or a reader, at any moment finds what it might have found before, or each served file as it was or as the
+        // commit that stands puts it, and a folder that stands for the same.
+        ensures any_moment { F.IsFaithful → IfOk result (λ log. LeavesOnly F.moment F.left_since folder log.folder
+            (λ c. F.may_leave folder c ⊎ IsOpening (F.seen folder) c)) }
+
+        ensures cause { HasLostCause F.faults (LogError.Folder FolderError.Failed) F.IsFaithful folder result }
     {
         if let Err(error) = recover(alloc, &mut folder) {
             return Err(LogError::of_recovery(alloc, &error));
@@ -119,8 +136,13 @@ fn kept_text<F: Folder>(alloc: Global, folder: &mut F) -> Result<CheckpointText<
     ensures agrees { F.IsFaithful → IfOk result (λ text. (served : Said) (behind : Option (List ℕ)) → CanBeServed served
         → F.seen folder.old checkpoint ≡ Some (text_before served behind) → AgreesWith text served) }
     ensures beside { F.IsFaithful → OnOk result (SameBut state (F.seen folder.old) (F.seen folder.new)) }
+    ensures any_moment { F.IsFaithful → Only (F.seen folder.old) (F.may_leave folder.old)
+        → OnOk result (LeavesOnly F.moment F.left_since folder.old folder.new
+        (λ c. (c ≡ F.seen folder.old) ⊎ IsTakenOver (F.seen folder.old) c)) }
     ensures ready { F.IsFaithful → IsStaging (F.seen folder.old) (F.may_leave folder.old)
         → OnOk result (IsStaging (F.seen folder.new) (F.may_leave folder.new)) }
+    ensures cause { HasCauseOf (LogError.Folder FolderError.Failed) F.IsFaithful
+        (F.faults folder.old) (F.faults folder.new) result }
 {
     let Some(state) = read_text(alloc, folder, STATE)? else {
         return take_over(alloc, folder);
@@ -139,8 +161,13 @@ fn take_over<F: Folder>(alloc: Global, folder: &mut F) -> Result<CheckpointText<
     ensures agrees { F.IsFaithful → IfOk result (λ text. (served : Said) (behind : Option (List ℕ)) → CanBeServed served
         → F.seen folder.old checkpoint ≡ Some (text_before served behind) → AgreesWith text served) }
     ensures beside { F.IsFaithful → OnOk result (SameBut state (F.seen folder.old) (F.seen folder.new)) }
+    ensures any_moment { F.IsFaithful → Only (F.seen folder.old) (F.may_leave folder.old)
+        → F.seen folder.old state ≡ None → OnOk result (LeavesOnly F.moment F.left_since folder.old folder.new
+        (λ c. (c ≡ F.seen folder.old) ⊎ IsTakenOver (F.seen folder.old) c)) }
     ensures ready { F.IsFaithful → IsStaging (F.seen folder.old) (F.may_leave folder.old)
         → OnOk result (IsStaging (F.seen folder.new) (F.may_leave folder.new)) }
+    ensures cause { HasCauseOf (LogError.Folder FolderError.Failed) F.IsFaithful
+        (F.faults folder.old) (F.faults folder.new) result }
 {
     let Some(served) = read_text(alloc, folder, CHECKPOINT)? else {
         return Err(LogError::NoLog);
@@ -157,6 +184,8 @@ fn take_over<F: Folder>(alloc: Global, folder: &mut F) -> Result<CheckpointText<
 fn check_fresh<F: Folder>(alloc: Global, folder: &mut F) -> Result<(), CreateError>
     ensures fresh { F.IsFaithful → OnOk result
         ((F.seen folder.new checkpoint ≡ None) × (F.seen folder.new mark ≡ None)) }
+    ensures cause { HasCauseOf (CreateError.Folder FolderError.Failed) F.IsFaithful
+        (F.faults folder.old) (F.faults folder.new) result }
 {
     let names = folder.list(alloc, "")?;
     if are_others(names.as_slice()) {
@@ -189,6 +218,8 @@ fn is_of_log(name: &str) -> bool
 fn prepare<F: Folder>(alloc: Global, folder: &mut F) -> Result<(), CreateError>
     ensures opened { F.IsFaithful → OnOk result (F.seen folder.new ≡ opened (F.seen folder.old)) }
     ensures ready { F.IsFaithful → OnOk result (IsStaging (F.seen folder.new) (F.may_leave folder.new)) }
+    ensures cause { HasCauseOf (CreateError.Folder FolderError.Failed) F.IsFaithful
+        (F.faults folder.old) (F.faults folder.new) result }
 {
     match recover(alloc, folder) {
         Ok(()) => Ok(()),
@@ -205,6 +236,8 @@ pub(crate) fn read_state<F: Folder>(
     ensures seen { F.IsFaithful → F.seen folder.new ≡ F.seen folder.old }
     ensures ready { F.IsFaithful → IsStaging (F.seen folder.old) (F.may_leave folder.old)
         → OnOk result (IsStaging (F.seen folder.new) (F.may_leave folder.new)) }
+    ensures cause { HasCauseOf (LogError.Folder FolderError.Failed) F.IsFaithful
+        (F.faults folder.old) (F.faults folder.new) result }
 {
     read_text(alloc, folder, STATE)?.ok_or(LogError::NoLog)
 }
@@ -219,7 +252,7 @@ fn read_text<F: Folder>(
     ensures text { F.IsFaithful → IfOk result (λ text. (said : Said) (behind : Option (List ℕ))
         → CanBeServed said → F.seen folder.old name.now ≡ Some (text_before said behind)
         → text ≡ Some said) }
-    ensures none { F.IsFaithful → IfOk result (λ text. F.seen folder.old name.now ≡ None → text ≡ None) }
+    ensures none { F.IsFaithful → IfOk result (λ text. (text ≡ None) ↔ (F.seen folder.old name.now ≡ None)) }
     ensures whole { F.IsFaithful → (said : Said) (behind : Option (List ℕ)) → CanBeServed said
         → F.seen folder.old name.now ≡ Some (text_before said behind)
         → IfErr result (IsNoFault ⊥) }
@@ -229,6 +262,8 @@ fn read_text<F: Folder>(
     ensures time { F.IsFaithful → Elapses F.moment F.left_since F.may_leave folder.old folder.new }
     ensures ready { F.IsFaithful → IsStaging (F.seen folder.old) (F.may_leave folder.old)
         → OnOk result (IsStaging (F.seen folder.new) (F.may_leave folder.new)) }
+    ensures cause { HasCauseOf (LogError.Folder FolderError.Failed) F.IsFaithful
+        (F.faults folder.old) (F.faults folder.new) result }
 {
     match folder.read(alloc, name, MOST_TEXT)? {
         Some(bytes) => Ok(Some(text_in(alloc, name, bytes.as_slice())?)),
@@ -246,7 +281,11 @@ pub(crate) fn read_newest<F: Folder>(
         → text ≡ said_of log) }
     ensures whole { F.IsFaithful → (served log : LogOf) → HasLog served log (F.seen folder.old)
         → IfErr result (IsNoFault ⊥) }
+    ensures meanwhile { F.IsFaithful → (served old next : LogOf) → IsOneOf served old next (F.seen folder.old)
+        → IfErr result (IsNoFault ⊥) }
     ensures seen { F.IsFaithful → F.seen folder.new ≡ F.seen folder.old }
+    ensures cause { HasCauseOf (LogError.Folder FolderError.Failed) F.IsFaithful
+        (F.faults folder.old) (F.faults folder.new) result }
 {
     let state = read_text(alloc, folder, STATE)?;
     let Some(served) = read_text(alloc, folder, CHECKPOINT)? else {
@@ -270,16 +309,45 @@ fn newest_of<F: Folder>(
 ) -> Result<CheckpointText<Sha256>, LogError>
     ensures text { F.IsFaithful → IfOk result (λ text. (log : LogOf) → Serves log (F.seen folder.old)
         → served ≡ said_of log → text ≡ said_of log) }
+    ensures whole { F.IsFaithful → (first log : LogOf)
+        → (F.seen folder.old mark ≡ None → Keeps first log (F.seen folder.old))
+        → state.now ≡ said_of log → IfErr result (IsNoFault ⊥) }
+    ensures seen { F.IsFaithful → F.seen folder.new ≡ F.seen folder.old }
+    ensures cause { HasCauseOf (LogError.Folder FolderError.Failed) F.IsFaithful
+        (F.faults folder.old) (F.faults folder.new) result }
+{
+    let newest = state.checkpoint().length();
+    if served.checkpoint().length() >= newest || is_committing(alloc, folder)? {
+        return Ok(served);
+    }
+    read_again(alloc, folder, state)
+}
+
+// Whether a commit stands that isn't done yet.
+fn is_committing<F: Folder>(alloc: Global, folder: &mut F) -> Result<bool, FolderError>
+    ensures stands { F.IsFaithful → IfOk result (λ is. is ≡ false → F.seen folder.old mark ≡ None) }
+    ensures seen { F.IsFaithful → F.seen folder.new ≡ F.seen folder.old }
+    ensures cause { HasCause F.IsFaithful (F.faults folder.old) (F.faults folder.new) result }
+{
+    Ok(folder.read(alloc, MARK, 0)?.is_some())
+}
+
+// The served text, which a commit may have put since, once it agrees with the state.
+fn read_again<F: Folder>(
+    alloc: Global,
+    folder: &mut F,
+    state: &CheckpointText<Sha256>,
+) -> Result<CheckpointText<Sha256>, LogError>
+    ensures text { F.IsFaithful → IfOk result (λ text. (log : LogOf) → Serves log (F.seen folder.old)
+        → text ≡ said_of log) }
     ensures whole { F.IsFaithful → (first log : LogOf) → Keeps first log (F.seen folder.old)
         → state.now ≡ said_of log → IfErr result (IsNoFault ⊥) }
     ensures seen { F.IsFaithful → F.seen folder.new ≡ F.seen folder.old }
+    ensures cause { HasCauseOf (LogError.Folder FolderError.Failed) F.IsFaithful
+        (F.faults folder.old) (F.faults folder.new) result }
 {
-    let newest = state.checkpoint().length();
-    if served.checkpoint().length() >= newest || folder.read(alloc, MARK, 0)?.is_some() {
-        return Ok(served);
-    }
     let served = read_served(alloc, folder)?;
-    if served.checkpoint().length() < newest {
+    if served.checkpoint().length() < state.checkpoint().length() {
         compare(alloc, folder, state, &served)?;
     }
     Ok(served)
@@ -291,6 +359,7 @@ fn text_in(alloc: Global, name: &str, bytes: &[u8]) -> Result<CheckpointText<Sha
         → bytes.now ≡ text_before said behind → text ≡ said) }
     ensures whole { (said : Said) (behind : Option (List ℕ)) → CanBeSaid said
         → bytes.now ≡ text_before said behind → IfErr result (IsNoFault ⊥) }
+    ensures other { IfErr result IsNoFailure }
 {
     match CheckpointText::read(alloc, bytes) {
         Ok((text, _)) => Ok(text),
@@ -300,7 +369,8 @@ fn text_in(alloc: Global, name: &str, bytes: &[u8]) -> Result<CheckpointText<Sha
 
 // Why a file's bytes aren't read as a text.
 fn refused_text(alloc: Global, name: &str, error: &CheckpointTextError) -> LogError
-    ensures { error.now ≡ CheckpointTextError.Memory → IsNoFault ⊥ result }
+    ensures memory { error.now ≡ CheckpointTextError.Memory → IsNoFault ⊥ result }
+    ensures other { IsNoFailure result }
 {
     let fault = match error {
         CheckpointTextError::Origin => "has no origin in its first line",
@@ -329,6 +399,8 @@ pub(crate) fn read_served<F: Folder>(
     ensures time { F.IsFaithful → Elapses F.moment F.left_since F.may_leave folder.old folder.new }
     ensures ready { F.IsFaithful → IsStaging (F.seen folder.old) (F.may_leave folder.old)
         → OnOk result (IsStaging (F.seen folder.new) (F.may_leave folder.new)) }
+    ensures cause { HasCauseOf (LogError.Folder FolderError.Failed) F.IsFaithful
+        (F.faults folder.old) (F.faults folder.new) result }
 {
     match read_text(alloc, folder, CHECKPOINT)? {
         Some(text) => Ok(text),
@@ -348,8 +420,12 @@ fn compare<F: Folder>(
         → state.now ≡ said_of log → served.now ≡ said_of first → IfErr result (IsNoFault ⊥) }
     ensures agrees { OnOk result (AgreesWith state.now served.now) }
     ensures seen { F.IsFaithful → F.seen folder.new ≡ F.seen folder.old }
+    ensures any_moment { F.IsFaithful
+        → OnOk result (LeavesOnly F.moment F.left_since folder.old folder.new (F.may_leave folder.old)) }
     ensures ready { F.IsFaithful → IsStaging (F.seen folder.old) (F.may_leave folder.old)
         → OnOk result (IsStaging (F.seen folder.new) (F.may_leave folder.new)) }
+    ensures cause { HasCauseOf (LogError.Folder FolderError.Failed) F.IsFaithful
+        (F.faults folder.old) (F.faults folder.new) result }
 {
     if served.origin() != state.origin() {
         let fault = "has another origin than the log's state";

@@ -3,7 +3,7 @@
 ghost use Rattle.std.specs.Prelude.{◌≡◌, ◌≤◌, ◌<◌, ◌↔◌, ℕ, true, List, length, IsTrue, IfOk, IfSome, OnOk, string_bytes};
 ghost use Rattle.warg_tiles.specs.Between.{IsTileOf};
 ghost use Rattle.warg_store.specs.Files.{Files};
-ghost use Rattle.warg_store.specs.Moments.{Only, LeavesOnly};
+ghost use Rattle.warg_store.specs.Moments.{Only, LeavesOnly, HasCause, HasCauseOf};
 ghost use Rattle.warg_store.specs.Names.{is_staged};
 ghost use Rattle.warg_store.specs.Opening.{IsStaging};
 ghost use Rattle.warg_store.specs.Log.{LogOf, Keeps, IsOneOf};
@@ -41,6 +41,8 @@ impl<F: Folder + Drop> LogFolder<F> {
             → Has F.seen F.may_leave served old next self.old
             → IsPruned (length old.entries) (length served.entries)
             (F.seen self.old.folder) (F.seen self.new.folder) }
+        ensures cause { HasCauseOf (LogError.Folder FolderError.Failed) F.IsFaithful
+            (F.faults self.old.folder) (F.faults self.new.folder) result }
     {
         let kept = self.checkpoint().length();
         prune_all(self.alloc, &mut self.folder, kept)
@@ -56,6 +58,8 @@ fn prune_all<F: Folder>(alloc: Global, folder: &mut F, kept: usize) -> Result<us
         (IsPruning kept (length served.entries) (F.seen folder.old)) }
     ensures done { F.IsFaithful → OnOk result (Only (F.seen folder.new) (F.may_leave folder.new)
         × ((n : List ℕ) → is_staged n ≡ true → F.seen folder.new n ≡ F.seen folder.old n)) }
+    ensures cause { HasCauseOf (LogError.Folder FolderError.Failed) F.IsFaithful
+        (F.faults folder.old) (F.faults folder.new) result }
 {
     let served = read_served(alloc, folder)?.checkpoint().length();
     let names = folder.list(alloc, "tile/")?;
@@ -80,6 +84,7 @@ fn prune_each<F: Folder>(
         → F.may_leave folder.new c → IsPruning kept served s c }
     ensures staged { F.IsFaithful → OnOk result ((n : List ℕ) → is_staged n ≡ true
         → F.seen folder.new n ≡ F.seen folder.old n) }
+    ensures cause { HasCause F.IsFaithful (F.faults folder.old) (F.faults folder.new) result }
 {
     let mut removed = 0usize;
     'names: for name in names {
@@ -106,6 +111,7 @@ fn prune_one<F: Folder>(
         → F.may_leave folder.new c → IsPruning kept served s c }
     ensures staged { F.IsFaithful → OnOk result ((n : List ℕ) → is_staged n ≡ true
         → F.seen folder.new n ≡ F.seen folder.old n) }
+    ensures cause { HasCause F.IsFaithful (F.faults folder.old) (F.faults folder.new) result }
 {
     let Some(named) = tile_named(alloc, name)? else {
         return Ok(false);

@@ -1,14 +1,15 @@
 //! A log as a folder serves it, as whoever reads it holds it.
 
-ghost use Rattle.std.specs.Prelude.{◌≡◌, ◌⊎◌, ◌<◌, ◌≤◌, length, Some, IfOk, IfErr, slice_get};
+ghost use Rattle.std.specs.Prelude.{◌≡◌, ◌⊎◌, ◌<◌, ◌≤◌, length, Some, IfOk, IfErr, MatchResult, slice_get};
 ghost use Rattle.warg_tiles.specs.CheckpointText.{text_of};
 ghost use Rattle.warg_store.specs.Audited.{IsOfEntries};
-ghost use Rattle.warg_store.specs.Log.{LogOf, HasLog, Serves};
+ghost use Rattle.warg_store.specs.Log.{LogOf, HasLog, Serves, IsOneOf};
+ghost use Rattle.warg_store.specs.Moments.{HasCauseOf, HasLostCause};
 ghost use Rattle.warg_store.specs.Reading.{Reads, checkpoint_said, inclusion_in, consistency_in, IsShown, IncludesBy, GrowsBy};
 ghost use Rattle.warg_store.specs.Refusals.{IsNoFault};
 
 use crate::auditing::{Progress, audited};
-use crate::device::Folder;
+use crate::device::{Folder, FolderError};
 use crate::edge::{open_edge, read_edge};
 use crate::error::LogError;
 use crate::opening::read_newest;
@@ -44,6 +45,12 @@ impl<F: Folder + Drop> LogReader<F> {
             → Reads F.seen log reader) }
         ensures opens { F.IsFaithful → (served kept : LogOf) → HasLog served kept (F.seen folder)
             → IfErr result (IsNoFault ⊥) }
+
+        // At each moment of a commit, a signing or a pruning it reads the log that was served, or the next one.
+        ensures meanwhile { F.IsFaithful → (served old next : LogOf) → IsOneOf served old next (F.seen folder)
+            → MatchResult result (λ reader. Reads F.seen served reader ⊎ Reads F.seen next reader) (IsNoFault ⊥) }
+
+        ensures cause { HasLostCause F.faults (LogError.Folder FolderError.Failed) F.IsFaithful folder result }
     {
         let text = read_newest(alloc, &mut folder)?;
         Ok(LogReader {
@@ -81,6 +88,8 @@ impl<F: Folder + Drop> LogReader<F> {
         ensures text { IfOk result (λ text. text.items ≡ text_of self.old.text) }
         ensures whole { F.IsFaithful → (log : LogOf) → Reads F.seen log self.old → IfErr result (IsNoFault ⊥) }
         ensures reads { F.IsFaithful → (log : LogOf) → Reads F.seen log self.old → Reads F.seen log self.new }
+        ensures cause { HasCauseOf (LogError.Folder FolderError.Failed) F.IsFaithful
+            (F.faults self.old.folder) (F.faults self.new.folder) result }
     {
         let checkpoint = self.text.checkpoint();
         let edge = read_edge(self.alloc, &mut self.folder, checkpoint.length())?;
@@ -96,6 +105,8 @@ impl<F: Folder + Drop> LogReader<F> {
         ensures whole { F.IsFaithful → (log : LogOf) → Reads F.seen log self.old
             → IfErr result (IsNoFault (length log.entries ≤ index)) }
         ensures reads { F.IsFaithful → (log : LogOf) → Reads F.seen log self.old → Reads F.seen log self.new }
+        ensures cause { HasCauseOf (LogError.Folder FolderError.Failed) F.IsFaithful
+            (F.faults self.old.folder) (F.faults self.new.folder) result }
     {
         let checkpoint = self.text.checkpoint();
         entry(self.alloc, &mut self.folder, index, &checkpoint)
@@ -109,6 +120,8 @@ impl<F: Folder + Drop> LogReader<F> {
         ensures whole { F.IsFaithful → (log : LogOf) → Reads F.seen log self.old
             → IfErr result (IsNoFault ((self.old.text.length < length) ⊎ (length ≤ index))) }
         ensures reads { F.IsFaithful → (log : LogOf) → Reads F.seen log self.old → Reads F.seen log self.new }
+        ensures cause { HasCauseOf (LogError.Folder FolderError.Failed) F.IsFaithful
+            (F.faults self.old.folder) (F.faults self.new.folder) result }
     {
         let checkpoint = self.text.checkpoint();
         inclusion(self.alloc, &mut self.folder, index, length, &checkpoint)
@@ -122,6 +135,8 @@ impl<F: Folder + Drop> LogReader<F> {
         ensures whole { F.IsFaithful → (log : LogOf) → Reads F.seen log self.old
             → IfErr result (IsNoFault ((self.old.text.length < new) ⊎ (old ≡ 0) ⊎ (new < old))) }
         ensures reads { F.IsFaithful → (log : LogOf) → Reads F.seen log self.old → Reads F.seen log self.new }
+        ensures cause { HasCauseOf (LogError.Folder FolderError.Failed) F.IsFaithful
+            (F.faults self.old.folder) (F.faults self.new.folder) result }
     {
         let checkpoint = self.text.checkpoint();
         growth(self.alloc, &mut self.folder, old, new, &checkpoint)
@@ -129,7 +144,9 @@ impl<F: Folder + Drop> LogReader<F> {
 
     /// As [`LogFolder::audit`], of the checkpoint.
     pub fn audit<P: Progress>(&mut self, progress: &mut P) -> Result<Checkpoint<Sha256>, LogError>
-        ensures { IfOk result IsOfEntries }
+        ensures entries { IfOk result IsOfEntries }
+        ensures cause { HasCauseOf (LogError.Folder FolderError.Failed) F.IsFaithful
+            (F.faults self.old.folder) (F.faults self.new.folder) result }
     {
         let checkpoint = self.text.checkpoint();
         audited(self.alloc, &mut self.folder, &checkpoint, progress)

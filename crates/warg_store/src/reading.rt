@@ -1,20 +1,20 @@
 //! Entries and paths out of a log's folder, each once it leads to the root of the log's state.
 
-ghost use Rattle.std.specs.Prelude.{◌≡◌, ◌⊎◌, ◌<◌, ◌≤◌, ℕ, List, length, take, true, Some, Ok, IfOk, IfErr, IfSome, IsSomeAnd, OnOk, IsTrue, slice_get};
+ghost use Rattle.std.specs.Prelude.{◌≡◌, ◌⊎◌, ◌*◌, ◌<◌, ◌≤◌, ℕ, List, [], length, take, true, Some, Ok, IfOk, IfErr, IfSome, IsSomeAnd, OnOk, IsTrue, slice_get, slice_index_or};
 ghost use Rattle.warg_crypto.specs.Digests.{sha256};
 ghost use Rattle.warg_log.specs.Cut.{old_over};
 ghost use Rattle.warg_log.specs.Ranges.{leaves_from};
 ghost use Rattle.warg_log.specs.Tree.{root_of, leaves_of};
-ghost use Rattle.warg_log.specs.Walks.{IsKnown, needed_between};
+ghost use Rattle.warg_log.specs.Walks.{IsKnown, needed, needed_between};
 ghost use Rattle.warg_paths.specs.Paths.{consistency_roots};
 ghost use Rattle.warg_tiles.specs.TileData.{digest_by};
 ghost use Rattle.warg_store.specs.Audited.{IsOfEntries};
 ghost use Rattle.warg_store.specs.Growing.{Has};
 ghost use Rattle.warg_store.specs.Log.{LogOf, AreShort, HasFiles};
-ghost use Rattle.warg_store.specs.Moments.{Within};
+ghost use Rattle.warg_store.specs.Moments.{Within, HasCauseOf};
 ghost use Rattle.warg_store.specs.Private.Fetched.{AreOwn};
 ghost use Rattle.warg_store.specs.Reading.{checkpoint_said, AreOfLog, inclusion_in, consistency_in, LeadsTo, IsShown, IncludesBy, GrowsBy};
-ghost use Rattle.warg_store.specs.Refusals.{IsNoFault};
+ghost use Rattle.warg_store.specs.Refusals.{IsNoFault, IsNoFailure};
 
 use crate::auditing::{Progress, audited};
 use crate::device::{Folder, FolderError};
@@ -46,6 +46,8 @@ impl<F: Folder + Drop> LogFolder<F> {
             → IfErr result (IsNoFault (length old.entries ≤ index)) }
         ensures has { F.IsFaithful → (served old next : LogOf) → Has F.seen F.may_leave served old next self.old
             → Has F.seen F.may_leave served old next self.new }
+        ensures cause { HasCauseOf (LogError.Folder FolderError.Failed) F.IsFaithful
+            (F.faults self.old.folder) (F.faults self.new.folder) result }
     {
         let checkpoint = self.checkpoint();
         entry(self.alloc, &mut self.folder, index, &checkpoint)
@@ -63,6 +65,8 @@ impl<F: Folder + Drop> LogFolder<F> {
             → IfErr result (IsNoFault ((self.old.text.length < length) ⊎ (length ≤ index))) }
         ensures has { F.IsFaithful → (served old next : LogOf) → Has F.seen F.may_leave served old next self.old
             → Has F.seen F.may_leave served old next self.new }
+        ensures cause { HasCauseOf (LogError.Folder FolderError.Failed) F.IsFaithful
+            (F.faults self.old.folder) (F.faults self.new.folder) result }
     {
         let checkpoint = self.checkpoint();
         inclusion(self.alloc, &mut self.folder, index, length, &checkpoint)
@@ -81,6 +85,8 @@ impl<F: Folder + Drop> LogFolder<F> {
             → IfErr result (IsNoFault ((self.old.text.length < new) ⊎ (old ≡ 0) ⊎ (new < old))) }
         ensures has { F.IsFaithful → (served old next : LogOf) → Has F.seen F.may_leave served old next self.old
             → Has F.seen F.may_leave served old next self.new }
+        ensures cause { HasCauseOf (LogError.Folder FolderError.Failed) F.IsFaithful
+            (F.faults self.old.folder) (F.faults self.new.folder) result }
     {
         let checkpoint = self.checkpoint();
         growth(self.alloc, &mut self.folder, old, new, &checkpoint)
@@ -89,7 +95,9 @@ impl<F: Folder + Drop> LogFolder<F> {
     /// Reads every entry that the log keeps, makes each tile again, and compares. `Damaged` names the first file that differs. A
     /// checkpoint that passes is that of entries: those that were read.
     pub fn audit<P: Progress>(&mut self, progress: &mut P) -> Result<Checkpoint<Sha256>, LogError>
-        ensures { IfOk result IsOfEntries }
+        ensures entries { IfOk result IsOfEntries }
+        ensures cause { HasCauseOf (LogError.Folder FolderError.Failed) F.IsFaithful
+            (F.faults self.old.folder) (F.faults self.new.folder) result }
     {
         let checkpoint = self.checkpoint();
         audited(self.alloc, &mut self.folder, &checkpoint, progress)
@@ -111,6 +119,8 @@ pub(crate) fn entry<F: Folder>(
         → IfErr result (IsNoFault (checkpoint.now.length ≤ index)) }
     ensures seen { F.IsFaithful → F.seen folder.new ≡ F.seen folder.old }
     ensures crash { F.IsFaithful → Within (F.may_leave folder.old) (F.may_leave folder.new) }
+    ensures cause { HasCauseOf (LogError.Folder FolderError.Failed) F.IsFaithful
+        (F.faults folder.old) (F.faults folder.new) result }
 {
     let length = checkpoint.length();
     let path = inclusion(alloc, folder, index, length, checkpoint)?;
@@ -140,6 +150,8 @@ fn read_entry<F: Folder>(
         → AreShort log.entries → length log.entries ≡ log_length → IfErr result (IsNoFault ⊥) }
     ensures seen { F.IsFaithful → F.seen folder.new ≡ F.seen folder.old }
     ensures crash { F.IsFaithful → Within (F.may_leave folder.old) (F.may_leave folder.new) }
+    ensures cause { HasCauseOf (LogError.Folder FolderError.Failed) F.IsFaithful
+        (F.faults folder.old) (F.faults folder.new) result }
 {
     let number = index / 256;
     let tile = Tile::new(0, number, (log_length - 256 * number).min(256));
@@ -151,7 +163,9 @@ fn read_entry<F: Folder>(
     }
 }
 
-fn damaged_entry(alloc: Global, index: usize) -> LogError {
+fn damaged_entry(alloc: Global, index: usize) -> LogError
+    ensures { IsNoFailure result }
+{
     damaged_bundle(
         alloc,
         &Tile::new(0, index / 256, index % 256 + 1),
@@ -175,24 +189,52 @@ pub(crate) fn inclusion<F: Folder>(
         → IfErr result (IsNoFault ((checkpoint.now.length < log_length) ⊎ (log_length ≤ index))) }
     ensures seen { F.IsFaithful → F.seen folder.new ≡ F.seen folder.old }
     ensures crash { F.IsFaithful → Within (F.may_leave folder.old) (F.may_leave folder.new) }
+    ensures cause { HasCauseOf (LogError.Folder FolderError.Failed) F.IsFaithful
+        (F.faults folder.old) (F.faults folder.new) result }
 {
-    if log_length > checkpoint.length() || log_length > GREATEST_LENGTH {
-        return Err(LogError::OutOfRange {
-            bound: checkpoint.length(),
-        });
+    let length = checkpoint.length();
+    if log_length > length || log_length > GREATEST_LENGTH {
+        return Err(LogError::OutOfRange { bound: length });
     }
     if index >= log_length {
         return Err(LogError::OutOfRange { bound: log_length });
     }
-    let length = checkpoint.length();
     let mut tiles = Fetched::new(alloc);
-    let named = tiles_for_inclusion(alloc, index, log_length)?;
-    fetch(alloc, folder, &mut tiles, named.as_slice(), length)?;
-    let leaf = fetch_leaf(alloc, folder, &mut tiles, index, length)?;
+    let leaf = fetch_inclusion(alloc, folder, &mut tiles, index, log_length, length)?;
     let path = made(alloc, inclusion_path(alloc, &tiles, index, log_length))?;
     let root = root_of_inclusion(index, log_length, &leaf, path.as_slice());
     check_root(alloc, folder, &mut tiles, log_length, root, checkpoint)?;
     Ok(path)
+}
+
+// Reads the tiles that the inclusion path of an entry takes, and its leaf digest, of a log that keeps so many entries.
+fn fetch_inclusion<F: Folder>(
+    alloc: Global,
+    folder: &mut F,
+    tiles: &mut Fetched,
+    index: usize,
+    log_length: usize,
+    kept: usize,
+) -> Result<Hash<Sha256>, LogError>
+    requires order { index < log_length }
+    requires fits { log_length ≤ GREATEST_LENGTH }
+    ensures own { F.IsFaithful → OnOk result ((log : LogOf) → HasFiles log (F.seen folder.old)
+        → length log.entries ≡ kept → log_length ≤ kept → AreOwn log tiles.old
+        → AreOwn log tiles.new) }
+    ensures leaf { F.IsFaithful → IfOk result (λ leaf. (log : LogOf) → HasFiles log (F.seen folder.old)
+        → length log.entries ≡ kept → log_length ≤ kept → AreOwn log tiles.old
+        → leaf ≡ slice_index_or (leaves_of sha256 log.entries) index []) }
+    ensures known { OnOk result (IsKnown (digest_by sha256 tiles.new) (needed (2 * index) log_length)) }
+    ensures whole { F.IsFaithful → (log : LogOf) → HasFiles log (F.seen folder.old)
+        → length log.entries ≡ kept → log_length ≤ kept → IfErr result (IsNoFault ⊥) }
+    ensures seen { F.IsFaithful → F.seen folder.new ≡ F.seen folder.old }
+    ensures crash { F.IsFaithful → Within (F.may_leave folder.old) (F.may_leave folder.new) }
+    ensures cause { HasCauseOf (LogError.Folder FolderError.Failed) F.IsFaithful
+        (F.faults folder.old) (F.faults folder.new) result }
+{
+    let named = tiles_for_inclusion(alloc, index, log_length)?;
+    fetch(alloc, folder, tiles, named.as_slice(), kept)?;
+    fetch_leaf(alloc, folder, tiles, index, kept)
 }
 
 /// The consistency path from an old length to a new one, once it leads to the checkpoint's root.
@@ -211,6 +253,8 @@ pub(crate) fn growth<F: Folder>(
         → IfErr result (IsNoFault ((checkpoint.now.length < new) ⊎ (old ≡ 0) ⊎ (new < old))) }
     ensures seen { F.IsFaithful → F.seen folder.new ≡ F.seen folder.old }
     ensures crash { F.IsFaithful → Within (F.may_leave folder.old) (F.may_leave folder.new) }
+    ensures cause { HasCauseOf (LogError.Folder FolderError.Failed) F.IsFaithful
+        (F.faults folder.old) (F.faults folder.new) result }
 {
     if new > checkpoint.length() || new > GREATEST_LENGTH {
         return Err(LogError::OutOfRange {
@@ -250,6 +294,8 @@ fn fetched_growth<F: Folder>(
         → IfErr result (IsNoFault ⊥) }
     ensures seen { F.IsFaithful → F.seen folder.new ≡ F.seen folder.old }
     ensures crash { F.IsFaithful → Within (F.may_leave folder.old) (F.may_leave folder.new) }
+    ensures cause { HasCauseOf (LogError.Folder FolderError.Failed) F.IsFaithful
+        (F.faults folder.old) (F.faults folder.new) result }
 {
     let named = tiles_for_consistency(alloc, old, new)?;
     fetch(alloc, folder, tiles, named.as_slice(), log_length)?;
@@ -260,6 +306,7 @@ fn fetched_growth<F: Folder>(
 fn made(alloc: Global, path: Result<Path, PathError>) -> Result<Path, LogError>
     ensures path { IfOk result (λ made. path ≡ Ok made) }
     ensures whole { IfErr path (λ error. error ≡ PathError.Memory) → IfErr result (IsNoFault ⊥) }
+    ensures other { IfErr result IsNoFailure }
 {
     match path {
         Ok(path) => Ok(path),
@@ -303,6 +350,8 @@ fn check_root<F: Folder>(
         → IfErr result (IsNoFault ⊥) }
     ensures seen { F.IsFaithful → F.seen folder.new ≡ F.seen folder.old }
     ensures crash { F.IsFaithful → Within (F.may_leave folder.old) (F.may_leave folder.new) }
+    ensures cause { HasCauseOf (LogError.Folder FolderError.Failed) F.IsFaithful
+        (F.faults folder.old) (F.faults folder.new) result }
 {
     let Some(root) = root else {
         return Err(LogError::no_root(alloc));
@@ -336,6 +385,8 @@ fn is_beginning<F: Folder>(
         → 0 < old.now.length → IfErr result (IsNoFault ⊥) }
     ensures seen { F.IsFaithful → F.seen folder.new ≡ F.seen folder.old }
     ensures crash { F.IsFaithful → Within (F.may_leave folder.old) (F.may_leave folder.new) }
+    ensures cause { HasCauseOf (LogError.Folder FolderError.Failed) F.IsFaithful
+        (F.faults folder.old) (F.faults folder.new) result }
 {
     let (old_length, length) = (old.length(), checkpoint.length());
     if old_length >= length || length > GREATEST_LENGTH {

@@ -1,7 +1,7 @@
 //! A folder after a crash, an error or a restart.
 
 ghost use Rattle.std.specs.Prelude.{◌≡◌, ◌⊎◌, ◌+◌, ◌<◌, ℕ, List, length, take, option_map, Some, None, Err, IfOk, OnOk};
-ghost use Rattle.warg_store.specs.Moments.{Only, LeavesOnly};
+ghost use Rattle.warg_store.specs.Moments.{Only, LeavesOnly, HasCause, HasCauseOf};
 ghost use Rattle.warg_store.specs.Names.{mark};
 ghost use Rattle.warg_store.specs.Opening.{opened, IsStaging, NothingStaged, IsBetween};
 
@@ -47,6 +47,8 @@ pub fn recover<F: Folder>(alloc: Global, folder: &mut F) -> Result<(), RecoverEr
 
     ensures too_long { F.IsFaithful → result ≡ Err RecoverError.TooLong → (text : List ℕ)
         × (F.seen folder.old mark ≡ Some text) × (MOST_TEXT < length text) }
+    ensures cause { HasCauseOf (RecoverError.Folder FolderError.Failed) F.IsFaithful
+        (F.faults folder.old) (F.faults folder.new) result }
 {
     match settled_mark(alloc, folder)? {
         Some(text) => finish_read(alloc, folder, text.as_slice()),
@@ -63,6 +65,8 @@ fn drop_staged<F: Folder>(alloc: Global, folder: &mut F) -> Result<(), RecoverEr
     ensures any_moment { F.IsFaithful → LeavesOnly F.moment F.left_since folder.old folder.new
         (IsBetween (F.seen folder.old) (opened (F.seen folder.old))) }
     ensures not_long { result ≡ Err RecoverError.TooLong → ⊥ }
+    ensures cause { HasCauseOf (RecoverError.Folder FolderError.Failed) F.IsFaithful
+        (F.faults folder.old) (F.faults folder.new) result }
 {
     remove_staged(alloc, folder)?;
     Ok(())
@@ -75,6 +79,7 @@ fn settled_mark<F: Folder>(alloc: Global, folder: &mut F) -> Result<Option<Vec<u
     ensures seen { F.IsFaithful → F.seen folder.new ≡ F.seen folder.old }
     ensures durable { F.IsFaithful → OnOk result (Only (F.seen folder.new) (F.may_leave folder.new)) }
     ensures any_moment { F.IsFaithful → LeavesOnly F.moment F.left_since folder.old folder.new (F.may_leave folder.old) }
+    ensures cause { HasCause F.IsFaithful (F.faults folder.old) (F.faults folder.new) result }
 {
     folder.sync()?;
     folder.read(alloc, MARK, MOST_TEXT)
@@ -90,6 +95,8 @@ fn finish_read<F: Folder>(alloc: Global, folder: &mut F, text: &[u8]) -> Result<
         (IsBetween (F.seen folder.old) (opened (F.seen folder.old))) }
     ensures too_long { F.IsFaithful → result ≡ Err RecoverError.TooLong → (text : List ℕ)
         × (F.seen folder.old mark ≡ Some text) × (MOST_TEXT < length text) }
+    ensures cause { HasCauseOf (RecoverError.Folder FolderError.Failed) F.IsFaithful
+        (F.faults folder.old) (F.faults folder.new) result }
 {
     if text.len() > MOST_TEXT {
         return Err(RecoverError::TooLong);

@@ -3,7 +3,7 @@
 ghost use Rattle.std.specs.Prelude.{◌≡◌, ◌⊎◌, ◌↔◌, ◌<◌, length, Err, IsTrue, OnOk};
 ghost use Rattle.warg_tiles.specs.CheckpointText.{text_of};
 ghost use Rattle.warg_store.specs.Files.{put};
-ghost use Rattle.warg_store.specs.Moments.{LeavesOnly};
+ghost use Rattle.warg_store.specs.Moments.{LeavesOnly, HasCauseOf};
 ghost use Rattle.warg_store.specs.Names.{checkpoint};
 ghost use Rattle.warg_store.specs.Log.{LogOf, IsOneOf, IsNoteOf};
 ghost use Rattle.warg_store.specs.Growing.{IsReady, Has};
@@ -70,6 +70,8 @@ impl<F: Folder + Drop> LogFolder<F> {
         ensures any_moment { F.IsFaithful → (served old next : LogOf)
             → Has F.seen F.may_leave served old next self.old
             → LeavesOnly F.moment F.left_since self.old.folder self.new.folder (IsOneOf served old old) }
+        ensures cause { HasCauseOf (SignError.Folder FolderError.Failed) F.IsFaithful
+            (F.faults self.old.folder) (F.faults self.new.folder) result }
     {
         if note.len() > MOST_TEXT {
             return Err(SignError::TooLong);

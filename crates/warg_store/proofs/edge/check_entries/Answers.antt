@@ -1,6 +1,6 @@
-use Rattle.std.proofs.Common.{◌≡◌, ◌∷◌, ◌*◌, ◌<◌, List, [], ℕ, length, map, take, drop, get_or, Bor, true, Some, sym, ap, ◌∙◌, arith}
+use Rattle.std.proofs.Common.{◌≡◌, ◌*◌, ◌<◌, List, [], ℕ, length, map, take, drop, get_or, Bor, true, Some, sym, ap, ◌∙◌, arith}
 use Rattle.std.specs.Prelude.{option_copied}
-use Rattle.std.proofs.lemmas.List.{length-map, get_or-map, get_or_default}
+use Rattle.std.proofs.lemmas.List.{get_or-map, get_or_default}
 use Rattle.std.proofs.lemmas.List.FromFn.{length-map-range_with_len}
 use Rattle.warg_crypto.specs.Digests.{sha256}
 use Rattle.warg_crypto.specs.Tree.{leaf_digest}
@@ -9,13 +9,12 @@ use Rattle.warg_tiles.specs.Tiles.{TileAt, node_in}
 use Rattle.warg_tiles.specs.TileLog.{tile_digests}
 use Rattle.warg_tiles.specs.EntryBundles.{bundle_of}
 use Rattle.warg_tiles.proofs.ForCallers.{bundle_same}
-use Rattle.warg_store.specs.Log.{bundle_bytes}
 use Rattle.warg_store.proofs.EnoughLemmas.{tile_leaf}
 use Rattle.warg_store.proofs.WholeLemmas.{got}
 use Rattle.warg_store.proofs.edge.check_entries.Goals as goal
 
-pub returns-then-not-is_leaf : goal.returns-then-not-is_leaf
-returns-then-not-is_leaf c = λ log short is same digests.
+pub returns-then-not-is_leaf-clause-whole : goal.returns-then-not-is_leaf-clause-whole
+returns-then-not-is_leaf-clause-whole c = λ log short is same digests.
     let t : TileAt = c.args.stored.now.tile in
     let place : ℕ = c.entries.place in
     let slice : List (Bor (List ℕ)) = c.as_slice-entry-items.result.now in

@@ -1,6 +1,5 @@
-use Rattle.std.proofs.Common.{◌≡◌, List, ℕ, Bor, map, length, sym, ap, ◌∙◌, arith}
+use Rattle.std.proofs.Common.{List, ℕ, Bor, map, sym, ◌∙◌, arith}
 use Rattle.std.proofs.lemmas.List.{length-map}
-use Rattle.warg_tiles.specs.EntryBundles.{bundle_of}
 use Rattle.warg_store.proofs.WholeLemmas.{bundle_count}
 use Rattle.warg_store.proofs.edge.entries_of.Goals as goal
 

@@ -4,6 +4,7 @@ use Rattle.warg_tiles.specs.TilePaths.{entries_path}
 use Rattle.warg_store.specs.Log.{bundle_bytes}
 use Rattle.warg_store.proofs.OpenLemmas.{bundle_read}
 use Rattle.warg_store.proofs.ReadLemmas.{read_none}
+use Rattle.warg_store.proofs.MomentLemmas.{begins}
 use Rattle.warg_store.proofs.edge.read_bundle.Goals as goal
 
 pub returns-in-Some-clause-read : goal.returns-in-Some-clause-read
@@ -19,3 +20,7 @@ returns-clause-whole g c = λ faithful log there.
     let gone : file ≡ None = read_none file 16777472
     (sym (ap (option_map (λ (v : Vec ℕ Global). v.items)) c.in-None.is) ∙ c.in_ok-bytes.ensures.found faithful ∙ ap (λ n. option_map (take (16777472 + 1)) (g.F.Folder.seen c.args.folder.now n)) path) in
     absurd (let both : None ≡ Some (bundle_bytes log c.args.tile.now) = sym gone ∙ there in cc)
+
+pub returns-in-Some-clause-any_moment : goal.returns-in-Some-clause-any_moment
+returns-in-Some-clause-any_moment g c = λ faithful.
+    begins _ _ _ _ _ _ (g.met.F.Folder.only_now c.args.folder.now) (c.read.ensures.time faithful) (λ e was. was) (c.read.ensures.crash faithful)

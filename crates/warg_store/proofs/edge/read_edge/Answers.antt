@@ -1,20 +1,31 @@
-use Rattle.std.proofs.Common.{◌≡◌, ℕ, ◌*◌, ◌/◌, ◌%◌, ◌^◌, ◌+◌, ◌<◌, List, [], ◌∷◌, ◌++◌, length, map, Some, Vec, sym, ap, subst, ◌∙◌, arith}
+use Rattle.std.proofs.Common.{◌≡◌, ℕ, ◌*◌, ◌/◌, ◌%◌, ◌^◌, ◌+◌, ◌<◌, ◌≤◌, refl, List, [], ◌∷◌, ◌++◌, length, map, Vec, sym, ap, subst, ◌∙◌, arith}
 use Rattle.std.proofs.lemmas.List.{map-append}
 use Rattle.std.specs.declared.alloc.Global.{Global}
 use Rattle.warg_crypto.specs.Digests.{sha256}
 use Rattle.warg_crypto.specs.declared.hash.Sha256.{Sha256}
 use Rattle.warg_log.specs.Tree.{leaves_of}
 use Rattle.warg_tiles.specs.Tiles.{TileAt}
-use Rattle.warg_tiles.specs.TilePaths.{tile_path}
 use Rattle.warg_tiles.specs.TileLog.{last_tile, tile_digests}
 use Rattle.warg_tiles.specs.declared.stored.StoredTile.{StoredTile}
-use Rattle.warg_store.specs.Log.{HasFiles, tile_bytes}
+use Rattle.warg_store.specs.Log.{HasFiles}
 use Rattle.warg_store.specs.Opening.{IsStaging}
 use Rattle.warg_store.specs.Refusals.{IsNoFault}
+use Rattle.warg_store.specs.Moments.{LeavesOnly}
+use Rattle.warg_store.proofs.MomentLemmas.{stays, then_reads}
 use Rattle.warg_store.proofs.OpenLemmas.{ArePartsTo, part_none, part_some, level_there}
 use Rattle.warg_store.proofs.WholeLemmas.{err_same}
 use Rattle.warg_store.proofs.edge.read_edge.Goals.{then-count-ne0+in_ok-read_tile+in_ok-push, else-count-ne0}
 use Rattle.warg_store.proofs.edge.read_edge.Goals as goal
+
+pub levels-init : goal.levels-init
+levels-init g c = record {
+  faults = omega arith;
+  ready = λ faithful was. was;
+  run = λ faithful. stays _ _ _ _ (g.met.F.Folder.only_now c.args.folder.now);
+  seen = λ faithful. refl;
+  edge = λ faithful log size has. subst (λ (l : List (StoredTile Sha256 Global)). ArePartsTo log 0 (map (λ (t : StoredTile Sha256 Global). (t.tile, t.digests.items)) l)) (sym c.new-edge.ensures.items)
+      (record { places = refl; digests = tt });
+}
 
 pub levels-preserved : goal.levels-preserved
 levels-preserved g c =
@@ -23,7 +34,10 @@ levels-preserved g c =
     let seen = g.F.Folder.seen in
     elim c.if-count-ne0.branch [
       | then-count-ne0+in_ok-read_tile+in_ok-push w ↦ record {
+        faults = subst (λ (f : g.row.F.Denot). g.F.Folder.faults c.args.folder.now ≤ g.F.Folder.faults f) (sym w.folder-is) (omega (arith, c.levels.invariant.faults, w.in_ok-read_tile.ensures.cause.later));
         ready = λ faithful was. subst (λ (f : g.row.F.Denot). IsStaging (seen f) (g.F.Folder.may_leave f)) (sym w.folder-is) (w.in_ok-read_tile.ensures.ready faithful (c.levels.invariant.ready faithful was));
+        run = λ faithful. subst (λ (f : g.row.F.Denot). LeavesOnly g.F.Folder.moment g.F.Folder.left_since c.args.folder.now f (g.F.Folder.may_leave c.args.folder.now)) (sym w.folder-is)
+            (then_reads _ _ _ g.met.F.Folder.counts_now _ _ _ _ (c.levels.invariant.run faithful) (w.in_ok-read_tile.ensures.any_moment faithful));
         seen = λ faithful. ap seen w.folder-is ∙ w.read_tile.ensures.seen faithful ∙ c.levels.invariant.seen faithful;
         edge = λ faithful log size has.
             let read = w.in_ok-read_tile.field-0 in
@@ -39,7 +53,9 @@ levels-preserved g c =
             (part_some log level (map with_digests c.levels.edge.items) read.digests.items some digests (c.levels.invariant.edge faithful log size has));
       }
       | else-count-ne0 w ↦ record {
+        faults = subst (λ (f : g.row.F.Denot). g.F.Folder.faults c.args.folder.now ≤ g.F.Folder.faults f) (sym w.folder-is) c.levels.invariant.faults;
         ready = λ faithful was. subst (λ (f : g.row.F.Denot). IsStaging (seen f) (g.F.Folder.may_leave f)) (sym w.folder-is) (c.levels.invariant.ready faithful was);
+        run = λ faithful. subst (λ (f : g.row.F.Denot). LeavesOnly g.F.Folder.moment g.F.Folder.left_since c.args.folder.now f (g.F.Folder.may_leave c.args.folder.now)) (sym w.folder-is) (c.levels.invariant.run faithful);
         seen = λ faithful. ap seen w.folder-is ∙ c.levels.invariant.seen faithful;
         edge = λ faithful log size has.
             let none : length log.entries / 2 ^ (8 * level) % 256 ≡ 0 = subst (λ n. n / 2 ^ (8 * level) % 256 ≡ 0) size (omega (arith, w.if-count-ne0.false)) in

@@ -1,4 +1,4 @@
-use Rattle.std.proofs.Common.{◌≡◌, ◌+◌, List, ℕ, length, take, Vec, Global, Some, None, Err, sym, ap, ◌∙◌, arith}
+use Rattle.std.proofs.Common.{◌≡◌, ◌+◌, ℕ, length, take, Vec, Global, Some, None, Err, sym, ap, ◌∙◌, arith}
 use Rattle.std.specs.Prelude.{option_map}
 use Rattle.warg_crypto.specs.Digests.{sha256}
 use Rattle.warg_log.specs.Tree.{leaves_of}
@@ -6,6 +6,7 @@ use Rattle.warg_paths.specs.Pieces.{hashes_of}
 use Rattle.warg_tiles.specs.TileLog.{tile_digests}
 use Rattle.warg_tiles.specs.TilePaths.{tile_path}
 use Rattle.warg_store.proofs.OpenLemmas.{tile_read, tile_hashed}
+use Rattle.warg_store.proofs.MomentLemmas.{begins}
 use Rattle.warg_store.proofs.edge.read_tile.Goals as goal
 
 pub returns-clause-read : goal.returns-clause-read
@@ -31,3 +32,7 @@ returns-then-len-width-clause-whole g c = λ faithful log there.
     let both : Some c.in-Ok.digests.items ≡ Some (tile_digests sha256 (leaves_of sha256 log.entries) c.args.tile) = sym (ap hashes_of (sym c.as_slice.ensures.value) ∙ c.in-Ok.ensures.ok) ∙ found.0 in
     let same : c.in-Ok.digests.items ≡ tile_digests sha256 (leaves_of sha256 log.entries) c.args.tile = cc in
     absurd (omega (arith, ap length same, found.1, c.if-len-width.true, c.len.ensures, c.width-width.ensures.value))
+
+pub returns-clause-any_moment : goal.returns-clause-any_moment
+returns-clause-any_moment g c = λ faithful.
+    begins _ _ _ _ _ _ (g.met.F.Folder.only_now c.args.folder.now) (c.read.ensures.time faithful) (λ e was. was) (c.read.ensures.crash faithful)

@@ -10,6 +10,7 @@ use Rattle.warg_store.proofs.fetched.fetch.Goals as goal
 
 pub tiles-preserved : goal.tiles-preserved
 tiles-preserved g c = record {
+  faults = omega (arith, c.tiles.invariant.faults, c.fetch_one.ensures.cause.later);
   own = λ faithful log n files count below most of own.
       let tile = c.tile-item.result in
       let named : IsTileOf n tile = subst (IsTileOf n) (sym c.tile-item.is) (all_at (IsTileOf n) c.args.tiles.now c.tiles.tile-index tile of (omega arith)) in

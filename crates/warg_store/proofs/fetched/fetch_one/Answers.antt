@@ -1,4 +1,4 @@
-use Rattle.std.proofs.Common.{◌≡◌, List, ℕ, true, ◌∷◌, [], ◌++◌, sym, ap, subst, ◌∙◌}
+use Rattle.std.proofs.Common.{List, ℕ, ◌∷◌, [], ◌++◌, sym, ap, subst, ◌∙◌}
 use Rattle.warg_tiles.specs.Tiles.{TileAt}
 use Rattle.warg_store.specs.Private.Fetched.{AreOwn, GivesMore}
 use Rattle.warg_store.proofs.FetchedLemmas.{own_more}

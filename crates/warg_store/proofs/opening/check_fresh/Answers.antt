@@ -8,13 +8,14 @@ use Rattle.warg_store.specs.Names.{checkpoint, mark}
 use Rattle.warg_store.proofs.CreateLemmas.{absent}
 use Rattle.warg_store.proofs.opening.check_fresh.Goals as goal
 
-pub returns-then-are_others : goal.returns-then-are_others
-returns-then-are_others g c =
-    let others = subst (λ (l : List (String Global)). All (λ name. (string_bytes name ≢ checkpoint) × (string_bytes name ≢ mark)) l) c.as_slice.ensures.value (c.are_others.ensures c.if-are_others.true) in
-    record {
-      fresh = λ faithful.
-          let listed : (n : List ℕ) → IsSome (g.F.Folder.seen c.list.new.self n) → Contains (map (λ name. string_bytes name) c.in_ok-names.names.items) n = λ n some. (c.in_ok-names.ensures.all faithful) n (subst (λ (f : Files). IsSome (f n)) (c.list.ensures.seen faithful) some) refl in (
-            absent (g.F.Folder.seen c.list.new.self) c.in_ok-names.names.items checkpoint listed (All-weaker (λ (x : String Global). (string_bytes x ≢ checkpoint) × (string_bytes x ≢ mark)) (λ (x : String Global). string_bytes x ≢ checkpoint) (λ x both. both.0) _ others),
-            absent (g.F.Folder.seen c.list.new.self) c.in_ok-names.names.items mark listed (All-weaker (λ (x : String Global). (string_bytes x ≢ checkpoint) × (string_bytes x ≢ mark)) (λ (x : String Global). string_bytes x ≢ mark) (λ x both. both.1) _ others),
-          );
-    }
+pub returns-then-are_others-clause-fresh : goal.returns-then-are_others-clause-fresh
+returns-then-are_others-clause-fresh g c = λ faithful.
+    let now = g.F.Folder.seen c.list.new.self in
+    let names = c.in_ok-names.names.items in
+    let Other : String Global → Type 0 = λ x. (string_bytes x ≢ checkpoint) × (string_bytes x ≢ mark) in
+    let others = subst (All Other) c.as_slice.ensures.value (c.are_others.ensures c.if-are_others.true) in
+    let listed : (n : List ℕ) → IsSome (now n) → Contains (map (λ name. string_bytes name) names) n =
+    λ n some. (c.in_ok-names.ensures.all faithful) n (subst (λ (f : Files). IsSome (f n)) (c.list.ensures.seen faithful) some) refl in (
+      absent now names checkpoint listed (All-weaker Other (λ (x : String Global). string_bytes x ≢ checkpoint) (λ x both. both.0) _ others),
+      absent now names mark listed (All-weaker Other (λ (x : String Global). string_bytes x ≢ mark) (λ x both. both.1) _ others),
+    )

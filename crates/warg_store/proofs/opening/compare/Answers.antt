@@ -1,4 +1,4 @@
-use Rattle.std.proofs.Common.{◌≡◌, ◌<◌, inl, inr, ⊎_elim, length, false, true, sym, ap, ◌∙◌, arith}
+use Rattle.std.proofs.Common.{◌≡◌, inl, inr, ⊎_elim, true, sym, ap, ◌∙◌, arith}
 use Rattle.warg_tiles.specs.CheckpointText.{Said}
 use Rattle.warg_store.specs.Log.{LogOf, said_of}
 use Rattle.warg_store.specs.Reading.{checkpoint_said}

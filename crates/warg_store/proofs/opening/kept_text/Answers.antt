@@ -1,9 +1,14 @@
-use Rattle.std.proofs.Common.{◌≡◌, ⊎_elim, Option, Some, None, sym, subst, ◌∙◌}
-use Rattle.std.proofs.lemmas.Result.{IfOk-weaker}
+use Rattle.std.proofs.Common.{◌≡◌, ◌⊎◌, inl, ⊎_elim, Option, Some, None, sym, ap, subst, ◌∙◌}
+use Rattle.std.proofs.lemmas.Result.{IfOk-weaker, on_ok_weaker}
 use Rattle.warg_tiles.specs.CheckpointText.{Said}
+use Rattle.warg_store.specs.Files.{Files}
+use Rattle.warg_store.specs.Moments.{Within}
+use Rattle.warg_store.specs.Names.{state}
+use Rattle.warg_store.specs.Opening.{IsTakenOver}
 use Rattle.warg_store.specs.Log.{LogOf, Serves, Keeps, HasLog, said_of}
 use Rattle.warg_store.specs.Refusals.{IsNoFault}
 use Rattle.warg_store.proofs.WholeLemmas.{err_same}
+use Rattle.warg_store.proofs.MomentLemmas.{begins, then, then_reads, read_twice, weaker}
 use Rattle.warg_store.proofs.OpenLemmas.{kept_said}
 use Rattle.warg_store.proofs.opening.kept_text.Goals as goal
 
@@ -26,7 +31,7 @@ returns-clause-text g c = λ faithful served log has.
     let both : ◌≡◌ {A = Option Said} (Some c.in-Some.state) (Some (said_of log)) = sym c.in-Some.is ∙ c.in_ok-state.ensures.text faithful (said_of log) None (kept_said log keeps.can) keeps.state in
     let said : c.in-Some.state ≡ said_of log = cc (both) in
     (said, subst (Keeps served log) (sym same) keeps))
-    (λ without. let gone : ◌≡◌ {A = Option Said} (Some c.in-Some.state) None = sym c.in-Some.is ∙ c.in_ok-state.ensures.none faithful without.1 in absurd (cc (gone)))
+    (λ without. let gone : ◌≡◌ {A = Option Said} (Some c.in-Some.state) None = sym c.in-Some.is ∙ (c.in_ok-state.ensures.none faithful).1 without.1 in absurd (cc (gone)))
     has
 
 pub returns-in_err-state-clause-whole : goal.returns-in_err-state-clause-whole
@@ -42,5 +47,33 @@ returns-in_err-compare-clause-whole g c = λ faithful served log has.
     let both : ◌≡◌ {A = Option Said} (Some c.in-Some.state) (Some (said_of log)) = sym c.in-Some.is ∙ c.in_ok-state.ensures.text faithful (said_of log) None (kept_said log keeps.can) keeps.state in
     let said : c.in-Some.state ≡ said_of log = cc (both) in
     c.in_err-compare.ensures.whole faithful served log (subst (Keeps served log) (sym (c.read_served.ensures.seen faithful ∙ first)) keeps) said (c.in_ok-served.ensures.text faithful served (subst (Serves served) (sym first) keeps.serves)))
-    (λ without. let gone : ◌≡◌ {A = Option Said} (Some c.in-Some.state) None = sym c.in-Some.is ∙ c.in_ok-state.ensures.none faithful without.1 in absurd (cc (gone)))
+    (λ without. let gone : ◌≡◌ {A = Option Said} (Some c.in-Some.state) None = sym c.in-Some.is ∙ (c.in_ok-state.ensures.none faithful).1 without.1 in absurd (cc (gone)))
     has)
+
+pub returns-clause-any_moment : goal.returns-clause-any_moment
+returns-clause-any_moment g c = λ faithful only.
+    let moment = g.F.Folder.moment in
+    let since = g.F.Folder.left_since in
+    let may = g.F.Folder.may_leave in
+    let Same : Files → Type 0 = λ f. f ≡ g.F.Folder.seen c.args.folder.now in
+    let first : Within (may c.args.folder.now) (may c.read_text.new.folder) = c.read_text.ensures.crash faithful in
+    let served = read_twice moment since may c.args.folder.now c.read_text.new.folder c.read_served.new.folder Same (g.met.F.Folder.only_now c.args.folder.now)
+    (c.read_text.ensures.time faithful) (c.read_served.ensures.time faithful) first (c.read_served.ensures.crash faithful) only in
+    weaker moment since c.args.folder.now c.compare.new.folder Same _
+    (then_reads moment since may g.met.F.Folder.counts_now c.args.folder.now c.read_served.new.folder c.compare.new.folder Same served.0 (c.in_ok-compare.ensures.any_moment faithful))
+    (λ f same. inl same)
+
+pub returns-in_default-clause-any_moment : goal.returns-in_default-clause-any_moment
+returns-in_default-clause-any_moment g c = λ faithful only.
+    let moment = g.F.Folder.moment in
+    let since = g.F.Folder.left_since in
+    let may = g.F.Folder.may_leave in
+    let first = g.F.Folder.seen c.args.folder.now in
+    let P : Files → Type 0 = λ f. (f ≡ first) ⊎ IsTakenOver first f in
+    let seen = c.read_text.ensures.seen faithful in
+    let left_same : (f : Files) → may c.read_text.new.folder f → f ≡ first = λ f left. only f (c.read_text.ensures.crash faithful f left) in
+    on_ok_weaker c.take_over.result
+    (λ run. then moment since c.args.folder.now c.read_text.new.folder c.take_over.new.folder (λ f. f ≡ first) _ P
+    (begins moment since may c.args.folder.now c.read_text.new.folder (λ f. f ≡ first) (g.met.F.Folder.only_now c.args.folder.now) (c.read_text.ensures.time faithful) only left_same)
+    run (λ f same. inl same) (λ f. subst (λ (s : Files). (f ≡ s) ⊎ IsTakenOver s f → P f) (sym seen) (λ p. p)))
+    (c.take_over.ensures.any_moment faithful (λ f left. left_same f left ∙ sym seen) (ap (λ (f : Files). f state) seen ∙ (c.in_ok-state.ensures.none faithful).0 c.in_default.is))

@@ -14,10 +14,13 @@ returns-in_ok-text_in-in-Some-clause-text g c = λ faithful said behind can ther
     ap (λ (s : Said). Some s) (c.in_ok-text_in-in-Some.ensures.read said found.0 can.can (c.as_slice.ensures.value ∙ found.1))
 
 pub returns-in_ok-text_in-in-Some-clause-none : goal.returns-in_ok-text_in-in-Some-clause-none
-returns-in_ok-text_in-in-Some-clause-none g c = λ faithful none.
-    let gone : ◌≡◌ {A = Option (List ℕ)} (Some c.in-Some.bytes.items) None =
-    sym (ap (option_map (λ (v : Vec ℕ Global). v.items)) c.in-Some.is) ∙ c.in_ok-bytes.ensures.found faithful ∙ ap (option_map (take (1048576 + 1))) none in
-    cc (gone)
+returns-in_ok-text_in-in-Some-clause-none g c = λ faithful. (
+  λ is. cc,
+  λ none.
+      let gone : ◌≡◌ {A = Option (List ℕ)} (Some c.in-Some.bytes.items) None =
+      sym (ap (option_map (λ (v : Vec ℕ Global). v.items)) c.in-Some.is) ∙ c.in_ok-bytes.ensures.found faithful ∙ ap (option_map (take (1048576 + 1))) none in
+      cc (gone),
+)
 
 pub returns-in-None-clause-text : goal.returns-in-None-clause-text
 returns-in-None-clause-text g c = λ faithful said behind can there.
@@ -25,7 +28,10 @@ returns-in-None-clause-text g c = λ faithful said behind can there.
     cc (gone, there)
 
 pub returns-in-None-clause-none : goal.returns-in-None-clause-none
-returns-in-None-clause-none g c = λ faithful none. refl
+returns-in-None-clause-none g c = λ faithful. (
+  λ is. read_none (g.F.Folder.seen c.args.folder.now c.args.name.now) 1048576 (sym (ap (option_map (λ (v : Vec ℕ Global). v.items)) c.in-None.is) ∙ c.in_ok-bytes.ensures.found faithful),
+  λ none. refl,
+)
 
 pub returns-in_err-text_in-in-Some-clause-whole : goal.returns-in_err-text_in-in-Some-clause-whole
 returns-in_err-text_in-in-Some-clause-whole g c = λ faithful said behind can there.

@@ -1,13 +1,14 @@
-use Rattle.std.proofs.Common.{◌≡◌, ℕ, List, length, Some, sym, ap, subst, ◌∙◌}
-use Rattle.warg_tiles.specs.CheckpointText.{Said, text_of}
+use Rattle.std.proofs.Common.{◌≡◌, ◌⊎◌, inl, inr, ⊎_elim, ℕ, List, length, Option, Some, sym, ap, subst, ◌∙◌}
+use Rattle.warg_tiles.specs.CheckpointText.{Said, text_of, text_before}
 use Rattle.warg_store.specs.Files.{Files, put}
-use Rattle.warg_store.specs.Names.{state}
+use Rattle.warg_store.specs.Names.{checkpoint, state}
 use Rattle.warg_store.specs.Log.{HasFiles, Keeps, said_of, checkpoint_of}
 use Rattle.warg_store.proofs.OpenLemmas.{kept_said, agrees_self, taken_over}
 use Rattle.warg_store.specs.Growing.{ArePartsOf}
 use Rattle.warg_store.specs.Refusals.{IsNoFault}
 use Rattle.warg_store.proofs.WholeLemmas.{err_same, same_said}
-use Rattle.warg_store.specs.Opening.{AgreesWith}
+use Rattle.warg_store.specs.Opening.{AgreesWith, CanBeServed, IsTakenOver}
+use Rattle.warg_store.proofs.MomentLemmas.{begins, goes_on, weaker, then_reads, in_end}
 use Rattle.warg_store.proofs.opening.take_over.Goals as goal
 
 pub returns-clause-text : goal.returns-clause-text
@@ -55,3 +56,26 @@ returns-clause-agrees g c = λ faithful served behind can there.
     let both : ◌≡◌ (Some c.in-Some.served) (Some served) = sym c.in-Some.is ∙ c.in_ok-served.ensures.text faithful served behind can there in
     let same : c.in-Some.served ≡ served = cc (both) in
     subst (AgreesWith c.in-Some.served) same (agrees_self c.in-Some.served)
+
+pub returns-clause-any_moment : goal.returns-clause-any_moment
+returns-clause-any_moment g c = λ faithful only none.
+    let moment = g.F.Folder.moment in
+    let since = g.F.Folder.left_since in
+    let may = g.F.Folder.may_leave in
+    let first = g.F.Folder.seen c.args.folder.now in
+    let text : List ℕ = c.as_slice-2.result.now in
+    let Same : Files → Type 0 = λ f. f ≡ first in
+    let P : Files → Type 0 = λ f. (f ≡ first) ⊎ IsTakenOver first f in
+    let says : (said : Said) (behind : Option (List ℕ)) → CanBeServed said → first checkpoint ≡ Some (text_before said behind) → text ≡ text_of said = λ said behind can there.
+    let both : Some c.in-Some.served ≡ Some said = sym c.in-Some.is ∙ c.in_ok-served.ensures.text faithful said behind can there in
+    c.as_slice-2.ensures.value ∙ c.in_ok-bytes.ensures ∙ ap text_of (let same : c.in-Some.served ≡ said = cc (both) in same) in
+    let edge = then_reads moment since may g.met.F.Folder.counts_now c.args.folder.now c.read_text.new.folder c.read_edge.new.folder Same
+    (begins moment since may c.args.folder.now c.read_text.new.folder Same (g.met.F.Folder.only_now c.args.folder.now) (c.read_text.ensures.time faithful) only (λ f left. only f (c.read_text.ensures.crash faithful f left)))
+    (c.in_ok-edge.ensures.any_moment faithful) in
+    goes_on moment since may c.args.folder.now c.read_edge.new.folder c.replace.new.self P
+    (weaker moment since c.args.folder.now c.read_edge.new.folder Same P edge (λ f same. inl same))
+    (c.replace.ensures.time faithful)
+    (λ f left.
+    let from = c.replace.ensures.crash faithful f left in
+    let was : from.0 ≡ first = in_end moment since may g.met.F.Folder.counts_now c.args.folder.now c.read_edge.new.folder Same edge from.0 from.1 in
+    ⊎_elim (λ same. inl (same ∙ was)) (λ changed. inr (record { none = none; text = text; says = says; put = changed ∙ ap (put (state, text)) was })) from.2)

@@ -1,4 +1,4 @@
-use Rattle.std.proofs.Common.{◌≡◌, ℕ, length, ap, subst, ◌∙◌}
+use Rattle.std.proofs.Common.{◌≡◌, length, ap, subst, ◌∙◌}
 use Rattle.warg_tiles.specs.CheckpointText.{Said}
 use Rattle.warg_store.specs.Moments.{LeavesOnly}
 use Rattle.warg_store.specs.Private.Steps.{IsPruning}

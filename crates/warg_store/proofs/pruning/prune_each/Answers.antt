@@ -1,10 +1,11 @@
-use Rattle.std.proofs.Common.{refl, ◌∙◌}
+use Rattle.std.proofs.Common.{refl, ◌∙◌, arith}
 use Rattle.warg_store.specs.Private.Steps.{IsPruning}
 use Rattle.warg_store.proofs.MomentLemmas.{stays, then}
 use Rattle.warg_store.proofs.pruning.prune_each.Goals as goal
 
 pub names-init : goal.names-init
 names-init g c = record {
+  faults = omega arith;
   crash = λ faithful s e all left. all e left;
   time = λ faithful s all. stays g.F.Folder.moment g.F.Folder.left_since c.args.folder.now (IsPruning c.args.kept c.args.served s) (λ e left. all e (g.met.F.Folder.only_now c.args.folder.now e left));
   staged = λ faithful n is. refl;
@@ -12,6 +13,7 @@ names-init g c = record {
 
 pub names-preserved : goal.names-preserved
 names-preserved g c = record {
+  faults = omega (arith, c.names.invariant.faults, c.prune_one.ensures.cause.later);
   crash = λ faithful s e all left. c.prune_one.ensures.crash faithful s e (λ d was. c.names.invariant.crash faithful s d all was) left;
   time = λ faithful s all.
       let P = IsPruning c.args.kept c.args.served s in

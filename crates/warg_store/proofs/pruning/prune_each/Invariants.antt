@@ -1,4 +1,4 @@
-use Rattle.std.proofs.Common.{◌≡◌, ℕ, List, true}
+use Rattle.std.proofs.Common.{◌≡◌, ◌≤◌, ℕ, List, true}
 use Rattle.warg_store.specs.Files.{Files}
 use Rattle.warg_store.specs.Moments.{LeavesOnly}
 use Rattle.warg_store.specs.Names.{is_staged}
@@ -7,6 +7,7 @@ use Rattle.warg_store.proofs.pruning.prune_each.Given as goal
 
 abbrev pub invariant-names : goal.invariant-names
 invariant-names g l = record {
+  faults : g.F.Folder.faults l.fn.folder ≤ g.F.Folder.faults l.folder;
   crash : g.F.Folder.IsFaithful → (s c : Files) → ((d : Files) → g.F.Folder.may_leave l.fn.folder d → IsPruning l.kept l.served s d) → g.F.Folder.may_leave l.folder c → IsPruning l.kept l.served s c;
   time : g.F.Folder.IsFaithful → (s : Files) → ((d : Files) → g.F.Folder.may_leave l.fn.folder d → IsPruning l.kept l.served s d)
       → LeavesOnly g.F.Folder.moment g.F.Folder.left_since l.fn.folder l.folder (IsPruning l.kept l.served s);

@@ -1,8 +1,7 @@
-use Rattle.std.proofs.Common.{◌≡◌, ◌<◌, List, ℕ, true, length, Some, sym, ap, subst, ◌∙◌, arith}
+use Rattle.std.proofs.Common.{◌≡◌, ◌<◌, true, length, sym, ap, subst, ◌∙◌, arith}
 use Rattle.warg_crypto.specs.Digests.{sha256}
 use Rattle.warg_crypto.specs.Tree.{leaf_digest}
 use Rattle.warg_log.specs.Claims.{RootAndLength}
-use Rattle.warg_log.specs.Tree.{root_of, leaves_of}
 use Rattle.warg_store.specs.Log.{HasFiles}
 use Rattle.warg_store.proofs.EnoughLemmas.{entry_leaf, inclusion_leads, whole_root}
 use Rattle.warg_store.proofs.reading.entry.Goals as goal

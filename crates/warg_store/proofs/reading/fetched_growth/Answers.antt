@@ -1,9 +1,9 @@
-use Rattle.std.proofs.Common.{◌≡◌, ◌⊎◌, ⊎_elim, ◌<◌, ◌≤◌, ℕ, List, true, None, Some, sym, subst, arith}
+use Rattle.std.proofs.Common.{◌≡◌, ⊎_elim, ◌<◌, ◌≤◌, List, true, Some, sym, subst, arith}
 use Rattle.std.specs.List.{AllByRecursion}
 use Rattle.std.proofs.lemmas.Result.{IfOk-weaker, IfOk-at_ok}
 use Rattle.warg_crypto.specs.Digests.{sha256}
 use Rattle.warg_log.specs.Cut.{old_over}
-use Rattle.warg_log.specs.Walks.{IsKnown, needed_between}
+use Rattle.warg_log.specs.Walks.{needed_between}
 use Rattle.warg_paths.specs.Paths.{consistency_of}
 use Rattle.warg_paths.proofs.ForCallers.{consistency_known}
 use Rattle.warg_tiles.specs.Tiles.{TileAt}
@@ -11,7 +11,6 @@ use Rattle.warg_tiles.specs.Between.{IsTileOf}
 use Rattle.warg_tiles.specs.Fetching.{gives}
 use Rattle.warg_tiles.specs.TileData.{digest_by}
 use Rattle.warg_tiles.proofs.ForCallers.{given_known}
-use Rattle.warg_store.specs.Private.Fetched.{AreOwn}
 use Rattle.warg_store.specs.Refusals.{IsNoFault}
 use Rattle.warg_store.proofs.EnoughLemmas.{gives_all, on_any, path_memory, some_none}
 use Rattle.warg_store.proofs.FetchedLemmas.{own_consistency}

@@ -1,7 +1,5 @@
-use Rattle.std.proofs.Common.{◌≡◌, ◌≤◌, ◌<◌, ℕ, length, sym, ap, ◌∙◌, arith}
-use Rattle.warg_crypto.specs.Digests.{sha256}
+use Rattle.std.proofs.Common.{◌≡◌, length, sym, ap, ◌∙◌, arith}
 use Rattle.warg_log.specs.Claims.{RootAndLength}
-use Rattle.warg_log.specs.Tree.{root_of, leaves_of}
 use Rattle.warg_store.proofs.EnoughLemmas.{consistency_leads, whole_root}
 use Rattle.warg_store.proofs.reading.is_beginning.Goals as goal
 

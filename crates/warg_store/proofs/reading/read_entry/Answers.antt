@@ -1,11 +1,11 @@
-use Rattle.std.proofs.Common.{◌≡◌, ◌≤◌, ◌<◌, ℕ, ◌*◌, ◌/◌, ◌%◌, ◌+◌, ◌-◌, List, map, length, Some, Bor, refl, sym, ap, subst, ◌∙◌, arith}
+use Rattle.std.proofs.Common.{◌≡◌, ℕ, ◌%◌, List, map, length, Some, Bor, refl, sym, ap, ◌∙◌}
 use Rattle.std.specs.Prelude.{option_map}
 use Rattle.std.specs.List.{slice_get}
 use Rattle.std.proofs.lemmas.List.{length-map}
 use Rattle.std.proofs.lemmas.Option.{slice_get-map, slice_get_read}
 use Rattle.warg_tiles.specs.Tiles.{TileAt}
 use Rattle.warg_tiles.specs.EntryBundles.{bundle_of}
-use Rattle.warg_store.specs.Log.{IsBundleIn, bundle_bytes}
+use Rattle.warg_store.specs.Log.{bundle_bytes}
 use Rattle.warg_store.proofs.FetchedLemmas.{own_entry, entry_tile}
 use Rattle.warg_store.proofs.reading.read_entry.Goals as goal
 

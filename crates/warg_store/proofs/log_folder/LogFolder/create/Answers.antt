@@ -19,7 +19,7 @@ returns-clause-has g c = λ faithful.
     let prepared : seen c.prepare.new.folder checkpoint ≡ None =
     ap (λ (f : Files). f checkpoint) (c.in_ok-prepare.ensures.opened faithful ∙ idle_opened before fresh.1) ∙ without_at before checkpoint refl ∙ fresh.0 in
     let text : c.as_slice.result.now ≡ checkpoint_of none = c.as_slice.ensures.value ∙ c.in_ok-bytes.ensures ∙ ap text_of said in
-    let named : CanBeKept none = record { origin = c.in-Ok.ensures.line; most = omega arith; short = tt; text = omega (arith, ap length (c.in_ok-bytes.ensures ∙ ap text_of said)) } in
+    let named : CanBeKept none = record { origin = c.in-Ok.ensures.line; lines = tt; most = omega arith; short = tt; text = omega (arith, ap length (c.in_ok-bytes.ensures ∙ ap text_of said)) } in
     let keeps : Keeps none none (seen c.commit.new.folder) =
     subst (Keeps none none) (sym (c.in_ok-commit.ensures.committed faithful ∙ ap (λ (b : List ℕ). committed b (seen c.prepare.new.folder)) text))
     (created c.args.origin.now named (seen c.prepare.new.folder) prepared) in
