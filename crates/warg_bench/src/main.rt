@@ -9,6 +9,7 @@ mod bench;
 mod bundles;
 mod logs;
 mod maps;
+mod pages;
 mod verdicts;
 
 use crate::bench::{Bench, Only};
@@ -43,6 +44,7 @@ fn measure(bench: &Bench<'_>) -> Result<()> {
     logs::measure(bench, ENTRIES)?;
     maps::measure(bench, 1_000)?;
     maps::measure(bench, 10_000)?;
+    pages::measure(bench, 100_000, 10_000)?;
     bundles::measure(bench)?;
     verdicts::measure(bench)
 }
@@ -61,6 +63,7 @@ fn one_part(part: &str, bench: &Bench<'_>) -> Result<()> {
         "logs" => logs::measure(bench, ENTRIES),
         "maps" => maps::measure(bench, 1_000),
         "more maps" => maps::measure(bench, 10_000),
+        "pages" => pages::measure(bench, 100_000, 10_000),
         "bundles" => bundles::measure(bench),
         "verdicts" => verdicts::measure(bench),
         _ => bail!("no part of this name"),

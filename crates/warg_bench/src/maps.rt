@@ -82,12 +82,12 @@ fn extended(bench: &Bench<'_>, keys: &[Entry], first: usize) -> Result<Keys> {
     Ok(half.extend(pairs_of(bench, second)?.into_iter())?)
 }
 
-// The bytes of a map's nodes, by the sizes of their fields and two counters each: 252 for a lone key, of which there is
+// The bytes of a map's nodes, by the sizes of their fields and two counters each: 150 for a lone key, of which there is
 // one a key, and 112 for each of the others, forks and stems.
 fn print_size(bench: &Bench<'_>, map: &Keys, count: usize) -> Result<()> {
     let (nodes, keys) = (map.node_count(), count as u128);
     let others = nodes.saturating_sub(keys).saturating_mul(112);
-    let bytes = share(others.saturating_add(keys.saturating_mul(252)), keys);
+    let bytes = share(others.saturating_add(keys.saturating_mul(150)), keys);
     let line = format!(in bench.alloc();
         "a map of {count} keys: {nodes} nodes, {bytes} bytes a key"
     )?;

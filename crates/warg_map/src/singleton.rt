@@ -18,17 +18,14 @@ struct Kept<D> {
 
 /// A lone key: a tree of any height that holds one key and nothing else.
 ///
-/// It keeps the digests of five lower trees of its own, near its top and further below. A split lowers a lone key by one
+/// It keeps the digests of two lower trees of its own, near its top and further below. A split lowers a lone key by one
 /// level in half of all cases, by two in a quarter and so on, and goes on from the highest digest that it leaves.
 pub struct Singleton<D: SupportedDigest> {
     key: Hash<D>,
     value: Hash<D>,
     height: u16,
-    fourteen_below: Kept<D>,
-    seven_below: Kept<D>,
+    twelve_below: Kept<D>,
     four_below: Kept<D>,
-    two_below: Kept<D>,
-    one_below: Kept<D>,
 }
 
 // Contracts see a lone key as its digest, its leaf digest and its height.
@@ -43,11 +40,8 @@ impl<D: SupportedDigest> Model for Singleton<D> {
     ghost use Rattle.warg_map.specs.Private.Lone.{IsKept};
 
     ghost invariant = { λ s. (s.height ≤ 256)
-        × (s.fourteen_below.height ≤ s.height) × IsKept D.digest s.key s.value s.fourteen_below
-        × (s.seven_below.height ≤ s.height) × IsKept D.digest s.key s.value s.seven_below
-        × (s.four_below.height ≤ s.height) × IsKept D.digest s.key s.value s.four_below
-        × (s.two_below.height ≤ s.height) × IsKept D.digest s.key s.value s.two_below
-        × (s.one_below.height ≤ s.height) × IsKept D.digest s.key s.value s.one_below };
+        × (s.twelve_below.height ≤ s.height) × IsKept D.digest s.key s.value s.twelve_below
+        × (s.four_below.height ≤ s.height) × IsKept D.digest s.key s.value s.four_below };
 }
 
 impl<D: SupportedDigest> Drop for Singleton<D> {
@@ -56,11 +50,8 @@ impl<D: SupportedDigest> Drop for Singleton<D> {
             key: _,
             value: _,
             height: _,
-            fourteen_below: _,
-            seven_below: _,
+            twelve_below: _,
             four_below: _,
-            two_below: _,
-            one_below: _,
         } = self;
     }
 }
@@ -105,20 +96,14 @@ impl<D: SupportedDigest> Singleton<D> {
         ensures value { result.value ≡ value }
         ensures height { result.height ≡ 256 }
     {
-        let fourteen_below = Kept::leaf(&value);
-        let seven_below = Kept::leaf(&value);
+        let twelve_below = Kept::leaf(&value);
         let four_below = Kept::leaf(&value);
-        let two_below = Kept::leaf(&value);
-        let one_below = Kept::leaf(&value);
         Singleton {
             key,
             value,
             height: 256,
-            fourteen_below,
-            seven_below,
+            twelve_below,
             four_below,
-            two_below,
-            one_below,
         }
     }
 
@@ -161,20 +146,14 @@ impl<D: SupportedDigest> Singleton<D> {
     {
         let key = &self.key;
         let leaf = Kept::leaf(&self.value);
-        let fourteen_below = self.fourteen_below.for_top(&leaf, key, height, 14);
-        let seven_below = self.seven_below.for_top(&fourteen_below, key, height, 7);
-        let four_below = self.four_below.for_top(&seven_below, key, height, 4);
-        let two_below = self.two_below.for_top(&four_below, key, height, 2);
-        let one_below = self.one_below.for_top(&two_below, key, height, 1);
+        let twelve_below = self.twelve_below.for_top(&leaf, key, height, 12);
+        let four_below = self.four_below.for_top(&twelve_below, key, height, 4);
         Singleton {
             key: key.copied(),
             value: self.value.copied(),
             height: height as u16,
-            fourteen_below,
-            seven_below,
+            twelve_below,
             four_below,
-            two_below,
-            one_below,
         }
     }
 
@@ -183,7 +162,7 @@ impl<D: SupportedDigest> Singleton<D> {
         ensures { result ≡ sparse_root D.digest self.now.height (held_alone self.now) }
     {
         let height = self.height as usize;
-        let len = height - self.one_below.height as usize;
-        stem_digest(&self.key, 256 - height, len, &self.one_below.digest)
+        let len = height - self.four_below.height as usize;
+        stem_digest(&self.key, 256 - height, len, &self.four_below.digest)
     }
 }

@@ -13,7 +13,7 @@ use Rattle.warg_map.specs.Sparse.{sparse_root, map_of, pair_bytes}
 use Rattle.warg_map.proofs.ForCallers.{all_bits, same_bits-true, same_digest}
 use Rattle.warg_witness.specs.ChangeClaims.{IsChangeMet, IsUpdate, IsUpdatePlaced}
 use Rattle.warg_witness.specs.Findings.{Finds}
-use Rattle.warg_witness.specs.MapClaims.{value_in, last_insertion, IsKeyMet, IsLastValue}
+use Rattle.warg_witness.specs.MapClaims.{value_in, IsKeyMet, IsLastValue}
 use Rattle.warg_witness.specs.MapInputs.{path_input, plain_input_at}
 use Rattle.warg_witness.specs.MapPlaced.{IsKeyPlaced, IsPlacedAtPrefix}
 use Rattle.warg_witness.specs.MapsPlaced.{Insertions, HaveOneValue, HaveSameValues, IsInserted, IsPlacedInMaps}

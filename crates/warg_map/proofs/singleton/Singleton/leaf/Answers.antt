@@ -8,9 +8,6 @@ pub invariant_of-result : goal.invariant_of-result
 invariant_of-result g c =
     let of_leaf : (k : Kept _) → k ≡ record { digest = c.args.value; height = 0 } → (k.height ≤ 256) × IsKept g.D.SupportedDigest.digest c.args.key c.args.value k = λ k e.
     rw e (omega arith, root-leaf g.D.SupportedDigest.digest c.args.value c.args.key) in
-    let fourteen = of_leaf _ c.leaf-fourteen_below.ensures in
-    let seven = of_leaf _ c.leaf-seven_below.ensures in
+    let twelve = of_leaf _ c.leaf-twelve_below.ensures in
     let four = of_leaf _ c.leaf-four_below.ensures in
-    let two = of_leaf _ c.leaf-two_below.ensures in
-    let one = of_leaf _ c.leaf-one_below.ensures in
-    (omega arith, fourteen.0, fourteen.1, seven.0, seven.1, four.0, four.1, two.0, two.1, one.0, one.1)
+    (omega arith, twelve.0, twelve.1, four.0, four.1)

@@ -8,9 +8,12 @@ invariant_of-result g c =
     let s = c.self.inside in
     let k = c.self.invariant in
     let leaf : IsKept H s.key s.value c.leaf-leaf.result = rw c.leaf-leaf.ensures (root-leaf H s.value s.key) in
-    let fourteen = c.for_top-fourteen_below.ensures.digest s.value k.2 leaf in
-    let seven = c.for_top-seven_below.ensures.digest s.value k.4 fourteen in
-    let four = c.for_top-four_below.ensures.digest s.value k.6 seven in
-    let two = c.for_top-two_below.ensures.digest s.value k.8 four in
-    let one = c.for_top-one_below.ensures.digest s.value k.10 two in
-    rw (c.copied.ensures, c.copied-2.ensures) (c.requires, c.for_top-fourteen_below.ensures.height, fourteen, c.for_top-seven_below.ensures.height, seven, c.for_top-four_below.ensures.height, four, c.for_top-two_below.ensures.height, two, c.for_top-one_below.ensures.height, one)
+    let twelve = c.for_top-twelve_below.ensures.digest s.value k.2 leaf in
+    let four = c.for_top-four_below.ensures.digest s.value k.4 twelve in
+    rw (c.copied.ensures, c.copied-2.ensures) (
+      c.requires,
+      c.for_top-twelve_below.ensures.height,
+      twelve,
+      c.for_top-four_below.ensures.height,
+      four,
+    )
