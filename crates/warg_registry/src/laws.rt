@@ -20,9 +20,9 @@ pub fn one_list()
         → entries_of xs ≡ entries_of ys → xs ≡ ys }
 {}
 
-/// The entry that a held key's index names, as `prove_by_pages` of `warg_pages` gives it over the pages of insertions, is
-/// that of an insertion under the key's digest, of a value with the leaf digest that is held. So `inserted_value` finds the
-/// value there, unless another key has the same digest.
+/// The entry that a held key's index names, as `prove_by_pages` of `warg_pages` gives it over the pages of insertions,
+/// is that of an insertion under the key's digest, of a value with the leaf digest that is held. So `inserted_value`
+/// finds the value there, unless another key has the same digest.
 pub fn held_entry()
     ensures { (H : List ℕ → List ℕ) (insertions : List (List ℕ × List ℕ)) (key leaf : List ℕ)
         (index : ℕ) → index + 1 ≡ version H insertions (key_bits H key)

@@ -1,5 +1,5 @@
-//! A registry's entries, its checkpoint's line of the map's root, and the value of a held key, against bytes and digests
-//! that Python made.
+//! A registry's entries, its checkpoint's line of the map's root, and the value of a held key, against bytes and
+//! digests that Python made.
 
 use refusing::Refusing;
 use std::alloc::Global;
