@@ -10,6 +10,7 @@ use Rattle.std.proofs.lemmas.Nat.{from_be_bytes-to_be_bytes_8, be_bytes_8}
 use Rattle.warg_crypto.specs.Framed.{framed_part, IsPart}
 use Rattle.warg_crypto.proofs.ForCallers.{framed_pairs}
 use Rattle.warg_registry.specs.Insertions.{entry_of, entries_of, IsInsertion, HasNoPart}
+use Rattle.warg_registry.specs.Registry.{said_of}
 
 -- Insertions of one entry are one.
 pub one_insertion : (a b : List ℕ × List ℕ) → IsInsertion a → IsInsertion b → entry_of a ≡ entry_of b → a ≡ b
@@ -29,6 +30,11 @@ one_list (x ∷ xs) (y ∷ ys) fx fy e =
     let first = one_insertion x y (All-head IsInsertion x xs fx) (All-head IsInsertion y ys fy) one in
     let rest = one_list xs ys (All-tail IsInsertion x xs fx) (All-tail IsInsertion y ys fy) more in
     cc
+
+-- So what a registry says is fixed by its log's entries.
+pub one_registry : (H : List ℕ → List ℕ) (origin : List ℕ) (xs ys : List (List ℕ × List ℕ))
+    → All IsInsertion xs → All IsInsertion ys → entries_of xs ≡ entries_of ys → said_of H origin xs ≡ said_of H origin ys
+one_registry H origin xs ys fx fy e = ap (said_of H origin) (one_list xs ys fx fy e)
 
 -- The length that a part's bytes begin with, and what is behind it.
 pub part_front : (bytes part more : List ℕ) → IsPart part → bytes ≡ framed_part part ++ more

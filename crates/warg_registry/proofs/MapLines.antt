@@ -41,7 +41,8 @@ root_is line digits root behind digest is =
 
 -- What was decoded is the base64 of what it gave.
 pub root_read : (line digits decoded root : List ℕ) → IsBytes line
-    → pointwise nat_eq (take 4 line) (codes "map ") ≡ true → digits ≡ drop 4 line → decode_of standard digits ≡ Ok decoded → root ≡ decoded → line ≡ line_of root
+    → pointwise nat_eq (take 4 line) (codes "map ") ≡ true
+    → digits ≡ drop 4 line → decode_of standard digits ≡ Ok decoded → root ≡ decoded → line ≡ line_of root
 root_read line digits decoded root all begins behind is same =
     let front : take 4 line ≡ codes "map " = (bytes_decides (take 4 line) (codes "map ")).0 begins in
     let bytes : IsBytes digits = λ i. rw behind (rw (get_or-drop 4 line i 0) (all (4 + i))) in

@@ -21,7 +21,8 @@ pub struct Insertion<'a> {
 }
 
 /// The entry of an insertion: the key and then the value, each behind its length, 8 bytes, the greatest first.
-/// `TooLong` exactly if the entry has more than 65,535 bytes, before allocating; else it fails only if allocation fails.
+/// `TooLong` exactly if the entry has more than 65,535 bytes, before allocating; else it fails only if allocation
+/// fails.
 pub fn write_insertion<A: Allocator>(
     alloc: A,
     key: &[u8],

@@ -5,7 +5,8 @@ use refusing::Refusing;
 use std::alloc::Global;
 use std::test::Fail;
 use warg_crypto::{Hash, Sha256};
-use warg_log::Checkpoint;
+use warg_log::{Checkpoint, LogBuilder, VecLog};
+use warg_map::Map;
 use warg_registry::{
     BadMapLine, InsertionFault, inserted_value, map_line, map_root, read_insertion, write_insertion,
 };
@@ -130,5 +131,36 @@ fn each_growth_is_refused_in_turn(rt: HostRuntime) -> Result<(), Fail> {
         let line = map_line(&memory, &root);
         assert!(rt; memory.has_refused() == line.is_err());
     }
+    Ok(())
+}
+
+const INSERTIONS: [(&str, &str); 3] = [
+    ("left-pad", "1.1.0"),
+    ("right-pad", "0.1.0"),
+    ("left-pad", "1.2.0"),
+];
+
+const TEXT: &str = "\
+example.com/registry
+3
+kio8+Z8SDs4kXTpdEWle/pNkUubWfZTwstuuzddSASU=
+map L1cqiL/p9eQodMFuiByUt4S3nWpZEIspTn8/EF9ALNs=
+";
+
+#[test]
+fn the_text_of_a_registry(rt: HostRuntime) -> Result<(), Fail> {
+    let alloc = rt.alloc();
+    let mut log: VecLog<Sha256, Vec<u8>> = VecLog::default(alloc);
+    let mut map: Map<Sha256, &'static str, &'static str> = Map::default(alloc);
+    for (key, value) in INSERTIONS {
+        log.append(&write_insertion(alloc, key.as_bytes(), value.as_bytes())?)?;
+        map = map.insert(key, value)?;
+    }
+    let mut text = CheckpointText::new(alloc, b"example.com/registry", log.checkpoint())?;
+    text.push_extension(map_line(alloc, map.root())?.as_slice())?;
+    let bytes = text.write(alloc)?;
+    assert!(rt; bytes.as_slice() == TEXT.as_bytes());
+    let (read, _) = CheckpointText::<Sha256, Global>::read(alloc, bytes.as_slice())?;
+    assert!(rt; map_root(&read) == Ok(Some(map.root().copied())));
     Ok(())
 }
