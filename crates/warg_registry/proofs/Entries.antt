@@ -33,7 +33,8 @@ one_list (x ∷ xs) (y ∷ ys) fx fy e =
 
 -- So what a registry says is fixed by its log's entries.
 pub one_registry : (H : List ℕ → List ℕ) (origin : List ℕ) (xs ys : List (List ℕ × List ℕ))
-    → All IsInsertion xs → All IsInsertion ys → entries_of xs ≡ entries_of ys → said_of H origin xs ≡ said_of H origin ys
+    → All IsInsertion xs → All IsInsertion ys
+    → entries_of xs ≡ entries_of ys → said_of H origin xs ≡ said_of H origin ys
 one_registry H origin xs ys fx fy e = ap (said_of H origin) (one_list xs ys fx fy e)
 
 -- The length that a part's bytes begin with, and what is behind it.
