@@ -10,6 +10,7 @@ use Rattle.std.proofs.lemmas.Nat.{from_be_bytes-to_be_bytes_8, be_bytes_8}
 use Rattle.warg_crypto.specs.Framed.{framed_part, IsPart}
 use Rattle.warg_crypto.proofs.ForCallers.{framed_pairs}
 use Rattle.warg_registry.specs.Insertions.{entry_of, entries_of, IsInsertion, HasNoPart}
+use Rattle.warg_registry.specs.Registry.{said_of}
 
 -- Insertions of one entry are one.
 pub one_insertion : (a b : List ℕ × List ℕ) → IsInsertion a → IsInsertion b → entry_of a ≡ entry_of b → a ≡ b
@@ -18,7 +19,8 @@ one_insertion a b fa fb e =
     ap (λ k. (k, a.1)) same.0 ∙ ap (λ v. (b.0, v)) same.1
 
 -- And so are lists of insertions of the same entries.
-pub one_list : (xs ys : List (List ℕ × List ℕ)) → All IsInsertion xs → All IsInsertion ys → entries_of xs ≡ entries_of ys → xs ≡ ys
+pub one_list : (xs ys : List (List ℕ × List ℕ)) → All IsInsertion xs → All IsInsertion ys
+    → entries_of xs ≡ entries_of ys → xs ≡ ys
 one_list [] [] fx fy e = refl
 one_list [] (y ∷ ys) fx fy e = cc
 one_list (x ∷ xs) [] fx fy e = cc
@@ -28,6 +30,12 @@ one_list (x ∷ xs) (y ∷ ys) fx fy e =
     let first = one_insertion x y (All-head IsInsertion x xs fx) (All-head IsInsertion y ys fy) one in
     let rest = one_list xs ys (All-tail IsInsertion x xs fx) (All-tail IsInsertion y ys fy) more in
     cc
+
+-- So what a registry says is fixed by its log's entries.
+pub one_registry : (H : List ℕ → List ℕ) (origin : List ℕ) (xs ys : List (List ℕ × List ℕ))
+    → All IsInsertion xs → All IsInsertion ys
+    → entries_of xs ≡ entries_of ys → said_of H origin xs ≡ said_of H origin ys
+one_registry H origin xs ys fx fy e = ap (said_of H origin) (one_list xs ys fx fy e)
 
 -- The length that a part's bytes begin with, and what is behind it.
 pub part_front : (bytes part more : List ℕ) → IsPart part → bytes ≡ framed_part part ++ more
@@ -58,8 +66,9 @@ part_read bytes part more small long is rest =
       | inl low ↦ rw (get_or-take 8 bytes i 0 low) (small i)
       | inr out ↦ rw (get_or_past (take 8 bytes) i 0 (omega arith)) (omega arith)
     ] in
-    let front : to_be_bytes w64 (length part) ≡ take 8 bytes = be_bytes_8 (take 8 bytes) (length part) eight bytes_only is in
-    sym (take-append-drop 8 bytes) ∙ ap (λ b. b ++ drop 8 bytes) (sym front) ∙ ap (λ b. to_be_bytes w64 (length part) ++ b) rest
+    let count = to_be_bytes w64 (length part) in
+    let front : count ≡ take 8 bytes = be_bytes_8 (take 8 bytes) (length part) eight bytes_only is in
+    sym (take-append-drop 8 bytes) ∙ ap (λ b. b ++ drop 8 bytes) (sym front) ∙ ap (λ b. count ++ b) rest
 
 -- Parts that begin the same bytes are one, and so is what is behind them.
 same_front : (xs ys us vs : List ℕ) → length xs ≡ length us → xs ++ ys ≡ us ++ vs → (xs ≡ us) × (ys ≡ vs)
@@ -94,20 +103,27 @@ no_more bytes key value rest more fk fv first second some e fine is =
     some (one_part value e.1 more [] fv fine.1 (sym second ∙ behind)).1
 
 -- What stands behind the value stands behind the entry.
-pub behind_entry : (bytes key value rest more : List ℕ) → bytes ≡ framed_part key ++ rest → rest ≡ framed_part value ++ more
+pub behind_entry : (bytes key value rest more : List ℕ)
+    → bytes ≡ framed_part key ++ rest → rest ≡ framed_part value ++ more
     → bytes ≡ entry_of (key, value) ++ more
 behind_entry bytes key value rest more first second =
-    first ∙ ap (λ b. framed_part key ++ b) second
-    ∙ sym (append_assoc (framed_part key) (framed_part value ++ []) more ∙ ap (λ b. framed_part key ++ b) (append_assoc (framed_part value) [] more))
+    let K = framed_part key in
+    let V = framed_part value in
+    let join = append_assoc K (V ++ []) more ∙ ap (λ b. K ++ b) (append_assoc V [] more) in
+    first ∙ ap (λ b. K ++ b) second ∙ sym join
 
 -- Bytes are the entry of one key and one value.
-pub one_entry : (bytes : List ℕ) (a e : List ℕ × List ℕ) → IsInsertion a → IsInsertion e → bytes ≡ entry_of a → bytes ≡ entry_of e
-    → (a.0 ≡ e.0) × (a.1 ≡ e.1)
-one_entry bytes a e fa fe is other = let same = one_insertion a e fa fe (sym is ∙ other) in (ap (λ x. x.0) same, ap (λ x. x.1) same)
+pub one_entry : (bytes : List ℕ) (a e : List ℕ × List ℕ) → IsInsertion a → IsInsertion e
+    → bytes ≡ entry_of a → bytes ≡ entry_of e → (a.0 ≡ e.0) × (a.1 ≡ e.1)
+one_entry bytes a e fa fe is other =
+    let same = one_insertion a e fa fe (sym is ∙ other) in
+    (ap (λ x. x.0) same, ap (λ x. x.1) same)
 
 -- What `!=` says of bytes, and of hashes.
 pub other_bytes : (a b : List ℕ) (r : Bool) → r ≡ not (pointwise nat_eq a b) → r ≡ true → a ≢ b
-other_bytes a b r is t same = let both : not (pointwise nat_eq a b) ≡ false = rw ((bytes_decides a b).1 same) refl in cc
+other_bytes a b r is t same =
+    let both : not (pointwise nat_eq a b) ≡ false = rw ((bytes_decides a b).1 same) refl in cc
 
 pub other_hashes : (a b : List ℕ) (r : Bool) → r ≡ not (pointwise nat_eq a b && true) → r ≡ true → a ≢ b
-other_hashes a b r is t same = let both : not (pointwise nat_eq a b && true) ≡ false = rw ((bytes_decides a b).1 same) refl in cc
+other_hashes a b r is t same =
+    let both : not (pointwise nat_eq a b && true) ≡ false = rw ((bytes_decides a b).1 same) refl in cc

@@ -27,7 +27,8 @@ begins_all (false ∷ p) (false ∷ q) e = begins_all p q (omega (arith, e))
 -- No element passes a test, or the last one that does stands at its place.
 lasts : {X : Type 0} (p q : X → Bool) → ((x : X) → p x ≡ q x) → (xs : List X)
     → ((last_place p xs ≡ 0) × (last_with q xs ≡ None))
-    ⊎ ((i : ℕ) × (x : X) × (last_place p xs ≡ suc i) × (last_with q xs ≡ Some x) × (slice_get xs i ≡ Some x) × (q x ≡ true))
+    ⊎ ((i : ℕ) × (x : X) × (last_place p xs ≡ suc i) × (last_with q xs ≡ Some x) × (slice_get xs i ≡ Some x)
+    × (q x ≡ true))
 unfolding last_place last_with
 lasts p q same [] = inl (refl, refl)
 lasts p q same (x ∷ xs) = elim (lasts p q same xs) [
@@ -40,14 +41,19 @@ lasts p q same (x ∷ xs) = elim (lasts p q same xs) [
 
 pub held_entry : (H : List ℕ → List ℕ) (insertions : List (List ℕ × List ℕ)) (key leaf : List ℕ) (index : ℕ)
     → index + 1 ≡ version H insertions (key_bits H key) → get (map_of H insertions) (key_bits H key) ≡ Some leaf
-    → (e : List ℕ × List ℕ) × (slice_get (entries_of insertions) index ≡ Some (entry_of e)) × (key_bits H e.0 ≡ key_bits H key) × (leaf_digest H e.1 ≡ leaf)
+    → (e : List ℕ × List ℕ) × (slice_get (entries_of insertions) index ≡ Some (entry_of e))
+    × (key_bits H e.0 ≡ key_bits H key) × (leaf_digest H e.1 ≡ leaf)
 held_entry H insertions key leaf index at held =
-    let same = λ (e : List ℕ × List ℕ). begins_all (key_bits H key) (key_bits H e.0) (all_bits H key ∙ sym (all_bits H e.0)) in
-    elim (lasts (is_below H (key_bits H key)) (λ e. same_bits (key_bits H key) (key_bits H e.0)) same insertions) [
+    let bits = key_bits H key in
+    let same = λ (e : List ℕ × List ℕ). begins_all bits (key_bits H e.0) (all_bits H key ∙ sym (all_bits H e.0)) in
+    elim (lasts (is_below H bits) (λ e. same_bits bits (key_bits H e.0)) same insertions) [
       | inl h ↦ absurd (omega (arith, at, h.0))
       | inr h ↦
           let place : index ≡ h.0 = omega (arith, at, h.2) in
-          let there : slice_get (entries_of insertions) index ≡ Some (entry_of h.1) = rw place (slice_get-map entry_of insertions h.0 ∙ ap (option_map entry_of) h.4) in
-          let leaves : Some (leaf_digest H h.1.1) ≡ Some leaf = ap (option_map (λ e. leaf_digest H e.1)) (sym h.3) ∙ sym (last_held H (key_bits H key) insertions) ∙ held in
-          (h.1, there, sym (same_bits-true (key_bits H key) (key_bits H h.1.0) h.5), cc)
+          let there : slice_get (entries_of insertions) index ≡ Some (entry_of h.1) =
+          rw place (slice_get-map entry_of insertions h.0 ∙ ap (option_map entry_of) h.4) in
+          let last : Some (leaf_digest H h.1.1) ≡ get (map_of H insertions) bits =
+          ap (option_map (λ e. leaf_digest H e.1)) (sym h.3) ∙ sym (last_held H bits insertions) in
+          let leaves : Some (leaf_digest H h.1.1) ≡ Some leaf = last ∙ held in
+          (h.1, there, sym (same_bits-true bits (key_bits H h.1.0) h.5), cc)
     ]

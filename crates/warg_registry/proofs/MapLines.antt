@@ -31,21 +31,29 @@ pub root_is : (line digits root : List ℕ) → digits ≡ drop 4 line → IsDig
     → (length digits ≡ 44) × (decode_of standard digits ≡ Ok root)
 root_is line digits root behind digest is =
     let same : digits ≡ encode_of standard root = behind ∙ ap (drop 4) is in
+    let symbols = encode_symbols standard.encode_table root in
     let padding : List ℕ = replicate (padding_len (length root)) 61 in
-    let all = length-append (encode_symbols standard.encode_table root) padding in (
-      omega (arith, ap length same, all, length-encode_symbols standard.encode_table root, digest.has_32, length-replicate {A = ℕ} (padding_len (length root)) 61),
+    let counts = length-encode_symbols standard.encode_table root in
+    let pads = length-replicate {A = ℕ} (padding_len (length root)) 61 in (
+      omega (arith, ap length same, length-append symbols padding, counts, digest.has_32, pads),
       ap (decode_of standard) same ∙ decode_of-encode_of standard root refl (digest_bytes root digest),
     )
 
 -- What was decoded is the base64 of what it gave.
-pub root_read : (line digits decoded root : List ℕ) → IsBytes line → pointwise nat_eq (take 4 line) (codes "map ") ≡ true
+pub root_read : (line digits decoded root : List ℕ) → IsBytes line
+    → pointwise nat_eq (take 4 line) (codes "map ") ≡ true
     → digits ≡ drop 4 line → decode_of standard digits ≡ Ok decoded → root ≡ decoded → line ≡ line_of root
 root_read line digits decoded root all begins behind is same =
     let front : take 4 line ≡ codes "map " = (bytes_decides (take 4 line) (codes "map ")).0 begins in
     let bytes : IsBytes digits = λ i. rw behind (rw (get_or-drop 4 line i 0) (all (4 + i))) in
-    let text : digits ≡ encode_of standard root = decode_of_strict standard digits decoded (refl, refl) bytes is ∙ ap (encode_of standard) (sym same) in
+    let text : digits ≡ encode_of standard root =
+    decode_of_strict standard digits decoded (refl, refl) bytes is ∙ ap (encode_of standard) (sym same) in
     sym (take-append-drop 4 line) ∙ ap (λ b. b ++ drop 4 line) front ∙ ap (λ b. codes "map " ++ b) (sym behind ∙ text)
 
 -- A digest that was decoded has 32 bytes.
-pub decoded_length : {E : Type 0} (r : Result (List ℕ) E) (root decoded : List ℕ) → r ≡ Ok root → r ≡ Ok decoded → IsDigest root → length decoded ≡ 32
-decoded_length r root decoded one two is = let e = sym one ∙ two in let same : root ≡ decoded = cc e in omega (arith, ap length same, is.has_32)
+pub decoded_length : {E : Type 0} (r : Result (List ℕ) E) (root decoded : List ℕ) → r ≡ Ok root → r ≡ Ok decoded
+    → IsDigest root → length decoded ≡ 32
+decoded_length r root decoded one two is =
+    let e = sym one ∙ two in
+    let same : root ≡ decoded = cc e in
+    omega (arith, ap length same, is.has_32)

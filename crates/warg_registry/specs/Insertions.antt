@@ -20,8 +20,9 @@ IsInsertion e = IsPart e.0 × IsPart e.1
 abbrev pub HasNoPart : List ℕ → Type 0
 HasNoPart bytes = (part more : List ℕ) → IsPart part → bytes ≢ framed_part part ++ more
 
--- What is wrong with bytes that are no insertion's entry: no key stands at their front, no value behind the key, or something behind the value.
+-- What is wrong with bytes that are no entry: no key stands at their front, no value behind it, or more behind both.
 abbrev pub IsFault : List ℕ → InsertionFault → Type 0
 IsFault bytes Key = HasNoPart bytes
 IsFault bytes Value = (key more : List ℕ) × IsPart key × (bytes ≡ framed_part key ++ more) × HasNoPart more
-IsFault bytes Longer = (e : List ℕ × List ℕ) × (more : List ℕ) × IsInsertion e × (bytes ≡ entry_of e ++ more) × (more ≢ [])
+IsFault bytes Longer =
+    (e : List ℕ × List ℕ) × (more : List ℕ) × IsInsertion e × (bytes ≡ entry_of e ++ more) × (more ≢ [])

@@ -20,8 +20,9 @@ pub struct Insertion<'a> {
     pub value: &'a [u8],
 }
 
-/// The entry of an insertion: the key and then the value, each behind its length, 8 bytes, the greatest first. `TooLong`
-/// exactly if the entry has more than 65,535 bytes, before allocating; else it fails only if allocation fails.
+/// The entry of an insertion: the key and then the value, each behind its length, 8 bytes, the greatest first.
+/// `TooLong` exactly if the entry has more than 65,535 bytes, before allocating; else it fails only if allocation
+/// fails.
 pub fn write_insertion<A: Allocator>(
     alloc: A,
     key: &[u8],
@@ -37,8 +38,8 @@ pub fn write_insertion<A: Allocator>(
     Ok(bytes_of(alloc, &Framed(&[key, value]))?)
 }
 
-/// The insertion that has these bytes as its entry. The first fault by name: `Key`, `Value`, `Longer`. What is written is
-/// read as the same, and nothing else is read as it.
+/// The insertion that has these bytes as its entry. The first fault by name: `Key`, `Value`, `Longer`. What is written
+/// is read as the same, and nothing else is read as it.
 pub fn read_insertion(entry: &[u8]) -> Result<Insertion<'_>, InsertionFault>
     ensures ok { IfOk result (λ read. IsInsertion (read.key.now, read.value.now)
         × (entry.now ≡ entry_of (read.key.now, read.value.now))) }
@@ -73,8 +74,8 @@ fn first_part(bytes: &[u8]) -> Option<(&[u8], &[u8])>
 /// The value that an entry inserts under a key, if the entry is an insertion under this very key, of a value with this
 /// leaf digest; else `None`.
 ///
-/// Where a map holds the leaf digest under the key, as `prove_by_pages` of `warg_pages` shows, this value is what it holds
-/// there, whoever gave the entry.
+/// Where a map holds the leaf digest under the key, as `prove_by_pages` of `warg_pages` shows, this value is what it
+/// holds there, whoever gave the entry.
 pub fn inserted_value<'a, D: SupportedDigest>(
     entry: &'a [u8],
     key: &[u8],

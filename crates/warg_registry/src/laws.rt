@@ -7,6 +7,7 @@ ghost use Rattle.warg_map.specs.Bits.{key_bits};
 ghost use Rattle.warg_map.specs.Sparse.{map_of};
 ghost use Rattle.warg_pages.specs.Prefixes.{version};
 ghost use Rattle.warg_registry.specs.Insertions.{entry_of, entries_of, IsInsertion};
+ghost use Rattle.warg_registry.specs.Registry.{said_of};
 
 /// Insertions of one entry are one insertion.
 pub fn one_insertion()
@@ -14,15 +15,22 @@ pub fn one_insertion()
         → a ≡ b }
 {}
 
-/// Lists of insertions with the same entries are one list, and so the log of a registry fixes its map.
+/// Lists of insertions with the same entries are one list.
 pub fn one_list()
     ensures { (xs ys : List (List ℕ × List ℕ)) → All IsInsertion xs → All IsInsertion ys
         → entries_of xs ≡ entries_of ys → xs ≡ ys }
 {}
 
-/// The entry that a held key's index names, as `prove_by_pages` of `warg_pages` gives it over the pages of insertions, is
-/// that of an insertion under the key's digest, of a value with the leaf digest that is held. So `inserted_value` finds the
-/// value there, unless another key has the same digest.
+/// The entries of its log fix what a registry says, and so the root of its map.
+pub fn one_registry()
+    ensures { (H : List ℕ → List ℕ) (origin : List ℕ) (xs ys : List (List ℕ × List ℕ))
+        → All IsInsertion xs → All IsInsertion ys → entries_of xs ≡ entries_of ys
+        → said_of H origin xs ≡ said_of H origin ys }
+{}
+
+/// The entry that a held key's index names, as `prove_by_pages` of `warg_pages` gives it over the pages of insertions,
+/// is that of an insertion under the key's digest, of a value with the leaf digest that is held. So `inserted_value`
+/// finds the value there, unless another key has the same digest.
 pub fn held_entry()
     ensures { (H : List ℕ → List ℕ) (insertions : List (List ℕ × List ℕ)) (key leaf : List ℕ)
         (index : ℕ) → index + 1 ≡ version H insertions (key_bits H key)

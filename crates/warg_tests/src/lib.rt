@@ -1,5 +1,5 @@
-//! What the vectors can't say of maps, registries, witnesses and the program: types compared and hashed, texts of faults, readers
-//! and writers that fail, calls that do not allocate, and what stands after a refusal.
+//! What the vectors can't say of maps, registries, witnesses and the program: types compared and hashed, texts of
+//! faults, readers and writers that fail, calls that do not allocate, and what stands after a refusal.
 #![tactic(auto)]
 
 #[cfg(test)]

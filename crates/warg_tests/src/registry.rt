@@ -1,11 +1,12 @@
-//! A registry's entries, its checkpoint's line of the map's root, and the value of a held key, against bytes and digests
-//! that Python made.
+//! A registry's entries, its checkpoint's line of the map's root, and the value of a held key, against bytes and
+//! digests that Python made.
 
 use refusing::Refusing;
 use std::alloc::Global;
 use std::test::Fail;
 use warg_crypto::{Hash, Sha256};
-use warg_log::Checkpoint;
+use warg_log::{Checkpoint, LogBuilder, VecLog};
+use warg_map::Map;
 use warg_registry::{
     BadMapLine, InsertionFault, inserted_value, map_line, map_root, read_insertion, write_insertion,
 };
@@ -52,6 +53,11 @@ fn other_bytes_are_no_insertion(rt: HostRuntime) {
     assert!(rt; read_insertion(&[0xff; 99]) == Err(InsertionFault::Key));
 }
 
+// The first bytes, so many, or all.
+fn first(bytes: &[u8], count: usize) -> &[u8] {
+    bytes.get(..count).unwrap_or(bytes)
+}
+
 #[test]
 fn the_longest_insertion(rt: HostRuntime) -> Result<(), Fail> {
     let bytes = [7u8; 65_520];
@@ -59,8 +65,9 @@ fn the_longest_insertion(rt: HostRuntime) -> Result<(), Fail> {
     assert!(rt; entry.len() == 65_535);
     let none = Refusing::after(rt.alloc(), 0);
     for (key, value) in [(65_501, 19), (0, 65_520), (65_520, 0), (65_520, 65_520)] {
-        let longer = write_insertion(&none, &bytes[..key], &bytes[..value]);
-        assert!(rt; longer.err() == Some(EntryError::TooLong), "{key} {value}");
+        let (key, value) = (first(&bytes, key), first(&bytes, value));
+        let longer = write_insertion(&none, key, value);
+        assert!(rt; longer.err() == Some(EntryError::TooLong));
     }
     assert!(rt; !none.has_refused());
     Ok(())
@@ -130,5 +137,36 @@ fn each_growth_is_refused_in_turn(rt: HostRuntime) -> Result<(), Fail> {
         let line = map_line(&memory, &root);
         assert!(rt; memory.has_refused() == line.is_err());
     }
+    Ok(())
+}
+
+const INSERTIONS: [(&str, &str); 3] = [
+    ("left-pad", "1.1.0"),
+    ("right-pad", "0.1.0"),
+    ("left-pad", "1.2.0"),
+];
+
+const TEXT: &str = "\
+example.com/registry
+3
+kio8+Z8SDs4kXTpdEWle/pNkUubWfZTwstuuzddSASU=
+map L1cqiL/p9eQodMFuiByUt4S3nWpZEIspTn8/EF9ALNs=
+";
+
+#[test]
+fn the_text_of_a_registry(rt: HostRuntime) -> Result<(), Fail> {
+    let alloc = rt.alloc();
+    let mut log: VecLog<Sha256, Vec<u8>> = VecLog::default(alloc);
+    let mut map: Map<Sha256, &'static str, &'static str> = Map::default(alloc);
+    for (key, value) in INSERTIONS {
+        log.append(&write_insertion(alloc, key.as_bytes(), value.as_bytes())?)?;
+        map = map.insert(key, value)?;
+    }
+    let mut text = CheckpointText::new(alloc, b"example.com/registry", log.checkpoint())?;
+    text.push_extension(map_line(alloc, map.root())?.as_slice())?;
+    let bytes = text.write(alloc)?;
+    assert!(rt; bytes.as_slice() == TEXT.as_bytes());
+    let (read, _) = CheckpointText::<Sha256, Global>::read(alloc, bytes.as_slice())?;
+    assert!(rt; map_root(&read) == Ok(Some(map.root().copied())));
     Ok(())
 }

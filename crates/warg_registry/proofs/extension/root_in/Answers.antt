@@ -14,7 +14,8 @@ returns-in_default g c = λ root digest is.
 
 pub returns-in-Ok-try_from : goal.returns-in-Ok-try_from
 returns-in-Ok-try_from g c =
-    root_read c.args.line.now c.in_ok-digits.digits.now _ c.in-Ok-try_from.root (λ i. let f = c.type_inv.line i in omega arith)
+    root_read c.args.line.now c.in_ok-digits.digits.now _ c.in-Ok-try_from.root
+    (λ i. let f = c.type_inv.line i in omega arith)
     c.in_ok-digits.ensures.cases.0 c.in_ok-digits.ensures.cases.1 c.in-Ok.ensures.ok.0 c.in-Ok-try_from.ensures.ok
 
 pub returns-in-Err : goal.returns-in-Err
