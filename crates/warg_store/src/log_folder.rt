@@ -8,12 +8,14 @@ ghost use Rattle.warg_tiles.specs.CheckpointText.{IsLine, text_of};
 ghost use Rattle.warg_tiles.specs.TileLog.{StandsFor};
 ghost use Rattle.warg_store.specs.Moments.{LeavesOnly, HasCause, HasCauseOf};
 ghost use Rattle.warg_store.specs.Opening.{IsBeside, IsStaging};
-ghost use Rattle.warg_store.specs.Growing.{IsReady, IsSameBut, Has, HasAll, IsEndOf, IsPut, ArePartsOf, with_entry};
+ghost use Rattle.warg_store.specs.Growing.{IsReady, IsSameBut, Has, HasAll, IsEndOf, IsPut, ArePartsOf, with_entry, IsFresh, with_page};
 ghost use Rattle.warg_store.specs.Log.{LogOf, CanBeKept, IsCommitting, said_of, checkpoint_of};
 
 use crate::committing::MOST_TEXT;
 use crate::device::{Folder, FolderError};
 use crate::log::{commit_log, stage_bundle, stage_tiles};
+use crate::names::page_name;
+use crate::staging::stage;
 use std::alloc::{AllocError, Global};
 use std::marker::Model;
 use thiserror::Error;
@@ -250,6 +252,31 @@ impl<F: Folder + Drop> LogFolder<F> {
         }
         self.make_room()?;
         self.add(entry)
+    }
+
+    /// Puts a page beside what was pushed: a file at this path below `map/`, which no page has that is served, kept or to be
+    /// kept. Nothing that is served changes before a commit. `Closed` exactly if a commit has failed; else it fails only if
+    /// memory is refused or the device fails, and the folder is then opened again.
+    pub fn put_page(&mut self, path: &str, bytes: &[u8]) -> Result<(), PushError>
+        requires { F.IsFaithful → IsReady F.seen F.may_leave self.old }
+        ensures page { F.IsFaithful → OnOk result ((served old next : LogOf)
+            → Has F.seen F.may_leave served old next self.old → IsFresh served old next path.now
+            → Has F.seen F.may_leave served old (with_page next (path.now, bytes.now)) self.new) }
+        ensures ready { F.IsFaithful → IsReady F.seen F.may_leave self.new }
+        ensures same { IsSameBut self.old self.new }
+        ensures closed { (result ≡ Err PushError.Closed) ↔ (self.old.is_open ≡ false) }
+        ensures any_moment { F.IsFaithful → self.old.is_open ≡ true
+            → LeavesOnly F.moment F.left_since self.old.folder self.new.folder
+            (IsBeside (F.seen self.old.folder)) }
+        ensures cause { HasCauseOf (PushError.Folder FolderError.Failed) F.IsFaithful
+            (F.faults self.old.folder) (F.faults self.new.folder) result }
+    {
+        if !self.is_open {
+            return Err(PushError::Closed);
+        }
+        let name = page_name(self.alloc, path)?;
+        stage(self.alloc, &mut self.folder, name.as_str(), bytes)?;
+        Ok(())
     }
 
     /// Keeps what was pushed, and serves it, unless the checkpoint is signed: that one is served until another is signed. All
