@@ -50,19 +50,25 @@ module _ (path bytes : List ℕ) (s : Files) where
   pages_grow served old next no_served no_old no_next are = record {
     page = λ g has. ⊎_elim
         (λ same. inr (subst (λ (f : File). (HasPage old f.0 → ⊥) × (HasPage served f.0 → ⊥)
-            × (with_file (staged (page_name f.0)) ≡ Some f.1)) same
-            (no_old, no_served, put_here (staged (page_name path), bytes) s)))
+        × (with_file (staged (page_name f.0)) ≡ Some f.1)) same
+        (no_old, no_served, put_here (staged (page_name path), bytes) s)))
         (λ rest. ⊎_elim (λ was. inl was)
-            (λ new. inr (new.0, new.1, other_staged (page_name g.0) (λ e. no_next (g.1,
-            subst (λ p. Contains next (p, g.1)) (sym (page_once path g.0 e)) rest)) ∙ new.2))
-            (are.page g rest))
+        (λ new. inr (
+          new.0,
+          new.1,
+          other_staged (page_name g.0) (λ e. no_next (
+            g.1,
+            subst (λ p. Contains next (p, g.1)) (sym (page_once path g.0 e)) rest,
+          )) ∙ new.2,
+        ))
+        (are.page g rest))
         (first_or_rest (path, bytes) g next has);
     nothing_else = λ other some. elim (one_name path other) [
       | inl here ↦ subst (λ p. (f : File) × Contains ((path, bytes) ∷ next) f × (HasPage old f.0 → ⊥)
           × (page_name f.0 ≡ page_name p)) here.1 ((path, bytes), (zero, omega arith, refl), no_old, refl)
       | inr differ ↦
           let was = are.nothing_else other (subst IsSome (other_staged (page_name other)
-              (λ e. differ.1 (page_once path other e))) some) in
+          (λ e. differ.1 (page_once path other e))) some) in
           (was.0, behind_first (path, bytes) was.0 next was.1, was.2, was.3)
     ];
   }

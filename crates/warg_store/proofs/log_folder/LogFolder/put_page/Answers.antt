@@ -5,8 +5,8 @@ use Rattle.warg_store.specs.Growing.{LogIn}
 use Rattle.warg_store.proofs.PageLemmas.{page_has}
 use Rattle.warg_store.proofs.log_folder.LogFolder.put_page.Goals as goal
 
-pub returns-clause-page : goal.returns-clause-page
-returns-clause-page g c = λ faithful served old next has fresh.
+pub returns-in_ok-stage-clause-page : goal.returns-in_ok-stage-clause-page
+returns-in_ok-stage-clause-page g c = λ faithful served old next has fresh.
     let seen = g.F.Folder.seen in
     let bytes = c.args.bytes.now in
     page_has seen g.F.Folder.may_leave served old next c.args.self.now _ c.args.path.now bytes fresh
