@@ -20,3 +20,4 @@ mod FetchedLemmas
 mod PruneLemmas
 mod WholeLemmas
 mod EnoughLemmas
+mod PageLemmas

@@ -11,14 +11,25 @@ use Rattle.warg_tiles.specs.declared.stored.StoredTile.{StoredTile}
 use Rattle.warg_tiles.specs.TileLog.{RightEdge, StandsFor, AreTilesOf, partial_tiles}
 use Rattle.warg_tiles.specs.EntryBundles.{bundle_of}
 use Rattle.warg_tiles.specs.CheckpointText.{Said}
-use Rattle.warg_store.specs.Files.{Files}
+use Rattle.warg_store.specs.Files.{File, Files}
 use Rattle.warg_store.specs.Names.{staged, is_tile}
 use Rattle.warg_store.specs.Opening.{IsStaging}
-use Rattle.warg_store.specs.Log.{LogOf, AreShort, CanBeKept, said_of, checkpoint_of, tile_bytes, bundle_bytes, Extends, Keeps, ArePagesStaged, AreStagedFor}
+use Rattle.warg_store.specs.Log.{LogOf, AreShort, CanBeKept, said_of, checkpoint_of, tile_bytes, bundle_bytes, Extends, Keeps, HasPage, ArePagesStaged, AreStagedFor}
 
 -- A log with one entry more.
 abbrev pub with_entry : LogOf → List ℕ → LogOf
 with_entry log entry = record log { entries = log.entries ++ entry ∷ [] }
+
+-- A log with one page more.
+abbrev pub with_page : LogOf → File → LogOf
+with_page log f = record log { pages = f ∷ log.pages }
+
+-- No page has this path, served, kept or to be kept, and there are entries that aren't kept yet.
+pub record IsFresh (served old next : LogOf) (path : List ℕ) : Type 0 where
+  pub more : length old.entries < length next.entries
+  pub not_served : HasPage served.pages path → ⊥
+  pub not_kept : HasPage old.pages path → ⊥
+  pub not_next : HasPage next.pages path → ⊥
 
 -- A folder's log in memory: the folder, what the text of its state says, whether the log takes pushes and commits, the
 -- right edge of all that was pushed, and the last entries, which are in no bundle yet, with their number.

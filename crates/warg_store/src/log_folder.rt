@@ -1,6 +1,6 @@
 //! A log in a folder, as whoever adds to it holds it.
 
-ghost use Rattle.std.specs.Prelude.{◌≡◌, ◌+◌, ◌<◌, ◌≤◌, ◌⊎◌, ◌↔◌, ◌++◌, length, map, true, false, Err, IfOk, IfErr, OnOk, OnErr};
+ghost use Rattle.std.specs.Prelude.{◌≡◌, ◌+◌, ◌<◌, ◌≤◌, ◌⊎◌, ◌↔◌, ◌++◌, length, map, option_map, unwrap_or, true, false, Err, IfOk, IfErr, IfSome, OnOk, OnErr};
 ghost use Rattle.std.specs.List.{AllByRecursion};
 ghost use Rattle.warg_crypto.specs.Digests.{sha256};
 ghost use Rattle.warg_log.specs.Tree.{leaves_of};
@@ -8,12 +8,14 @@ ghost use Rattle.warg_tiles.specs.CheckpointText.{IsLine, text_of};
 ghost use Rattle.warg_tiles.specs.TileLog.{StandsFor};
 ghost use Rattle.warg_store.specs.Moments.{LeavesOnly, HasCause, HasCauseOf};
 ghost use Rattle.warg_store.specs.Opening.{IsBeside, IsStaging};
-ghost use Rattle.warg_store.specs.Growing.{IsReady, IsSameBut, Has, HasAll, IsEndOf, IsPut, ArePartsOf, with_entry};
+ghost use Rattle.warg_store.specs.Growing.{IsReady, IsSameBut, Has, HasAll, IsEndOf, IsPut, ArePartsOf, with_entry, IsFresh, with_page};
 ghost use Rattle.warg_store.specs.Log.{LogOf, CanBeKept, IsCommitting, said_of, checkpoint_of};
 
 use crate::committing::MOST_TEXT;
 use crate::device::{Folder, FolderError};
 use crate::log::{commit_log, stage_bundle, stage_tiles};
+use crate::names::page_name;
+use crate::staging::stage;
 use std::alloc::{AllocError, Global};
 use std::marker::Model;
 use thiserror::Error;
@@ -252,6 +254,32 @@ impl<F: Folder + Drop> LogFolder<F> {
         self.add(entry)
     }
 
+    /// Puts a page beside what was pushed: a file at this path below `map/`, which no page has that is served, kept or to be
+    /// kept. Nothing that is served changes before a commit. `Closed` exactly if a commit has failed; else it fails only if
+    /// memory is refused or the device fails, and the folder is then opened again.
+    pub fn put_page(&mut self, path: &str, bytes: &[u8]) -> Result<(), PushError>
+        requires { F.IsFaithful → IsReady F.seen F.may_leave self.old }
+        ensures page { F.IsFaithful → OnOk result ((served old next : LogOf)
+            → Has F.seen F.may_leave served old next self.old → IsFresh served old next path.now
+            → Has F.seen F.may_leave served old (with_page next (path.now, bytes.now)) self.new) }
+        ensures ready { F.IsFaithful → IsReady F.seen F.may_leave self.new }
+        ensures same { IsSameBut self.old self.new }
+        ensures closed { (result ≡ Err PushError.Closed) ↔ (self.old.is_open ≡ false) }
+        ensures any_moment { F.IsFaithful → self.old.is_open ≡ true
+            → LeavesOnly F.moment F.left_since self.old.folder self.new.folder
+            (IsBeside (F.seen self.old.folder)) }
+        ensures cause { HasCauseOf (PushError.Folder FolderError.Failed) F.IsFaithful
+            (F.faults self.old.folder) (F.faults self.new.folder) result }
+    {
+        if self.is_open {
+            let name = page_name(self.alloc, path)?;
+            stage(self.alloc, &mut self.folder, name.as_str(), bytes)?;
+            Ok(())
+        } else {
+            Err(PushError::Closed)
+        }
+    }
+
     /// Keeps what was pushed, and serves it, unless the checkpoint is signed: that one is served until another is signed. All
     /// of it or nothing, whatever happens at whatever moment; after `Ok` a crash leaves all of it. The checkpoint's text keeps
     /// its further lines. No name of a file that isn't new changes its bytes. A commit of nothing changes nothing.
@@ -272,13 +300,55 @@ impl<F: Folder + Drop> LogFolder<F> {
         ensures cause { HasCauseOf (CommitError.Folder FolderError.Failed) F.IsFaithful
             (F.faults self.old.folder) (F.faults self.new.folder) result }
     {
+        self.commit_lines(None)
+    }
+
+    /// As [`commit`](Self::commit), with these as the further lines of the checkpoint's text.
+    pub fn commit_with(&mut self, lines: &[Vec<u8>]) -> Result<(), CommitError>
+        requires ready { F.IsFaithful → IsReady F.seen F.may_leave self.old }
+        requires lines { AllByRecursion IsLine (map (λ l. l.items) lines.now) }
+        ensures ready { F.IsFaithful → IsReady F.seen F.may_leave self.new }
+        ensures any_moment { F.IsFaithful → (served old next : LogOf)
+            → Has F.seen F.may_leave served old next self.old → next.lines
+            ≡ map (λ l. l.items) lines.now
+            → LeavesOnly F.moment F.left_since self.old.folder self.new.folder
+            (IsCommitting served old next (F.seen self.old.folder)) }
+        ensures committed { F.IsFaithful → OnOk result ((served old next : LogOf)
+            → Has F.seen F.may_leave served old next self.old → next.lines
+            ≡ map (λ l. l.items) lines.now
+            → (log : LogOf) × Has F.seen F.may_leave log next next self.new) }
+        ensures closed { (result ≡ Err CommitError.Closed) ↔ (self.old.is_open ≡ false) }
+        ensures cause { HasCauseOf (CommitError.Folder FolderError.Failed) F.IsFaithful
+            (F.faults self.old.folder) (F.faults self.new.folder) result }
+    {
+        self.commit_lines(Some(lines))
+    }
+
+    // Keeps what was pushed, with these further lines, or those of the state's text.
+    fn commit_lines(&mut self, lines: Option<&[Vec<u8>]>) -> Result<(), CommitError>
+        requires ready { F.IsFaithful → IsReady F.seen F.may_leave self.old }
+        requires lines { IfSome lines (λ ls. AllByRecursion IsLine (map (λ l. l.items) ls.now)) }
+        ensures ready { F.IsFaithful → IsReady F.seen F.may_leave self.new }
+        ensures any_moment { F.IsFaithful → (served old next : LogOf)
+            → Has F.seen F.may_leave served old next self.old → next.lines
+            ≡ unwrap_or (option_map (λ ls. map (λ l. l.items) ls.now) lines.entry) old.lines
+            → LeavesOnly F.moment F.left_since self.old.folder self.new.folder
+            (IsCommitting served old next (F.seen self.old.folder)) }
+        ensures committed { F.IsFaithful → OnOk result ((served old next : LogOf)
+            → Has F.seen F.may_leave served old next self.old → next.lines
+            ≡ unwrap_or (option_map (λ ls. map (λ l. l.items) ls.now) lines.entry) old.lines
+            → (log : LogOf) × Has F.seen F.may_leave log next next self.new) }
+        ensures closed { (result ≡ Err CommitError.Closed) ↔ (self.old.is_open ≡ false) }
+        ensures cause { HasCauseOf (CommitError.Folder FolderError.Failed) F.IsFaithful
+            (F.faults self.old.folder) (F.faults self.new.folder) result }
+    {
         if !self.is_open {
             return Err(CommitError::Closed);
         }
         if self.edge.length() == self.text.checkpoint().length() {
             return Ok(());
         }
-        let end = self.end()?;
+        let end = self.end(lines)?;
         match self.put(&end) {
             Ok(()) => {
                 self.text = end.text;
@@ -292,13 +362,15 @@ impl<F: Folder + Drop> LogFolder<F> {
     }
 
     // What the log's end has for the next commit.
-    fn end(&self) -> Result<LogEnd, CommitError>
+    fn end(&self, lines: Option<&[Vec<u8>]>) -> Result<LogEnd, CommitError>
+        requires { IfSome lines (λ ls. AllByRecursion IsLine (map (λ l. l.items) ls.now)) }
         ensures is { IfOk result (λ end. (served old next : LogOf) → Has F.seen F.may_leave served old next self.now
-            → next.lines ≡ old.lines → IsEndOf next end.text end.bytes.items end.tiles.items) }
+            → next.lines ≡ unwrap_or (option_map (λ ls. map (λ l. l.items) ls.now) lines.entry) old.lines
+            → IsEndOf next end.text end.bytes.items end.tiles.items) }
         ensures short { IfOk result (λ end. length end.bytes.items ≤ MOST_TEXT) }
         ensures refused { IfErr result (λ error. (error ≡ CommitError.Memory) ⊎ (error ≡ CommitError.TooLong)) }
     {
-        let text = self.next_text()?;
+        let text = self.next_text(self.lines_or(lines))?;
         let bytes = text.write(self.alloc)?;
         if bytes.len() > MOST_TEXT {
             return Err(CommitError::TooLong);
@@ -331,17 +403,28 @@ impl<F: Folder + Drop> LogFolder<F> {
         Ok(())
     }
 
-    // The text of the checkpoint over all that was pushed, with the further lines of the state's.
-    fn next_text(&self) -> Result<CheckpointText<Sha256>, CommitError>
+    // These lines, or where none are given the further ones of the state's text.
+    fn lines_or<'a>(&'a self, lines: Option<&'a [Vec<u8>]>) -> &'a [Vec<u8>]
+        requires { IfSome lines (λ ls. AllByRecursion IsLine (map (λ l. l.items) ls.now)) }
+        ensures these { map (λ l. l.items) result.now
+            ≡ unwrap_or (option_map (λ ls. map (λ l. l.items) ls.now) lines.entry) self.now.text.extensions }
+        ensures each { AllByRecursion IsLine (map (λ l. l.items) result.now) }
+    {
+        match lines {
+            Some(lines) => lines,
+            None => self.text.extensions(),
+        }
+    }
+
+    // The text of the checkpoint over all that was pushed, with these further lines.
+    fn next_text(&self, lines: &[Vec<u8>]) -> Result<CheckpointText<Sha256>, CommitError>
         ensures said { IfOk result (λ text. (log : LogOf) → self.now.text.origin ≡ log.origin
-            → self.now.text.extensions ≡ log.lines
+            → map (λ l. l.items) lines.now ≡ log.lines
             → StandsFor sha256 self.now.edge (leaves_of sha256 log.entries) → text ≡ said_of log) }
         ensures line { IsLine self.now.text.origin }
-        ensures lines { AllByRecursion IsLine self.now.text.extensions }
         ensures fits { self.now.edge.len ≤ GREATEST_LENGTH }
         ensures memory { IfErr result (λ error. error ≡ CommitError.Memory) }
     {
-        let lines = self.text.extensions();
         match CheckpointText::new(self.alloc, self.text.origin(), self.edge.checkpoint()) {
             Ok(text) => with_lines(text, lines),
             Err(_) => Err(CommitError::Memory),

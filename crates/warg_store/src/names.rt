@@ -1,7 +1,7 @@
 //! The names of a log's files.
 
 ghost use Rattle.std.specs.Prelude.{◌≡◌, ◌≢◌, ℕ, List, ◌++◌, true, codes, IfOk, MatchOption, string_bytes};
-ghost use Rattle.warg_store.specs.Names.{staged, is_served, is_own, is_log_file};
+ghost use Rattle.warg_store.specs.Names.{staged, page_name, is_served, is_own, is_log_file};
 
 use std::alloc::{AllocError, Global};
 
@@ -23,6 +23,15 @@ pub fn staged_name(alloc: Global, name: &str) -> Result<String, AllocError>
 {
     let mut text = String::from_str(alloc, STAGED)?;
     text.push_str(name)?;
+    Ok(text)
+}
+
+/// The name of the page with this path below `map/`. It fails only if allocation fails.
+pub fn page_name(alloc: Global, path: &str) -> Result<String, AllocError>
+    ensures { IfOk result (λ text. string_bytes text ≡ page_name path.now) }
+{
+    let mut text = String::from_str(alloc, "map/")?;
+    text.push_str(path)?;
     Ok(text)
 }
 

@@ -173,6 +173,30 @@ fn a_commit_fills_tiles_and_keeps_those_before(rt: HostRuntime) -> Result<(), Fa
 }
 
 #[test]
+fn a_page_and_a_line_are_kept(rt: HostRuntime) -> Result<(), Fail> {
+    let alloc = rt.alloc();
+    let mut log = new_log(alloc)?;
+    push_some(&mut log, 0, 3)?;
+    log.put_page("x07/3", b"page")?;
+    let line = Vec::from_slice(alloc, b"further")?;
+    log.commit_with(&[line])?;
+    let mut log = LogFolder::open(alloc, log.into_folder())?;
+    push_some(&mut log, 3, 5)?;
+    log.commit()?;
+    let mut folder = log.into_folder();
+    let page = folder.read(alloc, "map/x07/3", 9)?.ok_or("no page")?;
+    assert_eq!(rt; page.as_slice(), b"page".as_slice());
+    let text = folder
+        .read(alloc, "checkpoint", 999)?
+        .ok_or("no checkpoint")?;
+    assert!(rt; text.as_slice().ends_with(b"\nfurther\n"));
+    let mut log = LogFolder::open(alloc, folder)?;
+    assert!(rt; log.checkpoint() == checkpoint_of(alloc, 5)?);
+    assert!(rt; log.audit(&mut 0)? == log.checkpoint());
+    Ok(())
+}
+
+#[test]
 fn what_is_not_committed_is_dropped(rt: HostRuntime) -> Result<(), Fail> {
     let alloc = rt.alloc();
     let mut log = new_log(alloc)?;

@@ -4,7 +4,7 @@ use Rattle.warg_store.specs.Opening.{IsStaging}
 use Rattle.warg_store.specs.Log.{IsCommitting, said_of}
 use Rattle.warg_store.specs.Growing.{LogIn, Has}
 use Rattle.warg_store.proofs.GrowingLemmas.{idle, noted}
-use Rattle.warg_store.proofs.log_folder.LogFolder.commit.Goals as goal
+use Rattle.warg_store.proofs.log_folder.LogFolder.commit_lines.Goals as goal
 
 pub returns-then-length-clause-any_moment : goal.returns-then-length-clause-any_moment
 returns-then-length-clause-any_moment g c = λ faithful served old next has same. idle _ _ _ _ served old next c.args.self.now (g.met.F.Folder.only_now c.args.self.now.folder) has
