@@ -52,11 +52,15 @@ module _ {D : Type 0} (moment : D → ℕ) (left_since : D → ℕ → Files →
   }
 
 module _ {D : Type 0} (moment : D → ℕ) (left_since : D → ℕ → Files → Type 0) (may_leave : D → Files → Type 0)
-    (counts_now : (folder : D) (t : ℕ) (c : Files) → t ≤ moment folder → may_leave folder c → left_since folder t c) where
-  -- what a crash leaves once a run is over
-  pub in_end : (old new : D) (P : Files → Type 0) → LeavesOnly moment left_since old new P → (c : Files) → may_leave new c → P c
-  in_end old new P run c left = run.each c (counts_now new (moment old) c run.later left)
+    (counts_now : (folder : D) (t : ℕ) (c : Files) → t ≤ moment folder → may_leave folder c → left_since folder t c)
+  where
+    -- what a crash leaves once a run is over
+    pub in_end : (old new : D) (P : Files → Type 0) → LeavesOnly moment left_since old new P → (c : Files) → may_leave
+        new c → P c
+    in_end old new P run c left = run.each c (counts_now new (moment old) c run.later left)
 
-  -- a run, and calls behind it that only read
-  pub then_reads : (old mid new : D) (P : Files → Type 0) → LeavesOnly moment left_since old mid P → LeavesOnly moment left_since mid new (may_leave mid) → LeavesOnly moment left_since old new P
-  then_reads old mid new P run reads = then moment left_since old mid new P (may_leave mid) P run reads (λ c was. was) (in_end old mid P run)
+    -- a run, and calls behind it that only read
+    pub then_reads : (old mid new : D) (P : Files → Type 0) → LeavesOnly moment left_since old mid P → LeavesOnly moment
+        left_since mid new (may_leave mid) → LeavesOnly moment left_since old new P
+    then_reads old mid new P run reads = then moment left_since old mid new P (may_leave mid) P run reads (λ c was. was)
+        (in_end old mid P run)

@@ -167,7 +167,8 @@ moving_between s c text stands was = record {
     chosen (Some bytes) p some = refl
 
 -- with the state's text in its place already
-pub state_put : (s t c : Files) (text : List ℕ) → c mark ≡ Some text → t state ≡ Some text → IsBetween s t c → IsBetween s t (put (state, text) c)
+pub state_put : (s t c : Files) (text : List ℕ) → c mark ≡ Some text → t state ≡ Some text → IsBetween s t c
+    → IsBetween s t (put (state, text) c)
 state_put s t c text stands says was = record {
   stands_for = ⊎_elim (λ (e, same). inl (alike ∙ e, λ n out. here n out ∙ same n out)) (λ e. inr (alike ∙ e)) was.stands_for;
   each = λ n out. ⊎_elim (λ e. inl (here n out ∙ e)) (λ e. inr (here n out ∙ e)) (was.each n out);
@@ -225,7 +226,8 @@ removing_between s d c text done same was = record {
 }
   where
     now : (n : List ℕ) → is_staged n ≡ false → c n ≡ opened s n
-    now n isnt = was.outside n isnt ∙ sym (without_at d n isnt) ∙ sym (ap (λ (f : Files). f n) (done_opened d text done)) ∙ ap (λ (f : Files). f n) same
+    now n isnt = was.outside n isnt ∙ sym (without_at d n isnt)
+        ∙ sym (ap (λ (f : Files). f n) (done_opened d text done)) ∙ ap (λ (f : Files). f n) same
 
 -- Committing.
 
@@ -241,7 +243,12 @@ pub unmarked : (s : Files) (text n : List ℕ) → is_own n ≡ false → put (m
 unmarked s text n out = put_apart (mark, text) s n (λ e. apart (ap is_own e ∙ out))
 
 pub marked_between : (s : Files) (text : List ℕ) → IsBetween s (committed text s) (put (mark, text) s)
-marked_between s text = record { stands_for = inr refl; each = λ n out. inl (unmarked s text n out); state = inl refl; whole = inl refl }
+marked_between s text = record {
+  stands_for = inr refl;
+  each = λ n out. inl (unmarked s text n out);
+  state = inl refl;
+  whole = inl refl;
+}
 
 pub from_unmarked : (s c : Files) (text : List ℕ) → IsBetween (put (mark, text) s) (committed text s) c → IsBetween s (committed text s) c
 from_unmarked s c text was = record {
@@ -331,7 +338,8 @@ put_done s d text stands was gone =
 pub put_between : (s d c : Files) (text : List ℕ) → s mark ≡ Some text → IsMoving s d → ((n : List ℕ) → is_served n ≡ true → d (staged n) ≡ None) → IsPut text d c → IsBetween s (opened s) c
 put_between s d c text stands was gone (inl same) = subst (IsBetween s (opened s)) (sym same) (moving_between s d text stands was)
 put_between s d c text stands was gone (inr (inl same)) =
-    subst (IsBetween s (opened s)) (sym same) (state_put s (opened s) d text (was.mark ∙ stands) (ap (λ (o : Option (List ℕ)). opened_by o s state) stands) (moving_between s d text stands was))
+    subst (IsBetween s (opened s)) (sym same) (state_put s (opened s) d text (was.mark ∙ stands)
+    (ap (λ (o : Option (List ℕ)). opened_by o s state) stands) (moving_between s d text stands was))
 put_between s d c text stands was gone (inr (inr same)) =
     let done = put_done s d text stands was gone in
     let last = told text d in
@@ -360,7 +368,13 @@ pub removed_here : (d t : Files) (name : List ℕ) → t ≡ without name d → 
 removed_here d t name is = ap (λ (f : Files). f name) is ∙ without_here name d
 
 pub between_self : (s t : Files) → IsBetween s t s
-between_self s t = record { stands_for = inl (refl, λ n out. refl); each = λ n out. inl refl; state = inl refl; whole = inl refl }
+between_self s t = record {
+  stands_for = inl (refl, λ n out. refl);
+  each = λ n out. inl refl;
+  state = inl refl;
+  whole =
+      inl refl;
+}
 
 pub put_done_by : (s d b : Files) (text : List ℕ) → s mark ≡ Some text → IsMoving s d → ((n : List ℕ) → is_served n ≡ true → d (staged n) ≡ None)
     → b ≡ told text d → IsDone text b × (opened b ≡ opened s)

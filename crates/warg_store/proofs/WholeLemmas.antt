@@ -34,7 +34,8 @@ pub err_same : {X E : Type 0} (P : E → Type 0) (e : E) (r : Result X E) → Is
 err_same P e (Ok x) is holds = tt
 err_same P e (Err f) is holds = subst P (sym is) holds
 
-pub err_match : {X E : Type 0} (Q : X → Type 0) (P : E → Type 0) (e : E) (r : Result X E) → IsErrAnd r (λ f. f ≡ e) → P e → MatchResult r Q P
+pub err_match : {X E : Type 0} (Q : X → Type 0) (P : E → Type 0) (e : E) (r : Result X E) → IsErrAnd r (λ f. f ≡ e) → P
+    e → MatchResult r Q P
 err_match Q P e (Ok x) is holds = absurd is
 err_match Q P e (Err f) is holds = subst P (sym is) holds
 
@@ -133,30 +134,47 @@ pub same_said : (c : RootAndLength) (said : Said) → c.root ≡ said.root → c
 same_said c said root length = λ i. record { root = root i; length = length i }
 
 -- What stands at each moment of a commit: one of the logs is served, and the state is one's.
-pub one_serves : (served old next : LogOf) (files : Files) → IsOneOf served old next files → (log : LogOf) × Serves log files
+pub one_serves : (served old next : LogOf) (files : Files) → IsOneOf served old next files → (log : LogOf) × Serves log
+    files
 one_serves served old next files one = ⊎_elim (λ is. (served, is.serves)) (λ is. (next, is.serves)) one.read
 
-pub one_state : (served old next : LogOf) (files : Files) → IsOneOf served old next files → (log : LogOf) × HasState log files
+pub one_state : (served old next : LogOf) (files : Files) → IsOneOf served old next files → (log : LogOf) × HasState
+    log files
 one_state served old next files one = ⊎_elim (λ is. (old, is)) (λ is. (next, is)) one.state
 
 -- where no commit stands, the folder keeps one
-one_kept : (served old next : LogOf) (files : Files) → IsOneOf served old next files → files mark ≡ None → (first log : LogOf) × Keeps first log files
-one_kept served old next files one none = ⊎_elim (λ keeps. (served, old, kept served old keeps)) (λ (first, keeps). (first, next, kept first next keeps)) one.opened
+one_kept : (served old next : LogOf) (files : Files) → IsOneOf served old next files → files mark ≡ None
+    → (first log : LogOf) × Keeps first log files
+one_kept served old next files one none = ⊎_elim (λ keeps. (served, old, kept served old keeps))
+    (λ (first, keeps). (first, next, kept first next keeps)) one.opened
   where
     kept : (first log : LogOf) → Keeps first log (opened files) → Keeps first log files
     kept first log keeps = same_kept first log (opened files) files
-        (λ n is. sym (opened_idle files n none (served_not_staged n (⊎_elim (λ one. file_served log n one) (λ other. file_served first n other) is))))
+        (λ n is. sym (opened_idle files n none
+        (served_not_staged n (⊎_elim (λ one. file_served log n one) (λ other. file_served first n other) is))))
         (sym (opened_idle files checkpoint none refl)) (sym (opened_idle files state none refl)) keeps
 
 -- so the state that was read is a log's, which the folder keeps where no commit stands
-pub one_newest : (served old next : LogOf) (files now : Files) (said : Said) → now ≡ files → IsOneOf served old next files → ((log : LogOf) → HasState log files → said ≡ said_of log)
+pub one_newest : (served old next : LogOf) (files now : Files) (said : Said) → now ≡ files → IsOneOf served old next
+    files → ((log : LogOf) → HasState log files → said ≡ said_of log)
     → (first log : LogOf) × (now mark ≡ None → Keeps first log now) × (said ≡ said_of log)
 one_newest served old next files now said same one says = by_mark (files mark) refl
   where
-    by_mark : (o : Option (List ℕ)) → files mark ≡ o → (first log : LogOf) × (now mark ≡ None → Keeps first log now) × (said ≡ said_of log)
+    by_mark : (o : Option (List ℕ)) → files mark ≡ o → (first log : LogOf) × (now mark ≡ None → Keeps first log now)
+        × (said ≡ said_of log)
     by_mark None none =
-        let kept = one_kept served old next files one none in
-        (kept.0, kept.1, λ idle. subst (Keeps kept.0 kept.1) (sym same) kept.2, says kept.1 (record { can = kept.2.can; text = kept.2.state }))
+        let kept = one_kept served old next files one none in (
+          kept.0,
+          kept.1,
+          λ idle. subst (Keeps kept.0 kept.1) (sym same) kept.2,
+          says kept.1
+              (record { can = kept.2.can; text = kept.2.state }),
+        )
     by_mark (Some text) stands =
-        let is = one_state served old next files one in
-        (is.0, is.0, λ idle. absurd (let both : ◌≡◌ {A = Option (List ℕ)} (Some text) None = sym stands ∙ sym (ap (λ (f : Files). f mark) same) ∙ idle in cc), says is.0 is.1)
+        let is = one_state served old next files one in (
+          is.0,
+          is.0,
+          λ idle. absurd (let both : ◌≡◌ {A = Option (List ℕ)} (Some text) None = sym stands
+              ∙ sym (ap (λ (f : Files). f mark) same) ∙ idle in cc),
+          says is.0 is.1,
+        )

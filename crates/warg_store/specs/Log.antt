@@ -118,8 +118,8 @@ pub record HasState (log : LogOf) (files : Files) : Type 0 where
   pub can : CanBeKept log
   pub text : files state ≡ Some (checkpoint_of log)
 
--- What a commit's crash leaves: who reads the files finds the log that was served or the next one, beside the state of the old
--- one or the next one; opened they keep the old one or the next one.
+-- What a commit's crash leaves: who reads the files finds the log that was served or the next one, and the old one's
+-- state or the next one's; opened they keep the old one or the next one.
 pub record IsOneOf (served old next : LogOf) (files : Files) : Type 0 where
   pub read : IsServed served files ⊎ IsServed next files
   pub state : HasState old files ⊎ HasState next files

@@ -30,9 +30,9 @@ pub record LeavesOnly {D : Type 0} (moment : D → ℕ) (left_since : D → ℕ 
   pub before : (t : ℕ) (c : Files) → t ≤ moment old → left_since new t c → left_since old t c ⊎ P c
 
 -- What a faithful device's failure is told by comes only where it has failed since.
-pub record HasCauseOf {T E : Type 0} (failure : E) (IsFaithful : Type 0) (before now : ℕ) (result : Result T E) : Type 0 where
+pub record HasCauseOf {T E : Type 0} (told : E) (IsFaithful : Type 0) (before now : ℕ) (r : Result T E) : Type 0 where
   pub later : before ≤ now
-  pub failed : IsFaithful → IsErrOf result failure → before < now
+  pub failed : IsFaithful → IsErrOf r told → before < now
 
 -- The same of a folder's own calls, which tell it by `Failed`.
 abbrev pub HasCause : {T : Type 0} → Type 0 → ℕ → ℕ → Result T FolderError → Type 0
@@ -40,4 +40,5 @@ HasCause IsFaithful before now result = HasCauseOf Failed IsFaithful before now 
 
 -- The same where the folder is lost with the refusal: in some state of it the device had failed.
 abbrev pub HasLostCause : {F T E : Type 0} → (F → ℕ) → E → Type 0 → F → Result T E → Type 0
-HasLostCause {F = F} faults failure IsFaithful old result = IsFaithful → IsErrOf result failure → (last : F) × (faults old < faults last)
+HasLostCause {F = F} faults told IsFaithful old result =
+    IsFaithful → IsErrOf result told → (last : F) × (faults old < faults last)

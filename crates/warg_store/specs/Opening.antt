@@ -78,9 +78,9 @@ pub record IsBeside (s c : Files) : Type 0 where
 abbrev pub IsStaging : Files → (Files → Type 0) → Type 0
 IsStaging seen may_leave = (c : Files) → may_leave c → IsBeside seen c
 
--- Files between old ones and next ones, for those who open them and for those who read: opened they are the old ones, with
--- every served file as it was, or the next ones; each served file, and the state, is the old one or the next one; and the
--- checkpoint is the old one unless all of them are the next ones.
+-- Files between old ones and next ones, for those who open them and for those who read: opened they are the old ones,
+-- with every served file as it was, or the next ones; each served file, and the state, is the old one or the next one;
+-- the checkpoint is the old one unless all of them are the next ones.
 pub record IsBetween (old next c : Files) : Type 0 where
   pub stands_for : ((opened c ≡ opened old) × ((n : List ℕ) → is_own n ≡ false → c n ≡ old n)) ⊎ (opened c ≡ next)
   pub each : (n : List ℕ) → is_own n ≡ false → (c n ≡ old n) ⊎ (c n ≡ next n)
@@ -91,9 +91,11 @@ pub record IsBetween (old next c : Files) : Type 0 where
 pub record IsTakenOver (old c : Files) : Type 0 where
   pub none : old state ≡ None
   pub text : List ℕ
-  pub says : (said : Said) (behind : Option (List ℕ)) → CanBeServed said → old checkpoint ≡ Some (text_before said behind) → text ≡ text_of said
+  pub says : (said : Said) (behind : Option (List ℕ)) → CanBeServed said
+      → old checkpoint ≡ Some (text_before said behind) → text ≡ text_of said
   pub put : c ≡ put (state, text) old
 
--- What a crash leaves while a folder is opened: files between the old ones and those that they stand for, or these taken over.
+-- What a crash leaves while a folder is opened: files between the old ones and those that they stand for, or these
+-- taken over.
 abbrev pub IsOpening : Files → Files → Type 0
 IsOpening old c = IsBetween old (opened old) c ⊎ IsTakenOver (opened old) c

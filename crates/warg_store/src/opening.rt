@@ -105,8 +105,8 @@ impl<F: Folder + Drop> LogFolder<F> {
         ensures opens { F.IsFaithful → (served kept : LogOf) → HasLog served kept (opened (F.seen folder))
             → IfErr result (IsNoFault ⊥) }
 
-        // A crash, or a reader, at any moment finds what it might have found before, or each served file as it was or as the
-        // commit that stands puts it, and a folder that stands for the same.
+        // A crash, or a reader, at any moment finds what it might have found before, or each served file as it was or as
+        // the commit that stands puts it, in a folder that stands for the same, with its state put where it had none.
         ensures any_moment { F.IsFaithful → IfOk result (λ log. LeavesOnly F.moment F.left_since folder log.folder
             (λ c. F.may_leave folder c ⊎ IsOpening (F.seen folder) c)) }
 

@@ -21,8 +21,8 @@ pub fn released<F: Folder + Drop>(alloc: Global, folder: F, release: &[u8]) -> R
     Ok(log)
 }
 
-/// The release at an index, out of a folder that serves a log, as a mirror or a client has it: at a moment of a commit, that of
-/// the log that was served or of the next one.
+/// The release at an index, out of a folder that serves a log, as a mirror or a client has it: at a moment of a commit, that
+/// of the log that was served or of the next one.
 pub fn served_release<F: Folder + Drop>(
     alloc: Global,
     folder: F,

@@ -25,7 +25,8 @@ returns-in-Err-clause-whole c = λ kept says are.
     let none : tiles_fault (partial_tiles c.length.result) (map (λ (t : StoredTile Sha256 Global). t.tile) c.args.edge.now) ≡ None =
     tiles_none (partial_tiles c.length.result) (map (λ (t : StoredTile Sha256 Global). t.tile) c.args.edge.now)
     (sym (places_of (λ (t : StoredTile Sha256 Global). t.tile) (λ (t : StoredTile Sha256 Global). t.digests.items) c.args.edge.now) ∙ are.places ∙ ap partial_tiles (sym (c.length.ensures ∙ count))) in
-    c.refused_edge.ensures.memory (only_memory c.in-Err.error (λ e. cc (c.in-Err.ensures.count.0 e, none)) (λ e. cc (c.in-Err.ensures.place.0 e, none)) (λ e. cc (c.in-Err.ensures.width.0 e, none)))
+    c.refused_edge.ensures.memory (only_memory c.in-Err.error (λ e. cc (c.in-Err.ensures.count.0 e, none))
+    (λ e. cc (c.in-Err.ensures.place.0 e, none)) (λ e. cc (c.in-Err.ensures.width.0 e, none)))
 
 pub returns-then-ne-clause-whole : goal.returns-then-ne-clause-whole
 returns-then-ne-clause-whole c = λ kept says are.

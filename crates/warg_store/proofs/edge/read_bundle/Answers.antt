@@ -23,4 +23,5 @@ returns-clause-whole g c = λ faithful log there.
 
 pub returns-in-Some-clause-any_moment : goal.returns-in-Some-clause-any_moment
 returns-in-Some-clause-any_moment g c = λ faithful.
-    begins _ _ _ _ _ _ (g.met.F.Folder.only_now c.args.folder.now) (c.read.ensures.time faithful) (λ e was. was) (c.read.ensures.crash faithful)
+    begins _ _ _ _ _ _ (g.met.F.Folder.only_now c.args.folder.now) (c.read.ensures.time faithful) (λ e was. was)
+    (c.read.ensures.crash faithful)

@@ -23,7 +23,8 @@ levels-init g c = record {
   ready = λ faithful was. was;
   run = λ faithful. stays _ _ _ _ (g.met.F.Folder.only_now c.args.folder.now);
   seen = λ faithful. refl;
-  edge = λ faithful log size has. subst (λ (l : List (StoredTile Sha256 Global)). ArePartsTo log 0 (map (λ (t : StoredTile Sha256 Global). (t.tile, t.digests.items)) l)) (sym c.new-edge.ensures.items)
+  edge = λ faithful log size has. subst (λ (l : List (StoredTile Sha256 Global)). ArePartsTo log 0
+      (map (λ (t : StoredTile Sha256 Global). (t.tile, t.digests.items)) l)) (sym c.new-edge.ensures.items)
       (record { places = refl; digests = tt });
 }
 
@@ -34,10 +35,13 @@ levels-preserved g c =
     let seen = g.F.Folder.seen in
     elim c.if-count-ne0.branch [
       | then-count-ne0+in_ok-read_tile+in_ok-push w ↦ record {
-        faults = subst (λ (f : g.row.F.Denot). g.F.Folder.faults c.args.folder.now ≤ g.F.Folder.faults f) (sym w.folder-is) (omega (arith, c.levels.invariant.faults, w.in_ok-read_tile.ensures.cause.later));
+        faults = subst (λ (f : g.row.F.Denot). g.F.Folder.faults c.args.folder.now ≤ g.F.Folder.faults f)
+            (sym w.folder-is) (omega (arith, c.levels.invariant.faults, w.in_ok-read_tile.ensures.cause.later));
         ready = λ faithful was. subst (λ (f : g.row.F.Denot). IsStaging (seen f) (g.F.Folder.may_leave f)) (sym w.folder-is) (w.in_ok-read_tile.ensures.ready faithful (c.levels.invariant.ready faithful was));
-        run = λ faithful. subst (λ (f : g.row.F.Denot). LeavesOnly g.F.Folder.moment g.F.Folder.left_since c.args.folder.now f (g.F.Folder.may_leave c.args.folder.now)) (sym w.folder-is)
-            (then_reads _ _ _ g.met.F.Folder.counts_now _ _ _ _ (c.levels.invariant.run faithful) (w.in_ok-read_tile.ensures.any_moment faithful));
+        run = λ faithful. subst (λ (f : g.row.F.Denot). LeavesOnly g.F.Folder.moment g.F.Folder.left_since
+            c.args.folder.now f (g.F.Folder.may_leave c.args.folder.now)) (sym w.folder-is)
+            (then_reads _ _ _ g.met.F.Folder.counts_now _ _ _ _ (c.levels.invariant.run faithful)
+            (w.in_ok-read_tile.ensures.any_moment faithful));
         seen = λ faithful. ap seen w.folder-is ∙ w.read_tile.ensures.seen faithful ∙ c.levels.invariant.seen faithful;
         edge = λ faithful log size has.
             let read = w.in_ok-read_tile.field-0 in
@@ -53,9 +57,12 @@ levels-preserved g c =
             (part_some log level (map with_digests c.levels.edge.items) read.digests.items some digests (c.levels.invariant.edge faithful log size has));
       }
       | else-count-ne0 w ↦ record {
-        faults = subst (λ (f : g.row.F.Denot). g.F.Folder.faults c.args.folder.now ≤ g.F.Folder.faults f) (sym w.folder-is) c.levels.invariant.faults;
+        faults = subst (λ (f : g.row.F.Denot). g.F.Folder.faults c.args.folder.now ≤ g.F.Folder.faults f)
+            (sym w.folder-is) c.levels.invariant.faults;
         ready = λ faithful was. subst (λ (f : g.row.F.Denot). IsStaging (seen f) (g.F.Folder.may_leave f)) (sym w.folder-is) (c.levels.invariant.ready faithful was);
-        run = λ faithful. subst (λ (f : g.row.F.Denot). LeavesOnly g.F.Folder.moment g.F.Folder.left_since c.args.folder.now f (g.F.Folder.may_leave c.args.folder.now)) (sym w.folder-is) (c.levels.invariant.run faithful);
+        run = λ faithful. subst (λ (f : g.row.F.Denot). LeavesOnly g.F.Folder.moment g.F.Folder.left_since
+            c.args.folder.now f (g.F.Folder.may_leave c.args.folder.now)) (sym w.folder-is)
+            (c.levels.invariant.run faithful);
         seen = λ faithful. ap seen w.folder-is ∙ c.levels.invariant.seen faithful;
         edge = λ faithful log size has.
             let none : length log.entries / 2 ^ (8 * level) % 256 ≡ 0 = subst (λ n. n / 2 ^ (8 * level) % 256 ≡ 0) size (omega (arith, w.if-count-ne0.false)) in

@@ -69,10 +69,12 @@ returns-in_err-check_entries-in-Some-clause-whole g c = λ faithful log can has 
     let is = bundle_in log c.args.edge.now front.0 stored front.1 can are level in
     let bytes = c.in_ok-bytes-in-Some.ensures.read faithful log can.short (width_at_most (length log.entries) stored.tile is.exists) (has.bundle stored.tile is) in
     err_same (IsNoFault ⊥) c.in_err-check_entries-in-Some.field-0.0 c.from_residual-in_err-check_entries-in-Some.result c.from_residual-in_err-check_entries-in-Some.ensures.1
-    (c.in_err-check_entries-in-Some.ensures.whole log can.short is (c.as_slice.ensures.value ∙ bytes) (own_digests log c.args.edge.now front.0 stored front.1 can are))
+    (c.in_err-check_entries-in-Some.ensures.whole log can.short is (c.as_slice.ensures.value ∙ bytes)
+    (own_digests log c.args.edge.now front.0 stored front.1 can are))
 
 pub returns-in_default-clause-any_moment : goal.returns-in_default-clause-any_moment
 returns-in_default-clause-any_moment g c = λ faithful. stays _ _ _ _ (g.met.F.Folder.only_now c.args.folder.now)
 
 pub returns-in_ok-check_entries-in-Some-clause-any_moment : goal.returns-in_ok-check_entries-in-Some-clause-any_moment
-returns-in_ok-check_entries-in-Some-clause-any_moment g c = λ faithful. c.in_ok-bytes-in-Some.ensures.any_moment faithful
+returns-in_ok-check_entries-in-Some-clause-any_moment g c = λ faithful. c.in_ok-bytes-in-Some.ensures.any_moment
+    faithful

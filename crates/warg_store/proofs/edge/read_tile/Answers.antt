@@ -35,4 +35,5 @@ returns-then-len-width-clause-whole g c = λ faithful log there.
 
 pub returns-clause-any_moment : goal.returns-clause-any_moment
 returns-clause-any_moment g c = λ faithful.
-    begins _ _ _ _ _ _ (g.met.F.Folder.only_now c.args.folder.now) (c.read.ensures.time faithful) (λ e was. was) (c.read.ensures.crash faithful)
+    begins _ _ _ _ _ _ (g.met.F.Folder.only_now c.args.folder.now) (c.read.ensures.time faithful) (λ e was. was)
+    (c.read.ensures.crash faithful)

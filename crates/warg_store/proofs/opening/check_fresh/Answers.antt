@@ -15,7 +15,10 @@ returns-then-are_others-clause-fresh g c = λ faithful.
     let Other : String Global → Type 0 = λ x. (string_bytes x ≢ checkpoint) × (string_bytes x ≢ mark) in
     let others = subst (All Other) c.as_slice.ensures.value (c.are_others.ensures c.if-are_others.true) in
     let listed : (n : List ℕ) → IsSome (now n) → Contains (map (λ name. string_bytes name) names) n =
-    λ n some. (c.in_ok-names.ensures.all faithful) n (subst (λ (f : Files). IsSome (f n)) (c.list.ensures.seen faithful) some) refl in (
-      absent now names checkpoint listed (All-weaker Other (λ (x : String Global). string_bytes x ≢ checkpoint) (λ x both. both.0) _ others),
-      absent now names mark listed (All-weaker Other (λ (x : String Global). string_bytes x ≢ mark) (λ x both. both.1) _ others),
+    λ n some. (c.in_ok-names.ensures.all faithful) n
+    (subst (λ (f : Files). IsSome (f n)) (c.list.ensures.seen faithful) some) refl in (
+      absent now names checkpoint listed (All-weaker Other (λ (x : String Global). string_bytes x ≢ checkpoint)
+          (λ x both. both.0) _ others),
+      absent now names mark listed (All-weaker Other (λ (x : String Global). string_bytes x ≢ mark) (λ x both. both.1)
+          _ others),
     )

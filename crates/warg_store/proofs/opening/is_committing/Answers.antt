@@ -12,4 +12,5 @@ isnt_some (Some x) isnt = absurd (apart isnt)
 pub returns-clause-stands : goal.returns-clause-stands
 returns-clause-stands g c = λ faithful isnt.
     read_none (g.F.Folder.seen c.args.folder.now mark) 0
-    (sym (ap (option_map (λ (v : Vec ℕ Global). v.items)) (isnt_some c.in_ok-read.field-0 (sym c.is_some.ensures ∙ isnt))) ∙ c.in_ok-read.ensures.found faithful)
+    (sym (ap (option_map (λ (v : Vec ℕ Global). v.items))
+    (isnt_some c.in_ok-read.field-0 (sym c.is_some.ensures ∙ isnt))) ∙ c.in_ok-read.ensures.found faithful)

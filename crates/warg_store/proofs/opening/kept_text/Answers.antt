@@ -31,7 +31,8 @@ returns-clause-text g c = λ faithful served log has.
     let both : ◌≡◌ {A = Option Said} (Some c.in-Some.state) (Some (said_of log)) = sym c.in-Some.is ∙ c.in_ok-state.ensures.text faithful (said_of log) None (kept_said log keeps.can) keeps.state in
     let said : c.in-Some.state ≡ said_of log = cc (both) in
     (said, subst (Keeps served log) (sym same) keeps))
-    (λ without. let gone : ◌≡◌ {A = Option Said} (Some c.in-Some.state) None = sym c.in-Some.is ∙ (c.in_ok-state.ensures.none faithful).1 without.1 in absurd (cc (gone)))
+    (λ without. let gone : ◌≡◌ {A = Option Said} (Some c.in-Some.state) None = sym c.in-Some.is
+    ∙ (c.in_ok-state.ensures.none faithful).1 without.1 in absurd (cc (gone)))
     has
 
 pub returns-in_err-state-clause-whole : goal.returns-in_err-state-clause-whole
@@ -47,7 +48,8 @@ returns-in_err-compare-clause-whole g c = λ faithful served log has.
     let both : ◌≡◌ {A = Option Said} (Some c.in-Some.state) (Some (said_of log)) = sym c.in-Some.is ∙ c.in_ok-state.ensures.text faithful (said_of log) None (kept_said log keeps.can) keeps.state in
     let said : c.in-Some.state ≡ said_of log = cc (both) in
     c.in_err-compare.ensures.whole faithful served log (subst (Keeps served log) (sym (c.read_served.ensures.seen faithful ∙ first)) keeps) said (c.in_ok-served.ensures.text faithful served (subst (Serves served) (sym first) keeps.serves)))
-    (λ without. let gone : ◌≡◌ {A = Option Said} (Some c.in-Some.state) None = sym c.in-Some.is ∙ (c.in_ok-state.ensures.none faithful).1 without.1 in absurd (cc (gone)))
+    (λ without. let gone : ◌≡◌ {A = Option Said} (Some c.in-Some.state) None = sym c.in-Some.is
+    ∙ (c.in_ok-state.ensures.none faithful).1 without.1 in absurd (cc (gone)))
     has)
 
 pub returns-clause-any_moment : goal.returns-clause-any_moment
@@ -57,10 +59,13 @@ returns-clause-any_moment g c = λ faithful only.
     let may = g.F.Folder.may_leave in
     let Same : Files → Type 0 = λ f. f ≡ g.F.Folder.seen c.args.folder.now in
     let first : Within (may c.args.folder.now) (may c.read_text.new.folder) = c.read_text.ensures.crash faithful in
-    let served = read_twice moment since may c.args.folder.now c.read_text.new.folder c.read_served.new.folder Same (g.met.F.Folder.only_now c.args.folder.now)
-    (c.read_text.ensures.time faithful) (c.read_served.ensures.time faithful) first (c.read_served.ensures.crash faithful) only in
+    let served = read_twice moment since may c.args.folder.now c.read_text.new.folder c.read_served.new.folder Same
+    (g.met.F.Folder.only_now c.args.folder.now)
+    (c.read_text.ensures.time faithful) (c.read_served.ensures.time faithful) first
+    (c.read_served.ensures.crash faithful) only in
     weaker moment since c.args.folder.now c.compare.new.folder Same _
-    (then_reads moment since may g.met.F.Folder.counts_now c.args.folder.now c.read_served.new.folder c.compare.new.folder Same served.0 (c.in_ok-compare.ensures.any_moment faithful))
+    (then_reads moment since may g.met.F.Folder.counts_now c.args.folder.now c.read_served.new.folder
+    c.compare.new.folder Same served.0 (c.in_ok-compare.ensures.any_moment faithful))
     (λ f same. inl same)
 
 pub returns-in_default-clause-any_moment : goal.returns-in_default-clause-any_moment
@@ -71,9 +76,12 @@ returns-in_default-clause-any_moment g c = λ faithful only.
     let first = g.F.Folder.seen c.args.folder.now in
     let P : Files → Type 0 = λ f. (f ≡ first) ⊎ IsTakenOver first f in
     let seen = c.read_text.ensures.seen faithful in
-    let left_same : (f : Files) → may c.read_text.new.folder f → f ≡ first = λ f left. only f (c.read_text.ensures.crash faithful f left) in
+    let left_same : (f : Files) → may c.read_text.new.folder f → f ≡ first = λ f left. only f
+    (c.read_text.ensures.crash faithful f left) in
     on_ok_weaker c.take_over.result
     (λ run. then moment since c.args.folder.now c.read_text.new.folder c.take_over.new.folder (λ f. f ≡ first) _ P
-    (begins moment since may c.args.folder.now c.read_text.new.folder (λ f. f ≡ first) (g.met.F.Folder.only_now c.args.folder.now) (c.read_text.ensures.time faithful) only left_same)
+    (begins moment since may c.args.folder.now c.read_text.new.folder (λ f. f ≡ first)
+    (g.met.F.Folder.only_now c.args.folder.now) (c.read_text.ensures.time faithful) only left_same)
     run (λ f same. inl same) (λ f. subst (λ (s : Files). (f ≡ s) ⊎ IsTakenOver s f → P f) (sym seen) (λ p. p)))
-    (c.take_over.ensures.any_moment faithful (λ f left. left_same f left ∙ sym seen) (ap (λ (f : Files). f state) seen ∙ (c.in_ok-state.ensures.none faithful).0 c.in_default.is))
+    (c.take_over.ensures.any_moment faithful (λ f left. left_same f left ∙ sym seen)
+    (ap (λ (f : Files). f state) seen ∙ (c.in_ok-state.ensures.none faithful).0 c.in_default.is))

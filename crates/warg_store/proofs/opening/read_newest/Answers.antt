@@ -28,7 +28,8 @@ returns-in_err-state-clause-whole g c = λ faithful served log has.
 pub returns-in_err-served-clause-whole : goal.returns-in_err-served-clause-whole
 returns-in_err-served-clause-whole g c = λ faithful served log has.
     let serves = has_serves served log (g.F.Folder.seen c.args.folder.now) has in
-    err_same (IsNoFault ⊥) c.in_err-served.field-0.0 c.from_residual-in_err-served.result c.from_residual-in_err-served.ensures.1
+    err_same (IsNoFault ⊥) c.in_err-served.field-0.0 c.from_residual-in_err-served.result
+    c.from_residual-in_err-served.ensures.1
     (c.in_err-served.ensures.whole faithful (said_of served) serves.checkpoint.0 (kept_said served serves.can) (ap (λ (f : Files). f checkpoint) (c.read_text.ensures.seen faithful) ∙ serves.checkpoint.1))
 
 pub returns-in_default-clause-whole : goal.returns-in_default-clause-whole
@@ -43,8 +44,11 @@ returns-in-Some-state-2-clause-whole g c = λ faithful served log has.
     ⊎_elim
     (λ keeps.
     let said = c.in_ok-state.ensures.text faithful (said_of log) None (kept_said log keeps.can) keeps.state in
-    c.newest_of.ensures.whole faithful served log (λ idle. subst (Keeps served log) (sym (c.read_text-2.ensures.seen faithful ∙ first)) keeps) (cc (said, c.in-Some-state-2.is)))
-    (λ without. absurd (let none = (c.in_ok-state.ensures.none faithful).1 without.1 in cc (none, c.in-Some-state-2.is)))
+    c.newest_of.ensures.whole faithful served log
+    (λ idle. subst (Keeps served log) (sym (c.read_text-2.ensures.seen faithful ∙ first)) keeps)
+    (cc (said, c.in-Some-state-2.is)))
+    (λ without. absurd (let none = (c.in_ok-state.ensures.none faithful).1 without.1 in cc
+    (none, c.in-Some-state-2.is)))
     has
 
 pub returns-in_err-state-clause-meanwhile : goal.returns-in_err-state-clause-meanwhile
@@ -56,18 +60,23 @@ returns-in_err-state-clause-meanwhile g c = λ faithful served old next one.
 pub returns-in_err-served-clause-meanwhile : goal.returns-in_err-served-clause-meanwhile
 returns-in_err-served-clause-meanwhile g c = λ faithful served old next one.
     let is = one_serves served old next (g.F.Folder.seen c.args.folder.now) one in
-    err_same (IsNoFault ⊥) c.in_err-served.field-0.0 c.from_residual-in_err-served.result c.from_residual-in_err-served.ensures.1
-    (c.in_err-served.ensures.whole faithful (said_of is.0) is.1.checkpoint.0 (kept_said is.0 is.1.can) (ap (λ (f : Files). f checkpoint) (c.read_text.ensures.seen faithful) ∙ is.1.checkpoint.1))
+    err_same (IsNoFault ⊥) c.in_err-served.field-0.0 c.from_residual-in_err-served.result
+    c.from_residual-in_err-served.ensures.1
+    (c.in_err-served.ensures.whole faithful (said_of is.0) is.1.checkpoint.0 (kept_said is.0 is.1.can)
+    (ap (λ (f : Files). f checkpoint) (c.read_text.ensures.seen faithful) ∙ is.1.checkpoint.1))
 
 pub returns-in_default-clause-meanwhile : goal.returns-in_default-clause-meanwhile
 returns-in_default-clause-meanwhile g c = λ faithful served old next one.
     let is = one_serves served old next (g.F.Folder.seen c.args.folder.now) one in
-    let found = c.in_ok-served.ensures.text faithful (said_of is.0) is.1.checkpoint.0 (kept_said is.0 is.1.can) (ap (λ (f : Files). f checkpoint) (c.read_text.ensures.seen faithful) ∙ is.1.checkpoint.1) in
+    let found = c.in_ok-served.ensures.text faithful (said_of is.0) is.1.checkpoint.0 (kept_said is.0 is.1.can)
+    (ap (λ (f : Files). f checkpoint) (c.read_text.ensures.seen faithful) ∙ is.1.checkpoint.1) in
     absurd (cc (found, c.in_default.is))
 
 pub returns-in-Some-state-2-clause-meanwhile : goal.returns-in-Some-state-2-clause-meanwhile
 returns-in-Some-state-2-clause-meanwhile g c = λ faithful served old next one.
     let files = g.F.Folder.seen c.args.folder.now in
-    let is = one_newest served old next files (g.F.Folder.seen c.read_text-2.new.folder) c.in-Some-state-2.state (c.read_text-2.ensures.seen faithful ∙ c.read_text.ensures.seen faithful) one
-    (λ log has. let said = c.in_ok-state.ensures.text faithful (said_of log) None (kept_said log has.can) has.text in cc (said, c.in-Some-state-2.is)) in
+    let is = one_newest served old next files (g.F.Folder.seen c.read_text-2.new.folder) c.in-Some-state-2.state
+    (c.read_text-2.ensures.seen faithful ∙ c.read_text.ensures.seen faithful) one
+    (λ log has. let said = c.in_ok-state.ensures.text faithful (said_of log) None (kept_said log has.can) has.text in
+    cc (said, c.in-Some-state-2.is)) in
     c.newest_of.ensures.whole faithful is.0 is.1 is.2 is.3

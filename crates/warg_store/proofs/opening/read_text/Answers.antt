@@ -18,7 +18,8 @@ returns-in_ok-text_in-in-Some-clause-none g c = λ faithful. (
   λ is. cc,
   λ none.
       let gone : ◌≡◌ {A = Option (List ℕ)} (Some c.in-Some.bytes.items) None =
-      sym (ap (option_map (λ (v : Vec ℕ Global). v.items)) c.in-Some.is) ∙ c.in_ok-bytes.ensures.found faithful ∙ ap (option_map (take (1048576 + 1))) none in
+      sym (ap (option_map (λ (v : Vec ℕ Global). v.items)) c.in-Some.is) ∙ c.in_ok-bytes.ensures.found faithful
+      ∙ ap (option_map (take (1048576 + 1))) none in
       cc (gone),
 )
 
@@ -29,7 +30,8 @@ returns-in-None-clause-text g c = λ faithful said behind can there.
 
 pub returns-in-None-clause-none : goal.returns-in-None-clause-none
 returns-in-None-clause-none g c = λ faithful. (
-  λ is. read_none (g.F.Folder.seen c.args.folder.now c.args.name.now) 1048576 (sym (ap (option_map (λ (v : Vec ℕ Global). v.items)) c.in-None.is) ∙ c.in_ok-bytes.ensures.found faithful),
+  λ is. read_none (g.F.Folder.seen c.args.folder.now c.args.name.now) 1048576
+      (sym (ap (option_map (λ (v : Vec ℕ Global). v.items)) c.in-None.is) ∙ c.in_ok-bytes.ensures.found faithful),
   λ none. refl,
 )
 

@@ -66,16 +66,23 @@ returns-clause-any_moment g c = λ faithful only none.
     let text : List ℕ = c.as_slice-2.result.now in
     let Same : Files → Type 0 = λ f. f ≡ first in
     let P : Files → Type 0 = λ f. (f ≡ first) ⊎ IsTakenOver first f in
-    let says : (said : Said) (behind : Option (List ℕ)) → CanBeServed said → first checkpoint ≡ Some (text_before said behind) → text ≡ text_of said = λ said behind can there.
-    let both : Some c.in-Some.served ≡ Some said = sym c.in-Some.is ∙ c.in_ok-served.ensures.text faithful said behind can there in
-    c.as_slice-2.ensures.value ∙ c.in_ok-bytes.ensures ∙ ap text_of (let same : c.in-Some.served ≡ said = cc (both) in same) in
-    let edge = then_reads moment since may g.met.F.Folder.counts_now c.args.folder.now c.read_text.new.folder c.read_edge.new.folder Same
-    (begins moment since may c.args.folder.now c.read_text.new.folder Same (g.met.F.Folder.only_now c.args.folder.now) (c.read_text.ensures.time faithful) only (λ f left. only f (c.read_text.ensures.crash faithful f left)))
+    let says : (said : Said) (behind : Option (List ℕ)) → CanBeServed said
+    → first checkpoint ≡ Some (text_before said behind) → text ≡ text_of said = λ said behind can there.
+    let read = c.in_ok-served.ensures.text faithful said behind can there in
+    let same : c.in-Some.served ≡ said = cc (read, c.in-Some.is) in
+    c.as_slice-2.ensures.value ∙ c.in_ok-bytes.ensures ∙ ap text_of same in
+    let edge = then_reads moment since may g.met.F.Folder.counts_now c.args.folder.now c.read_text.new.folder
+    c.read_edge.new.folder Same
+    (begins moment since may c.args.folder.now c.read_text.new.folder Same (g.met.F.Folder.only_now c.args.folder.now)
+    (c.read_text.ensures.time faithful) only (λ f left. only f (c.read_text.ensures.crash faithful f left)))
     (c.in_ok-edge.ensures.any_moment faithful) in
     goes_on moment since may c.args.folder.now c.read_edge.new.folder c.replace.new.self P
     (weaker moment since c.args.folder.now c.read_edge.new.folder Same P edge (λ f same. inl same))
     (c.replace.ensures.time faithful)
     (λ f left.
     let from = c.replace.ensures.crash faithful f left in
-    let was : from.0 ≡ first = in_end moment since may g.met.F.Folder.counts_now c.args.folder.now c.read_edge.new.folder Same edge from.0 from.1 in
-    ⊎_elim (λ same. inl (same ∙ was)) (λ changed. inr (record { none = none; text = text; says = says; put = changed ∙ ap (put (state, text)) was })) from.2)
+    let was : from.0 ≡ first = in_end moment since may g.met.F.Folder.counts_now c.args.folder.now
+    c.read_edge.new.folder Same edge from.0 from.1 in
+    ⊎_elim (λ same. inl (same ∙ was))
+    (λ changed. inr (record { none = none; text = text; says = says; put = changed ∙ ap (put (state, text)) was }))
+    from.2)

@@ -16,16 +16,20 @@ use Rattle.warg_store.proofs.reading.fetch_inclusion.Goals as goal
 pub returns-clause-own : goal.returns-clause-own
 returns-clause-own g c = λ faithful. on_ok_weaker c.fetch_leaf.result
     (λ more log files count below own.
-    let named = subst (AllByRecursion (IsTileOf c.args.log_length)) (sym c.as_slice.ensures.value) c.in_ok-named.ensures.tiles_of.of_length in
-    more log (subst (HasFiles log) (sym (c.fetch.ensures.seen faithful)) files) count (omega (arith, c.requires.order, below))
+    let named = subst (AllByRecursion (IsTileOf c.args.log_length)) (sym c.as_slice.ensures.value)
+    c.in_ok-named.ensures.tiles_of.of_length in
+    more log (subst (HasFiles log) (sym (c.fetch.ensures.seen faithful)) files) count
+    (omega (arith, c.requires.order, below))
     (c.in_ok-fetch.ensures.own faithful log c.args.log_length files count below c.requires.fits named own))
     (c.fetch_leaf.ensures.own faithful)
 
 pub returns-clause-leaf : goal.returns-clause-leaf
 returns-clause-leaf g c = λ faithful. IfOk-weaker c.fetch_leaf.result _ _
     (λ leaf is log files count below own.
-    let named = subst (AllByRecursion (IsTileOf c.args.log_length)) (sym c.as_slice.ensures.value) c.in_ok-named.ensures.tiles_of.of_length in
-    is log (subst (HasFiles log) (sym (c.fetch.ensures.seen faithful)) files) count (omega (arith, c.requires.order, below))
+    let named = subst (AllByRecursion (IsTileOf c.args.log_length)) (sym c.as_slice.ensures.value)
+    c.in_ok-named.ensures.tiles_of.of_length in
+    is log (subst (HasFiles log) (sym (c.fetch.ensures.seen faithful)) files) count
+    (omega (arith, c.requires.order, below))
     (c.in_ok-fetch.ensures.own faithful log c.args.log_length files count below c.requires.fits named own))
     (c.fetch_leaf.ensures.leaf faithful)
 
@@ -33,16 +37,23 @@ pub returns-clause-known : goal.returns-clause-known
 returns-clause-known g c = on_ok_weaker c.fetch_leaf.result
     (λ more.
     let nodes = needed (2 * c.args.index) c.args.log_length in
-    given_known sha256 c.fetch_leaf.new.fetched nodes (gives_all c.args.tiles.now c.as_slice.result.now c.fetch_leaf.new.fetched nodes
-    (gives_then c.args.tiles.now c.fetch.new.fetched c.fetch_leaf.new.fetched c.as_slice.result.now c.in_ok-fetch.ensures.gives more)
-    (subst (λ (ts : List TileAt). AllByRecursion (λ x. gives ts x ≡ true) nodes) (sym c.as_slice.ensures.value) c.in_ok-named.ensures.give)))
+    given_known sha256 c.fetch_leaf.new.fetched nodes (gives_all c.args.tiles.now c.as_slice.result.now
+    c.fetch_leaf.new.fetched nodes
+    (gives_then c.args.tiles.now c.fetch.new.fetched c.fetch_leaf.new.fetched c.as_slice.result.now
+    c.in_ok-fetch.ensures.gives more)
+    (subst (λ (ts : List TileAt). AllByRecursion (λ x. gives ts x ≡ true) nodes) (sym c.as_slice.ensures.value)
+    c.in_ok-named.ensures.give)))
     c.fetch_leaf.ensures.gives
 
 pub returns-clause-whole : goal.returns-clause-whole
 returns-clause-whole g c = λ faithful log files count below.
-    c.fetch_leaf.ensures.whole faithful log (subst (HasFiles log) (sym (c.fetch.ensures.seen faithful)) files) count (omega (arith, c.requires.order, below))
+    c.fetch_leaf.ensures.whole faithful log (subst (HasFiles log) (sym (c.fetch.ensures.seen faithful)) files) count
+    (omega (arith, c.requires.order, below))
 
 pub returns-in_err-fetch-clause-whole : goal.returns-in_err-fetch-clause-whole
 returns-in_err-fetch-clause-whole g c = λ faithful log files count below.
-    let named = subst (AllByRecursion (IsTileOf c.args.log_length)) (sym c.as_slice.ensures.value) c.in_ok-named.ensures.tiles_of.of_length in
-    err_same (IsNoFault ⊥) c.in_err-fetch.field-0.0 c.from_residual-in_err-fetch.result c.from_residual-in_err-fetch.ensures.1 (c.in_err-fetch.ensures.whole faithful log c.args.log_length files count below c.requires.fits named)
+    let named = subst (AllByRecursion (IsTileOf c.args.log_length)) (sym c.as_slice.ensures.value)
+    c.in_ok-named.ensures.tiles_of.of_length in
+    err_same (IsNoFault ⊥) c.in_err-fetch.field-0.0 c.from_residual-in_err-fetch.result
+    c.from_residual-in_err-fetch.ensures.1 (c.in_err-fetch.ensures.whole faithful log c.args.log_length files count
+    below c.requires.fits named)

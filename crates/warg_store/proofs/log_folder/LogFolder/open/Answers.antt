@@ -35,7 +35,8 @@ returns-clause-has g c = λ faithful served kept has.
 
 pub returns-in-Err-clause-opens : goal.returns-in-Err-clause-opens
 returns-in-Err-clause-opens g c = λ faithful served kept has.
-    c.of_recovery.ensures.whole (λ long. let stands = c.in-Err.ensures.too_long faithful (ap (λ e. Err e) long) in omega (arith, mark_fits served kept (g.F.Folder.seen c.args.folder) stands.0 stands.1 has, stands.2))
+    c.of_recovery.ensures.whole (λ long. let stands = c.in-Err.ensures.too_long faithful (ap (λ e. Err e) long) in
+    omega (arith, mark_fits served kept (g.F.Folder.seen c.args.folder) stands.0 stands.1 has, stands.2))
 
 pub returns-clause-any_moment : goal.returns-clause-any_moment
 returns-clause-any_moment g c = λ faithful.
@@ -45,10 +46,16 @@ returns-clause-any_moment g c = λ faithful.
     let counts = g.met.F.Folder.counts_now in
     let settled = g.F.Folder.seen c.recover.new.folder in
     let R : Files → Type 0 = λ f. may c.args.folder f ⊎ IsOpening (g.F.Folder.seen c.args.folder) f in
-    let recovered = weaker moment since c.args.folder c.recover.new.folder _ R (c.recover.ensures.any_moment faithful) (λ f. ⊎_elim (λ was. inl was) (λ between. inr (inl between))) in
-    let here : R settled = recovered.each settled (counts c.recover.new.folder (moment c.args.folder) settled recovered.later (g.met.F.Folder.seen_may_stay c.recover.new.folder)) in
-    let kept = then moment since c.args.folder c.recover.new.folder c.kept_text.new.folder R _ R recovered (c.in_ok-text.ensures.any_moment faithful (c.in_default.ensures.durable faithful)) (λ f was. was)
-    (λ f. ⊎_elim (λ same. subst R (sym same) here) (λ taken. inr (inr (subst (λ (s : Files). IsTakenOver s f) (c.in_default.ensures.opened faithful) taken)))) in
-    let edge = then_reads moment since may counts c.args.folder c.kept_text.new.folder c.read_edge.new.folder R kept (c.in_ok-edge.ensures.any_moment faithful) in
+    let recovered = weaker moment since c.args.folder c.recover.new.folder _ R (c.recover.ensures.any_moment faithful)
+    (λ f. ⊎_elim (λ was. inl was) (λ between. inr (inl between))) in
+    let here : R settled = recovered.each settled (counts c.recover.new.folder (moment c.args.folder) settled
+    recovered.later (g.met.F.Folder.seen_may_stay c.recover.new.folder)) in
+    let kept = then moment since c.args.folder c.recover.new.folder c.kept_text.new.folder R _ R recovered
+    (c.in_ok-text.ensures.any_moment faithful (c.in_default.ensures.durable faithful)) (λ f was. was)
+    (λ f. ⊎_elim (λ same. subst R (sym same) here)
+    (λ taken. inr (inr (subst (λ (s : Files). IsTakenOver s f) (c.in_default.ensures.opened faithful) taken)))) in
+    let edge = then_reads moment since may counts c.args.folder c.kept_text.new.folder c.read_edge.new.folder R kept
+    (c.in_ok-edge.ensures.any_moment faithful) in
     subst (λ (l : LogIn g.row.F.Denot). LeavesOnly moment since c.args.folder l.folder R) (sym c.with.ensures)
-    (then_reads moment since may counts c.args.folder c.read_edge.new.folder c.read_last_bundle.new.folder R edge (c.in_ok-bundle.ensures.any_moment faithful))
+    (then_reads moment since may counts c.args.folder c.read_edge.new.folder c.read_last_bundle.new.folder R edge
+    (c.in_ok-bundle.ensures.any_moment faithful))

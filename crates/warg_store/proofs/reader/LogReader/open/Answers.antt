@@ -8,10 +8,21 @@ pub returns-clause-meanwhile : goal.returns-clause-meanwhile
 returns-clause-meanwhile g c = λ faithful served old next one.
     let same = sym (c.read_newest.ensures.seen faithful) in
     ⊎_elim
-    (λ is. inl (record { can = is.serves.can; text = c.in_ok-text.ensures.text faithful served is.serves; files = subst (HasFiles served) same is.serves.holds }))
-    (λ is. inr (record { can = is.serves.can; text = c.in_ok-text.ensures.text faithful next is.serves; files = subst (HasFiles next) same is.serves.holds }))
+    (λ is. inl (record {
+      can = is.serves.can;
+      text = c.in_ok-text.ensures.text faithful served is.serves;
+      files =
+          subst (HasFiles served) same is.serves.holds;
+    }))
+    (λ is. inr (record {
+      can = is.serves.can;
+      text = c.in_ok-text.ensures.text faithful next is.serves;
+      files =
+          subst (HasFiles next) same is.serves.holds;
+    }))
     one.read
 
 pub returns-in_err-text-clause-meanwhile : goal.returns-in_err-text-clause-meanwhile
 returns-in_err-text-clause-meanwhile g c = λ faithful served old next one.
-    err_match _ (IsNoFault ⊥) c.in_err-text.field-0.0 c.from_residual.result c.from_residual.ensures.1 (c.in_err-text.ensures.meanwhile faithful served old next one)
+    err_match _ (IsNoFault ⊥) c.in_err-text.field-0.0 c.from_residual.result c.from_residual.ensures.1
+    (c.in_err-text.ensures.meanwhile faithful served old next one)
