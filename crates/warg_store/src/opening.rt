@@ -1,6 +1,6 @@
 //! A log's folder, made and opened.
 
-ghost use Rattle.std.specs.Prelude.{◌≡◌, ◌≢◌, ◌⊎◌, ◌↔◌, ◌<◌, ℕ, true, false, List, [], Option, Some, None, IfOk, IfErr, OnOk, IsTrue, string_bytes};
+ghost use Rattle.std.specs.Prelude.{◌≡◌, ◌≢◌, ◌⊎◌, ◌↔◌, ◌<◌, ℕ, true, false, List, [], Option, Some, None, Err, length, IfOk, IfErr, OnOk, IsTrue, string_bytes};
 ghost use Rattle.std.specs.List.{All};
 ghost use Rattle.warg_tiles.specs.CheckpointText.{Said, CanBeSaid, text_before};
 ghost use Rattle.warg_store.specs.Files.{SameBut};
@@ -67,6 +67,8 @@ impl<F: Folder + Drop> LogFolder<F> {
         ensures empty { IfOk result (λ log. (log.edge.len ≡ 0) × (log.text.origin ≡ origin.now)) }
         ensures has { F.IsFaithful → IfOk result (λ log. let none : LogOf = record { origin = origin.now; entries = []; lines = []; pages = [] } in
             Has F.seen F.may_leave none none none log) }
+        ensures origin { result ≡ Err CreateError.Origin → (65535 < length origin.now)
+            ⊎ (CanBeKept (record { origin = origin.now; entries = [] }) → ⊥) }
         ensures cause { HasLostCause F.faults (CreateError.Folder FolderError.Failed) F.IsFaithful folder result }
     {
         if origin.len() > 65_535 {
@@ -186,6 +188,7 @@ fn check_fresh<F: Folder>(alloc: Global, folder: &mut F) -> Result<(), CreateErr
         ((F.seen folder.new checkpoint ≡ None) × (F.seen folder.new mark ≡ None)) }
     ensures cause { HasCauseOf (CreateError.Folder FolderError.Failed) F.IsFaithful
         (F.faults folder.old) (F.faults folder.new) result }
+    ensures other { IfErr result (λ error. error ≢ CreateError.Origin) }
 {
     let names = folder.list(alloc, "")?;
     if are_others(names.as_slice()) {
@@ -220,6 +223,7 @@ fn prepare<F: Folder>(alloc: Global, folder: &mut F) -> Result<(), CreateError>
     ensures ready { F.IsFaithful → OnOk result (IsStaging (F.seen folder.new) (F.may_leave folder.new)) }
     ensures cause { HasCauseOf (CreateError.Folder FolderError.Failed) F.IsFaithful
         (F.faults folder.old) (F.faults folder.new) result }
+    ensures other { IfErr result (λ error. error ≢ CreateError.Origin) }
 {
     match recover(alloc, folder) {
         Ok(()) => Ok(()),
