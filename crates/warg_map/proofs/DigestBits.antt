@@ -23,7 +23,8 @@ low_bits zero x = []
 low_bits (suc k) x = nat_eq (x / 2 ^ k % 2) 1 ∷ low_bits k x
 
 -- the order of two numbers by the last bits of their quotients, and by the bits below them
-by_bit : (x y p q : ℕ) (rest : Ordering) → p / 2 ≡ q / 2 → (p < q → x < y) → (q < p → y < x) → (p ≡ q → rest ≡ nat_cmp x y) → ordering_then (bool_cmp (nat_eq (p % 2) 1) (nat_eq (q % 2) 1)) rest ≡ nat_cmp x y
+by_bit : (x y p q : ℕ) (rest : Ordering) → p / 2 ≡ q / 2 → (p < q → x < y) → (q < p → y < x)
+    → (p ≡ q → rest ≡ nat_cmp x y) → ordering_then (bool_cmp (nat_eq (p % 2) 1) (nat_eq (q % 2) 1)) rest ≡ nat_cmp x y
 by_bit x y p q rest above less more same = grind (arith, nat_tests)
 
 quotient_below : (x y w : ℕ) → 0 < w → x / w < y / w → x < y
@@ -41,7 +42,8 @@ low_bits-order zero x y e = whole x y e
     whole x y e = grind (arith, nat_tests)
 low_bits-order (suc k) x y e =
     let above = rw (pow-suc 2 k, ← div-div-eq-div-mul x (2 ^ k) 2, ← div-div-eq-div-mul y (2 ^ k) 2) at e in
-    by_bit x y (x / 2 ^ k) (y / 2 ^ k) _ above (quotient_below x y (2 ^ k) (pow_pos k)) (quotient_below y x (2 ^ k) (pow_pos k)) (low_bits-order k x y)
+    by_bit x y (x / 2 ^ k) (y / 2 ^ k) _ above (quotient_below x y (2 ^ k) (pow_pos k))
+    (quotient_below y x (2 ^ k) (pow_pos k)) (low_bits-order k x y)
 
 length-low_bits : (k x : ℕ) → length (low_bits k x) ≡ k
 unfolding low_bits
@@ -51,26 +53,35 @@ length-low_bits (suc k) x = ap suc (length-low_bits k x)
 then_then : (a b c : Ordering) → ordering_then a (ordering_then b c) ≡ ordering_then (ordering_then a b) c
 then_then a b c = grind arith
 
-bits_cmp-append : (p q r s : List Bool) → length p ≡ length q → bits_cmp (p ++ r) (q ++ s) ≡ ordering_then (bits_cmp p q) (bits_cmp r s)
+bits_cmp-append : (p q r s : List Bool) → length p ≡ length q → bits_cmp (p ++ r) (q ++ s)
+    ≡ ordering_then (bits_cmp p q) (bits_cmp r s)
 bits_cmp-append [] [] r s e = refl
 bits_cmp-append [] (c ∷ q) r s e = absurd (omega (arith, e))
 bits_cmp-append (b ∷ p) [] r s e = absurd (omega (arith, e))
-bits_cmp-append (b ∷ p) (c ∷ q) r s e = ap (ordering_then (bool_cmp b c)) (bits_cmp-append p q r s (omega (arith, e))) ∙ then_then (bool_cmp b c) (bits_cmp p q) (bits_cmp r s)
+bits_cmp-append (b ∷ p) (c ∷ q) r s e = ap (ordering_then (bool_cmp b c)) (bits_cmp-append p q r s (omega (arith, e)))
+    ∙ then_then (bool_cmp b c) (bits_cmp p q) (bits_cmp r s)
 
 -- the bits of bytes
 all_bits : List ℕ → List Bool
 all_bits [] = []
 all_bits (x ∷ xs) = low_bits 8 x ++ all_bits xs
 
-all_bits-order : (xs ys : List ℕ) → length xs ≡ length ys → All IsByte xs → All IsByte ys → bits_cmp (all_bits xs) (all_bits ys) ≡ slice_cmp nat_cmp xs ys
+all_bits-order : (xs ys : List ℕ) → length xs ≡ length ys → All IsByte xs → All IsByte ys
+    → bits_cmp (all_bits xs) (all_bits ys) ≡ slice_cmp nat_cmp xs ys
 unfolding all_bits
 all_bits-order [] [] e f g = refl
 all_bits-order [] (y ∷ ys) e f g = absurd (omega (arith, e))
 all_bits-order (x ∷ xs) [] e f g = absurd (omega (arith, e))
 all_bits-order (x ∷ xs) (y ∷ ys) e f g =
-    let first = low_bits-order 8 x y (div-eq_of_lt {n = x} {m = 256} (All-head IsByte x xs f) ∙ sym (div-eq_of_lt {n = y} {m = 256} (All-head IsByte y ys g))) in
+    let first = low_bits-order 8 x y (div-eq_of_lt {n = x} {m = 256} (All-head IsByte x xs f)
+    ∙ sym (div-eq_of_lt {n = y} {m = 256} (All-head IsByte y ys g))) in
     let rest = all_bits-order xs ys (omega (arith, e)) (All-tail IsByte x xs f) (All-tail IsByte y ys g) in
-    rw (bits_cmp-append (low_bits 8 x) (low_bits 8 y) (all_bits xs) (all_bits ys) (length-low_bits 8 x ∙ sym (length-low_bits 8 y)), first, rest)
+    rw (
+      bits_cmp-append (low_bits 8 x) (low_bits 8 y) (all_bits xs) (all_bits ys)
+          (length-low_bits 8 x ∙ sym (length-low_bits 8 y)),
+      first,
+      rest,
+    )
 
 bit_at-shifted : (x : ℕ) (xs : List ℕ) (i : ℕ) → bit_at (x ∷ xs) (i + 8) ≡ bit_at xs i
 bit_at-shifted x xs i =
@@ -96,10 +107,13 @@ digest_bits : (digest : List ℕ) → IsDigest digest → last_bits digest 256 �
 digest_bits digest is = ap (λ n. bits_from digest 0 (8 * n)) (sym is.has_32) ∙ bits_from-all digest
 
 -- digests are in the order of their bits
-pub bits-order : (a b : List ℕ) → IsDigest a → IsDigest b → bits_cmp (last_bits a 256) (last_bits b 256) ≡ slice_cmp nat_cmp a b
-bits-order a b f g = rw (digest_bits a f, digest_bits b g) (all_bits-order a b (f.has_32 ∙ sym g.has_32) f.are_bytes g.are_bytes)
+pub bits-order : (a b : List ℕ) → IsDigest a → IsDigest b → bits_cmp (last_bits a 256) (last_bits b 256)
+    ≡ slice_cmp nat_cmp a b
+bits-order a b f g = rw (digest_bits a f, digest_bits b g)
+    (all_bits-order a b (f.has_32 ∙ sym g.has_32) f.are_bytes g.are_bytes)
 
 -- digests of the same bits are the same
 pub same_bits_same_digest : (a b : List ℕ) → IsDigest a → IsDigest b → last_bits a 256 ≡ last_bits b 256 → a ≡ b
 same_bits_same_digest a b f g e =
-    slice_cmp-IsAntisymmetric nat_cmp-IsAntisymmetric a b (rw (← bits-order a b f g, e) (tied_itself bits_total (last_bits b 256)))
+    slice_cmp-IsAntisymmetric nat_cmp-IsAntisymmetric a b
+    (rw (← bits-order a b f g, e) (tied_itself bits_total (last_bits b 256)))

@@ -73,27 +73,38 @@ abbrev pub with_top : ℕ → List (Option (List ℕ))
 with_top byte = Some (byte ∷ []) ∷ []
 
 -- What is held there alone.
-only_lone : (p q : List Bool) (x : List ℕ) → contains_key (insert (empty {K = List Bool} {X = List ℕ} {R = bits_cmp}) p x) q ≡ true → q ≡ p
+only_lone : (p q : List Bool) (x : List ℕ)
+    → contains_key (insert (empty {K = List Bool} {X = List ℕ} {R = bits_cmp}) p x) q ≡ true → q ≡ p
 only_lone p q x held = tied q p (not_other (same_bits q p) refl)
   where
     not_other : (b : Bool) → same_bits q p ≡ b → same_bits q p ≡ true
     not_other true is = is
-    not_other false is = absurd (no_some _ (get-lone_other p x q (λ same. let no : false ≡ true = sym is ∙ ap (same_bits q) (sym same) ∙ tied_itself_bits q in cc)) held)
+    not_other false is = absurd (no_some _
+        (get-lone_other p x q (λ same. let no : false ≡ true = sym is ∙ ap (same_bits q) (sym same)
+        ∙ tied_itself_bits q in cc)) held)
 
 -- The proof of a key alone in its map has the empty tree beside its first bit.
-pub lone_proof : (H : List ℕ → List ℕ) (b : Bool) (rest : List Bool) (x : List ℕ) → Proves H 256 (insert empty (b ∷ rest) x) (b ∷ rest) (Some (empty_root H (length rest)) ∷ [])
+pub lone_proof : (H : List ℕ → List ℕ) (b : Bool) (rest : List Bool) (x : List ℕ)
+    → Proves H 256 (insert empty (b ∷ rest) x) (b ∷ rest) (Some (empty_root H (length rest)) ∷ [])
 unfolding IsPeers
 lone_proof H b rest x = record {
   held = contains_key-insert_same empty (b ∷ rest) x;
-  peers_from_top = (inl (refl, λ q. get-lone_other (b ∷ rest) x (not b ∷ q) (λ same. head_differs b same)), λ q other. get-lone_other (b ∷ rest) x (b ∷ q) (λ same. other (cc)));
-  count = record { above = λ q held other. absurd (other (only_lone (b ∷ rest) q x held)); reached = inl (refl, λ q held. only_lone (b ∷ rest) q x held) };
+  peers_from_top = (
+    inl (refl, λ q. get-lone_other (b ∷ rest) x (not b ∷ q) (λ same. head_differs b same)),
+    λ q other. get-lone_other (b ∷ rest) x (b ∷ q) (λ same. other (cc)),
+  );
+  count = record {
+    above = λ q held other. absurd (other (only_lone (b ∷ rest) q x held));
+    reached = inl (refl, λ q held. only_lone (b ∷ rest) q x held);
+  };
 }
   where
     head_differs : (b : Bool) {q r : List Bool} → (not b ∷ q) ≡ (b ∷ r) → ⊥
     head_differs true same = cc
     head_differs false same = cc
 
-pub lone_empty : (H : List ℕ → List ℕ) (b : Bool) (rest : List Bool) (x : List ℕ) → ProvesEmpty H (insert empty (b ∷ rest) x) (b ∷ rest) (Some (empty_root H (length rest)) ∷ [])
+pub lone_empty : (H : List ℕ → List ℕ) (b : Bool) (rest : List Bool) (x : List ℕ)
+    → ProvesEmpty H (insert empty (b ∷ rest) x) (b ∷ rest) (Some (empty_root H (length rest)) ∷ [])
 lone_empty H b rest x = rw (get-insert_same empty (b ∷ rest) x) (lone_proof H b rest x)
 
 -- The proof of nothing in the empty map has no peers.
@@ -102,7 +113,10 @@ unfolding IsPeers
 nothing_proof H bits = record {
   absent = contains_key-empty bits;
   peers_from_top = λ q _. get-empty bits_cmp q;
-  count = record { above = λ q held _. absurd (no_some _ (get-empty bits_cmp q) held); reached = inl (refl, λ q held. absurd (no_some _ (get-empty bits_cmp q) held)) };
+  count = record {
+    above = λ q held _. absurd (no_some _ (get-empty bits_cmp q) held);
+    reached = inl (refl, λ q held. absurd (no_some _ (get-empty bits_cmp q) held));
+  };
 }
 
 pub nothing_empty : (H : List ℕ → List ℕ) (bits : List Bool) → ProvesEmpty H empty bits []
@@ -144,10 +158,12 @@ both_proof H = record {
   held = contains_key-insert_same seven one_bit [];
   peers_from_top = (
     inr (rw seven_there refl, ([], ap is_some seven_there)),
-    λ q other. get-insert_other seven one_bit (true ∷ q) [] (λ same. other (cc)) ∙ get-lone_other other_bit (7 ∷ []) (true ∷ q) (λ same. cc),
+    λ q other. get-insert_other seven one_bit (true ∷ q) [] (λ same. other (cc)) ∙ get-lone_other other_bit (7 ∷ [])
+        (true ∷ q) (λ same. cc),
   );
   count = record {
-    above = λ q held other. rw (only_lone other_bit q (7 ∷ []) (ap is_some (sym (get-insert_other seven one_bit q [] other)) ∙ held)) (omega arith);
+    above = λ q held other. rw (only_lone other_bit q (7 ∷ [])
+        (ap is_some (sym (get-insert_other seven one_bit q [] other)) ∙ held)) (omega arith);
     reached = inr (other_bit, ap is_some seven_there, (λ same. cc), refl);
   };
 }
@@ -157,12 +173,14 @@ unfolding root_of_levels
 both_root = rw (seven_there, get-insert_same seven one_bit []) refl
 
 -- A tree of two levels or more begins with two branches.
-two_branches : (k : ℕ) (f : List Bool → Option (List ℕ)) → (t : List ℕ) × (root_of_levels own (suc (suc k)) f ≡ 1 ∷ 1 ∷ t)
+two_branches : (k : ℕ) (f : List Bool → Option (List ℕ)) → (t : List ℕ)
+    × (root_of_levels own (suc (suc k)) f ≡ 1 ∷ 1 ∷ t)
 unfolding root_of_levels
 two_branches k f = (_, refl)
 
 -- So one of one level or of none is another.
-pub one_level : (x : List ℕ) → proof_value own (Some (empty_root own 0) ∷ []) x one_bit ≡ sparse_root own 256 (insert (lone x) one_bit x) → ⊥
+pub one_level : (x : List ℕ) → proof_value own (Some (empty_root own 0) ∷ []) x one_bit ≡ sparse_root own 256
+    (insert (lone x) one_bit x) → ⊥
 unfolding proof_value empty_root
 one_level x is =
     let root = two_branches 254 (get (insert (lone x) one_bit x)) in
@@ -170,35 +188,44 @@ one_level x is =
 
 pub no_level : proof_value own [] [] [] ≡ sparse_root own 256 (insert empty [] []) → ⊥
 unfolding proof_value
-no_level is = let root = two_branches 254 (get (insert (empty {K = List Bool} {X = List ℕ} {R = bits_cmp}) [] [])) in let byte : [] ≡ 1 ∷ 1 ∷ root.0 = is ∙ root.1 in cc
+no_level is = let root = two_branches 254 (get (insert (empty {K = List Bool} {X = List ℕ} {R = bits_cmp}) [] [])) in
+    let byte : [] ≡ 1 ∷ 1 ∷ root.0 = is ∙ root.1 in cc
 
 -- Another peer at the top leads elsewhere.
 top_is : (byte k : ℕ) → k ≡ 255 → peer_of own (with_top byte) k ≡ byte ∷ []
 top_is byte k is = rw is refl
 
-peer_matters : (rest : List Bool) (x : List ℕ) → length rest ≡ 255 → proof_value own (with_top 5) x (true ∷ rest) ≡ proof_value own (with_top 6) x (true ∷ rest) → ⊥
+peer_matters : (rest : List Bool) (x : List ℕ) → length rest ≡ 255 → proof_value own (with_top 5) x (true ∷ rest)
+    ≡ proof_value own (with_top 6) x (true ∷ rest) → ⊥
 unfolding proof_value
 peer_matters rest x count is =
     let byte : 1 ∷ 5 ∷ proof_value own (with_top 5) x rest ≡ 1 ∷ 6 ∷ proof_value own (with_top 6) x rest =
-    ap (λ p. 1 ∷ p ++ proof_value own (with_top 5) x rest) (sym (top_is 5 (length rest) count)) ∙ is ∙ ap (λ p. 1 ∷ p ++ proof_value own (with_top 6) x rest) (top_is 6 (length rest) count) in
+    ap (λ p. 1 ∷ p ++ proof_value own (with_top 5) x rest) (sym (top_is 5 (length rest) count)) ∙ is
+    ∙ ap (λ p. 1 ∷ p ++ proof_value own (with_top 6) x rest) (top_is 6 (length rest) count) in
     let wrong : SameNumber 5 6 = cc in omega arith
 
 pub peers_matter : (x : List ℕ) → proof_value own (with_top 5) x all_bits ≡ proof_value own (with_top 6) x all_bits → ⊥
 peers_matter x is = peer_matters below x below_255 is
 
 -- Another leaf digest leads elsewhere.
-pub leaf_matters : (peers : List (Option (List ℕ))) (x y : List ℕ) (bits : List Bool) → proof_value own peers x bits ≡ proof_value own peers y bits → x ≡ y
+pub leaf_matters : (peers : List (Option (List ℕ))) (x y : List ℕ) (bits : List Bool) → proof_value own peers x bits
+    ≡ proof_value own peers y bits → x ≡ y
 unfolding proof_value
 leaf_matters peers x y [] is = is
 leaf_matters peers x y (true ∷ bits) is =
-    let under : peer_of own peers (length bits) ++ proof_value own peers x bits ≡ peer_of own peers (length bits) ++ proof_value own peers y bits = cc in
+    let under : peer_of own peers (length bits) ++ proof_value own peers x bits ≡ peer_of own peers (length bits)
+    ++ proof_value own peers y bits = cc in
     leaf_matters peers x y bits (append_cancel_left (peer_of own peers (length bits)) _ _ under)
 leaf_matters peers x y (false ∷ bits) is =
-    let under : proof_value own peers x bits ++ peer_of own peers (length bits) ≡ proof_value own peers y bits ++ peer_of own peers (length bits) = cc in
+    let under : proof_value own peers x bits ++ peer_of own peers (length bits) ≡ proof_value own peers y bits
+    ++ peer_of own peers (length bits) = cc in
     leaf_matters peers x y bits (append_cancel_right _ _ (peer_of own peers (length bits)) under)
 
 -- A map of one key has the root to which its proof leads.
-pub own_root : (H : List ℕ → List ℕ) (b : Bool) (rest : List Bool) (x : List ℕ) → length (b ∷ rest) ≡ 256 → proof_value H (Some (empty_root H (length rest)) ∷ []) x (b ∷ rest) ≡ sparse_root H 256 (insert empty (b ∷ rest) x)
+pub own_root : (H : List ℕ → List ℕ) (b : Bool) (rest : List Bool) (x : List ℕ) → length (b ∷ rest) ≡ 256
+    → proof_value H (Some (empty_root H (length rest)) ∷ []) x (b ∷ rest)
+    ≡ sparse_root H 256 (insert empty (b ∷ rest) x)
 own_root H b rest x count =
     let m : SparseMap = insert empty (b ∷ rest) x in
-    root_at_prefix H m [] (b ∷ rest) _ x (omega (arith, count)) (omega arith) (lone_proof H b rest x) (get-insert_same empty (b ∷ rest) x) ∙ ap (λ k. root_of_levels H k (get m)) count
+    root_at_prefix H m [] (b ∷ rest) _ x (omega (arith, count)) (omega arith) (lone_proof H b rest x)
+    (get-insert_same empty (b ∷ rest) x) ∙ ap (λ k. root_of_levels H k (get m)) count

@@ -6,7 +6,8 @@ use Rattle.std.specs.Cmp.Lexicographic.{pointwise_decides}
 use Rattle.std.proofs.lemmas.Bool.Decides.{Decides-eqb}
 use Rattle.warg_map.specs.Messages.{Peers, same_peers}
 
-options_decide : {A : Type 0} {E : A → A → Bool} → ((a b : A) → Decides (E a b) (a ≡ b)) → (p q : Option A) → Decides (option_eq E p q) (p ≡ q)
+options_decide : {A : Type 0} {E : A → A → Bool} → ((a b : A) → Decides (E a b) (a ≡ b)) → (p q : Option A)
+    → Decides (option_eq E p q) (p ≡ q)
 options_decide d None None = (λ _. refl, λ _. refl)
 options_decide d None (Some y) = (λ e. cc, λ e. cc)
 options_decide d (Some x) None = (λ e. cc, λ e. cc)

@@ -37,7 +37,8 @@ pub get-insert_same : (m : SparseMap) (p : List Bool) (v : List ℕ) → get (in
 get-insert_same m p v = get-insert bits_total m p v p ∙ cond-true _ _ _ (tied_itself_bits p)
 
 pub get-insert_other : (m : SparseMap) (p q : List Bool) (v : List ℕ) → ¬ (q ≡ p) → get (insert m p v) q ≡ get m q
-get-insert_other m p q v n = get-insert bits_total m p v q ∙ cond-false _ _ _ (false_from_ne_true _ (λ e. n (tied q p e)))
+get-insert_other m p q v n = get-insert bits_total m p v q
+    ∙ cond-false _ _ _ (false_from_ne_true _ (λ e. n (tied q p e)))
 
 pub contains_key-insert_same : (m : SparseMap) (p : List Bool) (v : List ℕ) → contains_key (insert m p v) p ≡ true
 contains_key-insert_same m p v = ap is_some (get-insert_same m p v)
@@ -49,10 +50,14 @@ contains_key-empty q = ap is_some (get-empty bits_cmp q)
 abbrev entries_of_join : List (List Bool × List ℕ) → List (List Bool × List ℕ) → List (List Bool × List ℕ)
 entries_of_join es fs = map (λ e. (false ∷ e.0, e.1)) es ++ map (λ e. (true ∷ e.0, e.1)) fs
 
-find_joined : (q : List Bool) (es fs : List (List Bool × List ℕ)) → (find bits_cmp [] (entries_of_join es fs) ≡ None) × (find bits_cmp (false ∷ q) (entries_of_join es fs) ≡ find bits_cmp q es) × (find bits_cmp (true ∷ q) (entries_of_join es fs) ≡ find bits_cmp q fs)
+find_joined : (q : List Bool) (es fs : List (List Bool × List ℕ)) → (find bits_cmp [] (entries_of_join es fs) ≡ None)
+    × (find bits_cmp (false ∷ q) (entries_of_join es fs) ≡ find bits_cmp q es)
+    × (find bits_cmp (true ∷ q) (entries_of_join es fs) ≡ find bits_cmp q fs)
 find_joined q [] [] = (refl, refl, refl)
-find_joined q [] (f ∷ fs) = let h = find_joined q [] fs in (h.0, h.1, ap (cond (eq_by_cmp bits_cmp q f.0) (Some f.1)) h.2)
-find_joined q (e ∷ es) fs = let h = find_joined q es fs in (h.0, ap (cond (eq_by_cmp bits_cmp q e.0) (Some e.1)) h.1, h.2)
+find_joined q [] (f ∷ fs) = let h = find_joined q [] fs in
+    (h.0, h.1, ap (cond (eq_by_cmp bits_cmp q f.0) (Some f.1)) h.2)
+find_joined q (e ∷ es) fs = let h = find_joined q es fs in
+    (h.0, ap (cond (eq_by_cmp bits_cmp q e.0) (Some e.1)) h.1, h.2)
 
 -- what a join holds
 pub get-join_nil : (l r : SparseMap) → get (join l r) [] ≡ None
@@ -61,11 +66,13 @@ get-join_nil l r = get-from_entries bits_total _ [] ∙ (find_joined [] (entries
 
 pub get-join_false : (l r : SparseMap) (q : List Bool) → get (join l r) (false ∷ q) ≡ get l q
 unfolding join
-get-join_false l r q = get-from_entries bits_total _ (false ∷ q) ∙ (find_joined q (entries l) (entries r)).1 ∙ sym (get-entries l q)
+get-join_false l r q = get-from_entries bits_total _ (false ∷ q) ∙ (find_joined q (entries l) (entries r)).1
+    ∙ sym (get-entries l q)
 
 pub get-join_true : (l r : SparseMap) (q : List Bool) → get (join l r) (true ∷ q) ≡ get r q
 unfolding join
-get-join_true l r q = get-from_entries bits_total _ (true ∷ q) ∙ (find_joined q (entries l) (entries r)).2 ∙ sym (get-entries r q)
+get-join_true l r q = get-from_entries bits_total _ (true ∷ q) ∙ (find_joined q (entries l) (entries r)).2
+    ∙ sym (get-entries r q)
 
 pub get-join_at : (b : Bool) (near far : SparseMap) (q : List Bool) → get (join_at b near far) (b ∷ q) ≡ get near q
 get-join_at true near far q = get-join_true far near q
@@ -78,7 +85,8 @@ get-join_far false near far q = get-join_true near far q
 ruleset gets_of_join = (get-insert, bits_total, get-empty, get-join_nil, get-join_false, get-join_true)
 
 -- a map is the join of what it holds after 0 and after 1
-is_join : (m l r : SparseMap) → get m [] ≡ None → ((q : List Bool) → get m (false ∷ q) ≡ get l q) → ((q : List Bool) → get m (true ∷ q) ≡ get r q) → m ≡ join l r
+is_join : (m l r : SparseMap) → get m [] ≡ None → ((q : List Bool) → get m (false ∷ q) ≡ get l q)
+    → ((q : List Bool) → get m (true ∷ q) ≡ get r q) → m ≡ join l r
 is_join m l r n f t = same_sparse m (join l r) at
   where
     at : (q : List Bool) → get m q ≡ get (join l r) q
@@ -91,17 +99,20 @@ empty-is_join_at true = is_join _ _ _ (simp gets_of_join) (λ q. simp gets_of_jo
 empty-is_join_at false = is_join _ _ _ (simp gets_of_join) (λ q. simp gets_of_join) (λ q. simp gets_of_join)
 
 -- an insertion goes to the side of its first bit
-pub insert-join_at : (b : Bool) (near far : SparseMap) (p : List Bool) (v : List ℕ) → insert (join_at b near far) (b ∷ p) v ≡ join_at b (insert near p v) far
+pub insert-join_at : (b : Bool) (near far : SparseMap) (p : List Bool) (v : List ℕ)
+    → insert (join_at b near far) (b ∷ p) v ≡ join_at b (insert near p v) far
 insert-join_at true near far p v = is_join _ _ _ (simp gets_of_join) (λ q. simp gets_of_join) (λ q. simp gets_of_join)
 insert-join_at false near far p v = is_join _ _ _ (simp gets_of_join) (λ q. simp gets_of_join) (λ q. simp gets_of_join)
 
-pub insert-join_far : (b : Bool) (near far : SparseMap) (p : List Bool) (v : List ℕ) → insert (join_at b near far) (not b ∷ p) v ≡ join_at b near (insert far p v)
+pub insert-join_far : (b : Bool) (near far : SparseMap) (p : List Bool) (v : List ℕ)
+    → insert (join_at b near far) (not b ∷ p) v ≡ join_at b near (insert far p v)
 insert-join_far true near far p v = insert-join_at false far near p v
 insert-join_far false near far p v = insert-join_at true far near p v
 
 -- the value inserted last counts
 pub insert-again : (m : SparseMap) (p : List Bool) (v w : List ℕ) → insert (insert m p v) p w ≡ insert m p w
-insert-again m p v w = same_sparse _ _ (λ q. simp (get-insert, bits_total) (again (eq_by_cmp bits_cmp q p) (Some w) (Some v) (get m q)))
+insert-again m p v w = same_sparse _ _
+    (λ q. simp (get-insert, bits_total) (again (eq_by_cmp bits_cmp q p) (Some w) (Some v) (get m q)))
   where
     again : {A : Type 0} (b : Bool) (x y z : A) → cond b x (cond b y z) ≡ cond b x z
     again true x y z = refl
@@ -113,13 +124,15 @@ unfolding root_of_levels empty_root
 root-nothing H zero = refl
 root-nothing H (suc k) = ap (λ e. H (1 ∷ (e ++ e))) (root-nothing H k)
 
-pub root-same : (H : List ℕ → List ℕ) (k : ℕ) (m n : List Bool → Option (List ℕ)) → ((q : List Bool) → m q ≡ n q) → root_of_levels H k m ≡ root_of_levels H k n
+pub root-same : (H : List ℕ → List ℕ) (k : ℕ) (m n : List Bool → Option (List ℕ)) → ((q : List Bool) → m q ≡ n q)
+    → root_of_levels H k m ≡ root_of_levels H k n
 root-same H k m n h = λ i. root_of_levels H k (λ q. h q i)
 
 pub sparse_root-empty : (H : List ℕ → List ℕ) (k : ℕ) → sparse_root H k empty ≡ empty_root H k
 sparse_root-empty H k = root-same H k _ _ (get-empty bits_cmp) ∙ root-nothing H k
 
-pub sparse_root-join : (H : List ℕ → List ℕ) (k : ℕ) (l r : SparseMap) → sparse_root H (k + 1) (join l r) ≡ H (1 ∷ (sparse_root H k l ++ sparse_root H k r))
+pub sparse_root-join : (H : List ℕ → List ℕ) (k : ℕ) (l r : SparseMap) → sparse_root H (k + 1) (join l r)
+    ≡ H (1 ∷ (sparse_root H k l ++ sparse_root H k r))
 unfolding root_of_levels
 sparse_root-join H k l r =
     rw (add-one k, root-same H k _ _ (get-join_false l r), root-same H k _ _ (get-join_true l r))

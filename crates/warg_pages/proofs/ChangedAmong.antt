@@ -8,7 +8,8 @@ use Rattle.warg_pages.specs.ChangedPages.{ChangedPageAt, page_at, ChangesAt}
 use Rattle.warg_pages.specs.Private.Updates.{GoesOn, GoesBelow, AreChangedAmong}
 
 -- pairs of two lists
-AllPairs-append : {X : Type 0} (R : X → X → Type 0) (xs ys : List X) → AllPairs R xs → AllPairs R ys → ((i j : ℕ) (d : X) → i < length xs → j < length ys → R (get_or xs i d) (get_or ys j d)) → AllPairs R (xs ++ ys)
+AllPairs-append : {X : Type 0} (R : X → X → Type 0) (xs ys : List X) → AllPairs R xs → AllPairs R ys
+    → ((i j : ℕ) (d : X) → i < length xs → j < length ys → R (get_or xs i d) (get_or ys j d)) → AllPairs R (xs ++ ys)
 AllPairs-append {X = X} R xs ys one two cross = λ i j d lt within.
     let size : length (xs ++ ys) ≡ length xs + length ys = length-append xs ys in
     elim (cases_lt j (length xs)) [
@@ -29,7 +30,8 @@ AllPairs-append {X = X} R xs ys one two cross = λ i j d lt within.
     ]
 
 -- no page
-pub none_among : (H : List ℕ → List ℕ) (old more : List (List ℕ × List ℕ)) (Kind : List ℕ → Type 0) → ((prefix : List ℕ) → Kind prefix → ChangesAt H old more prefix → ⊥) → AreChangedAmong H old more Kind []
+pub none_among : (H : List ℕ → List ℕ) (old more : List (List ℕ × List ℕ)) (Kind : List ℕ → Type 0)
+    → ((prefix : List ℕ) → Kind prefix → ChangesAt H old more prefix → ⊥) → AreChangedAmong H old more Kind []
 none_among H old more Kind none = record {
   each = λ i d lt. absurd (omega arith);
   all = λ prefix kind changes. absurd (none prefix kind changes);
@@ -38,18 +40,26 @@ none_among H old more Kind none = record {
 
 -- where a prefix goes on with bytes
 byte_behind : (front : List ℕ) (x y : ℕ) (rest other : List ℕ) → front ++ x ∷ rest ≡ (front ++ y ∷ []) ++ other → x ≡ y
-byte_behind front x y rest other e = first (append_cancel_left front (x ∷ rest) (y ∷ other) (e ∙ append_assoc front (y ∷ []) other))
+byte_behind front x y rest other e =
+    first (append_cancel_left front (x ∷ rest) (y ∷ other) (e ∙ append_assoc front (y ∷ []) other))
   where
     first : x ∷ rest ≡ y ∷ other → x ≡ y
     first e = cc
 
 -- those of the next byte
-pub next_among : (H : List ℕ → List ℕ) (old more : List (List ℕ × List ℕ)) (front : List ℕ) (byte : ℕ) (xs ys : List ChangedPageAt) → AreChangedAmong H old more (GoesBelow front byte) xs → AreChangedAmong H old more (GoesOn (front ++ byte ∷ [])) ys
+pub next_among : (H : List ℕ → List ℕ) (old more : List (List ℕ × List ℕ)) (front : List ℕ) (byte : ℕ)
+    (xs ys : List ChangedPageAt) → AreChangedAmong H old more (GoesBelow front byte) xs
+    → AreChangedAmong H old more (GoesOn (front ++ byte ∷ [])) ys
     → AreChangedAmong H old more (GoesBelow front (byte + 1)) (xs ++ ys)
 next_among H old more front byte xs ys one two = record {
-  each = All-append (λ c. GoesBelow front (byte + 1) c.prefix × ChangesAt H old more c.prefix × (c ≡ page_at H (old ++ more) c.prefix)) xs ys
+  each = All-append (λ c. GoesBelow front (byte + 1) c.prefix × ChangesAt H old more c.prefix
+      × (c ≡ page_at H (old ++ more) c.prefix)) xs ys
       (λ i d lt. let h = one.each i d lt in ((h.0.0, h.0.1, below h.0.2, h.0.3), h.1, h.2))
-      (λ i d lt. let h = two.each i d lt in ((byte, h.0.0, omega arith, h.0.1 ∙ append_assoc front (byte ∷ []) h.0.0), h.1, h.2));
+      (λ i d lt. let h = two.each i d lt in (
+        (byte, h.0.0, omega arith, h.0.1 ∙ append_assoc front (byte ∷ []) h.0.0),
+        h.1,
+        h.2,
+      ));
   all = all;
   once = AllPairs-append (λ c d. c.prefix ≢ d.prefix) xs ys one.once two.once (λ i j d lt within e.
       let h = one.each i d lt in
@@ -62,41 +72,58 @@ next_among H old more front byte xs ys one two = record {
     below : {n : ℕ} → n < byte → n < byte + 1
     below h = omega arith
 
-    all : (prefix : List ℕ) → GoesBelow front (byte + 1) prefix → ChangesAt H old more prefix → Contains (xs ++ ys) (page_at H (old ++ more) prefix)
+    all : (prefix : List ℕ) → GoesBelow front (byte + 1) prefix → ChangesAt H old more prefix
+        → Contains (xs ++ ys) (page_at H (old ++ more) prefix)
     all prefix kind changes = elim (cases_lt kind.0 byte) [
       | inl low ↦ Contains-append_left xs ys _ (one.all prefix (kind.0, kind.1, low, kind.3) changes)
       | inr high ↦
           let lt = kind.2 in
           let same : kind.0 ≡ byte = omega arith in
-          Contains-append_right xs ys _ (two.all prefix (kind.1, kind.3 ∙ ap (λ n. front ++ n ∷ kind.1) same ∙ sym (append_assoc front (byte ∷ []) kind.1)) changes)
+          Contains-append_right xs ys _ (two.all prefix (
+            kind.1,
+            kind.3 ∙ ap (λ n. front ++ n ∷ kind.1) same
+                ∙ sym (append_assoc front (byte ∷ []) kind.1),
+          ) changes)
     ]
 
 -- and the page at the prefix itself
-pub whole_among : (H : List ℕ → List ℕ) (old more : List (List ℕ × List ℕ)) (front : List ℕ) (xs : List ChangedPageAt) → AreChangedAmong H old more (GoesBelow front 256) xs → ChangesAt H old more front
+pub whole_among : (H : List ℕ → List ℕ) (old more : List (List ℕ × List ℕ)) (front : List ℕ) (xs : List ChangedPageAt)
+    → AreChangedAmong H old more (GoesBelow front 256) xs → ChangesAt H old more front
     → AreChangedAmong H old more (GoesOn front) (xs ++ page_at H (old ++ more) front ∷ [])
 whole_among H old more front xs below here = record {
-  each = All-append (λ c. GoesOn front c.prefix × ChangesAt H old more c.prefix × (c ≡ page_at H (old ++ more) c.prefix)) xs (page_at H (old ++ more) front ∷ [])
+  each = All-append (λ c. GoesOn front c.prefix × ChangesAt H old more c.prefix
+      × (c ≡ page_at H (old ++ more) c.prefix)) xs (page_at H (old ++ more) front ∷ [])
       (λ i d lt. let h = below.each i d lt in ((h.0.0 ∷ h.0.1, h.0.3), h.1, h.2))
-      (All-cons (λ c. GoesOn front c.prefix × ChangesAt H old more c.prefix × (c ≡ page_at H (old ++ more) c.prefix)) (page_at H (old ++ more) front) [] (([], sym (append-nil front)), here, refl) (λ i d lt. absurd (omega arith)));
+      (All-cons (λ c. GoesOn front c.prefix × ChangesAt H old more c.prefix × (c ≡ page_at H (old ++ more) c.prefix))
+      (page_at H (old ++ more) front) [] (([], sym (append-nil front)), here, refl)
+      (λ i d lt. absurd (omega arith)));
   all = λ prefix kind changes. all prefix kind.0 kind.1 changes;
-  once = AllPairs-append (λ c d. c.prefix ≢ d.prefix) xs (page_at H (old ++ more) front ∷ []) below.once (λ i j d lt within. absurd (omega arith)) (λ i j d lt within e.
+  once = AllPairs-append (λ c d. c.prefix ≢ d.prefix) xs (page_at H (old ++ more) front ∷ []) below.once
+      (λ i j d lt within. absurd (omega arith)) (λ i j d lt within e.
       let h = below.each i d lt in
       let at : j ≡ 0 = omega arith in
       longer_one h.0.0 h.0.1 (sym h.0.3 ∙ e ∙ ap (λ n. (get_or (page_at H (old ++ more) front ∷ []) n d).prefix) at));
 }
   where
     longer_one : (b : ℕ) (rest : List ℕ) → ¬ (front ++ b ∷ rest ≡ front)
-    longer_one b rest e = let n : length (front ++ b ∷ rest) ≡ length front = ap length e in let all = length-append front (b ∷ rest) in absurd (omega arith)
+    longer_one b rest e = let n : length (front ++ b ∷ rest) ≡ length front = ap length e in
+        let all = length-append front (b ∷ rest) in absurd (omega arith)
 
-    all : (prefix rest : List ℕ) → prefix ≡ front ++ rest → ChangesAt H old more prefix → Contains (xs ++ page_at H (old ++ more) front ∷ []) (page_at H (old ++ more) prefix)
+    all : (prefix rest : List ℕ) → prefix ≡ front ++ rest → ChangesAt H old more prefix
+        → Contains (xs ++ page_at H (old ++ more) front ∷ []) (page_at H (old ++ more) prefix)
     all prefix [] e changes = let same : prefix ≡ front = e ∙ append-nil front in
-        rw same (Contains-append_right xs (page_at H (old ++ more) front ∷ []) (page_at H (old ++ more) front) (0, omega arith, refl))
+        rw same (Contains-append_right xs (page_at H (old ++ more) front ∷ []) (page_at H (old ++ more) front)
+        (0, omega arith, refl))
     all prefix (b ∷ rest) e changes =
         let byte : b < 256 = byte_at prefix b rest e changes.are_bytes in
         Contains-append_left xs _ _ (below.all prefix (b, rest, byte, e) changes)
       where
-        byte_at : (prefix : List ℕ) (b : ℕ) (rest : List ℕ) → prefix ≡ front ++ b ∷ rest → All (λ n. n < 256) prefix → b < 256
+        byte_at : (prefix : List ℕ) (b : ℕ) (rest : List ℕ) → prefix ≡ front ++ b ∷ rest → All (λ n. n < 256) prefix
+            → b < 256
         byte_at prefix b rest e bytes =
-            let at : get_or prefix (length front) 0 ≡ b = ap (λ l. get_or l (length front) 0) e ∙ get_or-append_right front (b ∷ rest) (length front) (length front) 0 refl (omega arith) ∙ ap (λ n. get_or (b ∷ rest) n 0) (let z : length front - length front ≡ 0 = omega arith in z) in
-            let size : length prefix ≡ length front + suc (length rest) = ap length e ∙ length-append front (b ∷ rest) in
+            let at : get_or prefix (length front) 0 ≡ b = ap (λ l. get_or l (length front) 0) e
+            ∙ get_or-append_right front (b ∷ rest) (length front) (length front) 0 refl (omega arith)
+            ∙ ap (λ n. get_or (b ∷ rest) n 0) (let z : length front - length front ≡ 0 = omega arith in z) in
+            let size : length prefix ≡ length front + suc (length rest) = ap length e
+            ∙ length-append front (b ∷ rest) in
             let h = bytes (length front) 0 (omega arith) in omega arith

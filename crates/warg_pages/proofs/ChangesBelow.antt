@@ -45,12 +45,16 @@ put_by H number e = record { key = H e.0; leaf = leaf_digest H e.1; version = nu
 abbrev pub later_change : (List ℕ → List ℕ) → List Bool → ℕ → List (List ℕ × List ℕ) → Option ChangeAt
 later_change H p n es = option_map (put_by H (n + last_place (is_below H p) es)) (last_with (is_below H p) es)
 
-pub last_change : (H : List ℕ → List ℕ) (p : List Bool) (n : ℕ) (es : List (List ℕ × List ℕ)) → last_of (changes_below H n es p) ≡ later_change H p n es
+pub last_change : (H : List ℕ → List ℕ) (p : List Bool) (n : ℕ) (es : List (List ℕ × List ℕ))
+    → last_of (changes_below H n es p) ≡ later_change H p n es
 unfolding last_with last_place
 last_change H p n [] = refl
-last_change H p n (x ∷ es) = step (is_below H p x) (last_change H p (n + 1) es) ∙ both (is_below H p x) (last_with (is_below H p) es) refl
+last_change H p n (x ∷ es) = step (is_below H p x) (last_change H p (n + 1) es)
+    ∙ both (is_below H p x) (last_with (is_below H p) es) refl
   where
-    step : (b : Bool) → last_of (changes_below H (n + 1) es p) ≡ later_change H p (n + 1) es → last_of (cond b (put_by H (n + 1) x ∷ changes_below H (n + 1) es p) (changes_below H (n + 1) es p)) ≡ option_or (later_change H p (n + 1) es) (cond b (Some (put_by H (n + 1) x)) None)
+    step : (b : Bool) → last_of (changes_below H (n + 1) es p) ≡ later_change H p (n + 1) es
+        → last_of (cond b (put_by H (n + 1) x ∷ changes_below H (n + 1) es p) (changes_below H (n + 1) es p))
+        ≡ option_or (later_change H p (n + 1) es) (cond b (Some (put_by H (n + 1) x)) None)
     step true h = ap (λ o. option_or o (Some (put_by H (n + 1) x))) h
     step false h = h ∙ nothing (later_change H p (n + 1) es)
       where
@@ -59,46 +63,63 @@ last_change H p n (x ∷ es) = step (is_below H p x) (last_change H p (n + 1) es
         nothing (Some c) = refl
 
     both : (b : Bool) (o : Option (List ℕ × List ℕ)) → last_with (is_below H p) es ≡ o
-        → option_or (later_change H p (n + 1) es) (cond b (Some (put_by H (n + 1) x)) None) ≡ option_map (put_by H (n + cond (eqb (last_place (is_below H p) es) 0) (cond b 1 0) (suc (last_place (is_below H p) es)))) (option_or (last_with (is_below H p) es) (cond b (Some x) None))
+        → option_or (later_change H p (n + 1) es) (cond b (Some (put_by H (n + 1) x)) None)
+        ≡ option_map (put_by H (n + cond (eqb (last_place (is_below H p) es) 0) (cond b 1 0)
+        (suc (last_place (is_below H p) es)))) (option_or (last_with (is_below H p) es) (cond b (Some x) None))
     both true None e = let z = last_place-none (is_below H p) es e in rw (e, z) refl
     both false None e = rw (e) refl
     both b (Some y) e =
         let some = some_version (is_below H p) es y e in
-        let no : eqb (last_place (is_below H p) es) 0 ≡ false = false_from_ne_true _ (λ t. let z = eqb-true (last_place (is_below H p) es) 0 t in omega arith) in
+        let no : eqb (last_place (is_below H p) es) 0 ≡ false = false_from_ne_true _
+        (λ t. let z = eqb-true (last_place (is_below H p) es) 0 t in omega arith) in
         let number : n + 1 + last_place (is_below H p) es ≡ n + suc (last_place (is_below H p) es) = omega arith in
         rw (e, no, number) refl
 
 -- where they are of one key, all insertions below the prefix are
-pub all_of_key : (H : List ℕ → List ℕ) (p : List Bool) (n : ℕ) (key : List ℕ) (es : List (List ℕ × List ℕ)) → All (λ c. c.key ≡ key) (changes_below H n es p) → list_all (λ f. not (is_below H p f) || same_bits (last_bits key 256) (key_bits H f.0)) es ≡ true
+pub all_of_key : (H : List ℕ → List ℕ) (p : List Bool) (n : ℕ) (key : List ℕ) (es : List (List ℕ × List ℕ))
+    → All (λ c. c.key ≡ key) (changes_below H n es p)
+    → list_all (λ f. not (is_below H p f) || same_bits (last_bits key 256) (key_bits H f.0)) es ≡ true
 all_of_key H p n key [] all = refl
 all_of_key H p n key (x ∷ es) all = either (is_below H p x) (all_of_key H p (n + 1) key es) all
   where
-    either : (b : Bool) → (All (λ c. c.key ≡ key) (changes_below H (n + 1) es p) → list_all (λ f. not (is_below H p f) || same_bits (last_bits key 256) (key_bits H f.0)) es ≡ true)
-        → All (λ c. c.key ≡ key) (cond b (put_by H (n + 1) x ∷ changes_below H (n + 1) es p) (changes_below H (n + 1) es p))
-        → ((not b || same_bits (last_bits key 256) (key_bits H x.0)) && list_all (λ f. not (is_below H p f) || same_bits (last_bits key 256) (key_bits H f.0)) es) ≡ true
+    either : (b : Bool) → (All (λ c. c.key ≡ key) (changes_below H (n + 1) es p)
+        → list_all (λ f. not (is_below H p f) || same_bits (last_bits key 256) (key_bits H f.0)) es ≡ true)
+        → All (λ c. c.key ≡ key) (cond b (put_by H (n + 1) x ∷ changes_below H (n + 1) es p)
+        (changes_below H (n + 1) es p))
+        → ((not b || same_bits (last_bits key 256) (key_bits H x.0)) && list_all
+        (λ f. not (is_below H p f) || same_bits (last_bits key 256) (key_bits H f.0)) es) ≡ true
     either true more all =
         let here : H x.0 ≡ key = all 0 (put_by H (n + 1) x) (omega arith) in
-        let same : same_bits (last_bits key 256) (key_bits H x.0) ≡ true = ap (λ k. same_bits (last_bits key 256) (last_bits k 256)) here ∙ same_bits-itself (last_bits key 256) in
+        let same : same_bits (last_bits key 256) (key_bits H x.0) ≡ true =
+        ap (λ k. same_bits (last_bits key 256) (last_bits k 256)) here ∙ same_bits-itself (last_bits key 256) in
         rw (same, more (λ i d lt. all (suc i) d (omega arith))) refl
     either false more all = more all
 
-pub all_one_key : (H : List ℕ → List ℕ) → GivesHashes H → (p : List Bool) (n : ℕ) (e : List ℕ × List ℕ) (es : List (List ℕ × List ℕ)) → list_all (λ f. not (is_below H p f) || same_bits (key_bits H e.0) (key_bits H f.0)) es ≡ true → All (λ c. c.key ≡ H e.0) (changes_below H n es p)
+pub all_one_key : (H : List ℕ → List ℕ) → GivesHashes H → (p : List Bool) (n : ℕ) (e : List ℕ × List ℕ)
+    (es : List (List ℕ × List ℕ)) → list_all (λ f. not (is_below H p f) || same_bits (key_bits H e.0) (key_bits H f.0))
+    es ≡ true → All (λ c. c.key ≡ H e.0) (changes_below H n es p)
 all_one_key H gives p n e [] all = All-nil (λ (c : ChangeAt). c.key ≡ H e.0)
 all_one_key H gives p n e (x ∷ es) all =
     let parts = and_parts (not (is_below H p x) || same_bits (key_bits H e.0) (key_bits H x.0)) _ all in
     either (is_below H p x) parts.0 (all_one_key H gives p (n + 1) e es parts.1)
   where
-    either : (b : Bool) → (not b || same_bits (key_bits H e.0) (key_bits H x.0)) ≡ true → All (λ c. c.key ≡ H e.0) (changes_below H (n + 1) es p)
-        → All (λ c. c.key ≡ H e.0) (cond b (put_by H (n + 1) x ∷ changes_below H (n + 1) es p) (changes_below H (n + 1) es p))
-    either true t rest = All-cons (λ (c : ChangeAt). c.key ≡ H e.0) (put_by H (n + 1) x) _ (sym (same_digest H e.0 x.0 (gives _) (gives _) (same_bits-true (key_bits H e.0) (key_bits H x.0) t))) rest
+    either : (b : Bool) → (not b || same_bits (key_bits H e.0) (key_bits H x.0)) ≡ true
+        → All (λ c. c.key ≡ H e.0) (changes_below H (n + 1) es p)
+        → All (λ c. c.key ≡ H e.0) (cond b (put_by H (n + 1) x ∷ changes_below H (n + 1) es p)
+        (changes_below H (n + 1) es p))
+    either true t rest = All-cons (λ (c : ChangeAt). c.key ≡ H e.0) (put_by H (n + 1) x) _
+        (sym (same_digest H e.0 x.0 (gives _) (gives _) (same_bits-true (key_bits H e.0) (key_bits H x.0) t))) rest
     either false t rest = rest
 
 -- a byte more
-pub filtered_again : {X : Type 0} (p q r : X → Bool) → (xs : List X) → All (λ x. r x ≡ (p x && q x)) xs → filter r xs ≡ filter q (filter p xs)
+pub filtered_again : {X : Type 0} (p q r : X → Bool) → (xs : List X) → All (λ x. r x ≡ (p x && q x)) xs
+    → filter r xs ≡ filter q (filter p xs)
 filtered_again p q r [] h = refl
-filtered_again {X = X} p q r (x ∷ xs) h = either (r x) (p x) (q x) (filtered_again p q r xs (λ i d lt. h (suc i) d (omega arith))) (h 0 x (omega arith)) refl
+filtered_again {X = X} p q r (x ∷ xs) h = either (r x) (p x) (q x)
+    (filtered_again p q r xs (λ i d lt. h (suc i) d (omega arith))) (h 0 x (omega arith)) refl
   where
-    either : (c a b : Bool) → filter r xs ≡ filter q (filter p xs) → c ≡ (a && b) → q x ≡ b → cond c (x ∷ filter r xs) (filter r xs) ≡ filter q (cond a (x ∷ filter p xs) (filter p xs))
+    either : (c a b : Bool) → filter r xs ≡ filter q (filter p xs) → c ≡ (a && b) → q x ≡ b
+        → cond c (x ∷ filter r xs) (filter r xs) ≡ filter q (cond a (x ∷ filter p xs) (filter p xs))
     either c true true rest e is = rw (e, is) (ap (λ t. x ∷ t) rest)
     either c true false rest e is = rw (e, is) rest
     either c false b rest e is = rw e rest

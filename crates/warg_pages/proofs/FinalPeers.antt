@@ -31,25 +31,35 @@ abbrev pub lone_peer : (List ℕ → List ℕ) → List (Option (List ℕ)) → 
 lone_peer H [] = Some (empty_root H 255) ∷ []
 lone_peer H (o ∷ os) = []
 
-pub filled_from-push : (H : List ℕ → List ℕ) (at : ℕ) (os : List (Option (List ℕ))) (o : Option (List ℕ)) → filled_from H at (os ++ o ∷ []) ≡ filled_from H at os ++ Some (unwrap_or o (empty_root H (255 - (at + length os)))) ∷ []
-filled_from-push H at [] o = let none : at + 0 ≡ at = omega arith in ap (λ n. Some (unwrap_or o (empty_root H (255 - n))) ∷ []) (sym none)
+pub filled_from-push : (H : List ℕ → List ℕ) (at : ℕ) (os : List (Option (List ℕ))) (o : Option (List ℕ))
+    → filled_from H at (os ++ o ∷ []) ≡ filled_from H at os ++ Some
+    (unwrap_or o (empty_root H (255 - (at + length os)))) ∷ []
+filled_from-push H at [] o = let none : at + 0 ≡ at = omega arith in
+    ap (λ n. Some (unwrap_or o (empty_root H (255 - n))) ∷ []) (sym none)
 filled_from-push H at (p ∷ os) o =
     let more : at + 1 + length os ≡ at + suc (length os) = omega arith in
-    ap (λ t. Some (unwrap_or p (empty_root H (255 - at))) ∷ t) (filled_from-push H (at + 1) os o ∙ ap (λ n. filled_from H (at + 1) os ++ Some (unwrap_or o (empty_root H (255 - n))) ∷ []) more)
+    ap (λ t. Some (unwrap_or p (empty_root H (255 - at))) ∷ t) (filled_from-push H (at + 1) os o
+    ∙ ap (λ n. filled_from H (at + 1) os ++ Some (unwrap_or o (empty_root H (255 - n))) ∷ []) more)
 
-pub lone_peer-some : (H : List ℕ → List ℕ) (os : List (Option (List ℕ))) → lone_peer H os ++ filled_from H 0 os ≡ presence_peers H os
+pub lone_peer-some : (H : List ℕ → List ℕ) (os : List (Option (List ℕ))) → lone_peer H os ++ filled_from H 0 os
+    ≡ presence_peers H os
 lone_peer-some H [] = refl
 lone_peer-some H (o ∷ os) = refl
 
-length-filled_from : (H : List ℕ → List ℕ) (at : ℕ) (os : List (Option (List ℕ))) → length (filled_from H at os) ≡ length os
+length-filled_from : (H : List ℕ → List ℕ) (at : ℕ) (os : List (Option (List ℕ))) → length (filled_from H at os)
+    ≡ length os
 length-filled_from H at [] = refl
 length-filled_from H at (o ∷ os) = ap suc (length-filled_from H (at + 1) os)
 
-filled_peer : (H : List ℕ → List ℕ) (k n : ℕ) (held : List Bool → Option (List ℕ)) (o : Option (List ℕ)) → n ≡ k → IsPeer H None k held o → IsPeer H (Some (empty_root H k)) k held (Some (unwrap_or o (empty_root H n)))
-filled_peer H k n held o e (inl none) = inl (ap Some (ap (λ t. unwrap_or t (empty_root H n)) none.0 ∙ ap (empty_root H) e), none.1)
+filled_peer : (H : List ℕ → List ℕ) (k n : ℕ) (held : List Bool → Option (List ℕ)) (o : Option (List ℕ)) → n ≡ k
+    → IsPeer H None k held o → IsPeer H (Some (empty_root H k)) k held (Some (unwrap_or o (empty_root H n)))
+filled_peer H k n held o e (inl none) =
+    inl (ap Some (ap (λ t. unwrap_or t (empty_root H n)) none.0 ∙ ap (empty_root H) e), none.1)
 filled_peer H k n held o e (inr some) = inr (ap Some (ap (λ t. unwrap_or t (empty_root H n)) some.0), some.1)
 
-filled_peers : (H : List ℕ → List ℕ) (held : List Bool → Option (List ℕ)) (bits : List Bool) (at : ℕ) (os : List (Option (List ℕ))) → at + length bits ≡ 256 → IsPeers H (λ k. None) held bits os → IsPeers H (λ k. Some (empty_root H k)) held bits (filled_from H at os)
+filled_peers : (H : List ℕ → List ℕ) (held : List Bool → Option (List ℕ)) (bits : List Bool) (at : ℕ)
+    (os : List (Option (List ℕ))) → at + length bits ≡ 256 → IsPeers H (λ k. None) held bits os
+    → IsPeers H (λ k. Some (empty_root H k)) held bits (filled_from H at os)
 unfolding IsPeers
 filled_peers H held bits at [] n h = h
 filled_peers H held [] at (o ∷ os) n h = absurd h
@@ -58,7 +68,8 @@ filled_peers H held (b ∷ bits) at (o ∷ os) n h = (
   filled_peers H (λ q. held (b ∷ q)) bits (at + 1) os (omega arith) h.1,
 )
 
-filled_value : (H : List ℕ → List ℕ) (x : List ℕ) (bits : List Bool) (at : ℕ) (os : List (Option (List ℕ))) → at + length bits ≡ 256 → value_above H 0 (filled_from H at os) x bits ≡ value_above H 0 os x bits
+filled_value : (H : List ℕ → List ℕ) (x : List ℕ) (bits : List Bool) (at : ℕ) (os : List (Option (List ℕ)))
+    → at + length bits ≡ 256 → value_above H 0 (filled_from H at os) x bits ≡ value_above H 0 os x bits
 unfolding value_above
 filled_value H x [] at os n = refl
 filled_value H x (b ∷ bits) at [] n = refl
@@ -67,7 +78,9 @@ filled_value H x (b ∷ bits) at (o ∷ os) n =
     rw (filled_value H x bits (at + 1) os (omega arith), height) refl
 
 -- those of a lone key
-lone_ends : (H : List ℕ → List ℕ) (held : List Bool → Option (List ℕ)) (bits : List Bool) → length bits ≡ 256 → IsPeers H (λ k. None) held bits [] → IsPeers H (λ k. Some (empty_root H k)) held bits (Some (empty_root H 255) ∷ [])
+lone_ends : (H : List ℕ → List ℕ) (held : List Bool → Option (List ℕ)) (bits : List Bool) → length bits ≡ 256
+    → IsPeers H (λ k. None) held bits [] → IsPeers H (λ k. Some (empty_root H k)) held bits
+    (Some (empty_root H 255) ∷ [])
 unfolding IsPeers
 lone_ends H held [] n h = absurd (omega arith)
 lone_ends H held (b ∷ bits) n h =
@@ -83,7 +96,8 @@ lone_ends H held (b ∷ bits) n h =
     same : (c : Bool) {q r : List Bool} → c ∷ q ≡ c ∷ r → q ≡ r
     same c e = cc
 
-lone_value : (H : List ℕ → List ℕ) (x : List ℕ) (bits : List Bool) → length bits ≡ 256 → value_above H 0 (Some (empty_root H 255) ∷ []) x bits ≡ value_above H 0 [] x bits
+lone_value : (H : List ℕ → List ℕ) (x : List ℕ) (bits : List Bool) → length bits ≡ 256
+    → value_above H 0 (Some (empty_root H 255) ∷ []) x bits ≡ value_above H 0 [] x bits
 unfolding value_above
 lone_value H x [] n = refl
 lone_value H x (b ∷ bits) n = let height : 255 ≡ length bits + 0 = omega arith in rw (← height) refl
@@ -92,55 +106,79 @@ lone_value H x (b ∷ bits) n = let height : 255 ≡ length bits + 0 = omega ari
 left_is : (os : List (Option (List ℕ))) (n : ℕ) → AreLeft os n → os ≡ take n os ++ replicate (length os - n) None
 left_is os n h = sym (take-append-drop n os) ∙ ap (λ t. take n os ++ t) h.dropped
 
-short_held : (H : List ℕ → List ℕ) (es : List (List ℕ × List ℕ)) (q : List Bool) → ¬ (length q ≡ 256) → get (map_of H es) q ≡ None
-short_held H es q n = last_held H q es ∙ ap (option_map (λ (x : List ℕ × List ℕ). leaf_digest H x.1)) (short_bits H q es n)
+short_held : (H : List ℕ → List ℕ) (es : List (List ℕ × List ℕ)) (q : List Bool) → ¬ (length q ≡ 256)
+    → get (map_of H es) q ≡ None
+short_held H es q n = last_held H q es ∙ ap (option_map (λ (x : List ℕ × List ℕ). leaf_digest H x.1))
+    (short_bits H q es n)
 
-left_peers : (H : List ℕ → List ℕ) (es : List (List ℕ × List ℕ)) (key : List ℕ) (os : List (Option (List ℕ))) (n : ℕ) → AreLeft os n → IsPeers H (λ k. None) (get (map_of H es)) (last_bits key 256) os → IsPeers H (λ k. None) (get (map_of H es)) (last_bits key 256) (take n os)
+left_peers : (H : List ℕ → List ℕ) (es : List (List ℕ × List ℕ)) (key : List ℕ) (os : List (Option (List ℕ))) (n : ℕ)
+    → AreLeft os n → IsPeers H (λ k. None) (get (map_of H es)) (last_bits key 256) os
+    → IsPeers H (λ k. None) (get (map_of H es)) (last_bits key 256) (take n os)
 left_peers H es key os n h p =
-    trimmed_peers H (get (map_of H es)) (last_bits key 256) (take n os) (length os - n) (λ q m. short_held H es q (λ e. m (e ∙ sym (length-last_bits key 256)))) (rw (left_is os n h) at p)
+    trimmed_peers H (get (map_of H es)) (last_bits key 256) (take n os) (length os - n)
+    (λ q m. short_held H es q (λ e. m (e ∙ sym (length-last_bits key 256)))) (rw (left_is os n h) at p)
 
-left_value : (H : List ℕ → List ℕ) (x : List ℕ) (bits : List Bool) (os : List (Option (List ℕ))) (n : ℕ) → AreLeft os n → value_above H 0 (take n os) x bits ≡ value_above H 0 os x bits
-left_value H x bits os n h = sym (trimmed_value H x bits (take n os) (length os - n)) ∙ ap (λ t. value_above H 0 t x bits) (sym (left_is os n h))
+left_value : (H : List ℕ → List ℕ) (x : List ℕ) (bits : List Bool) (os : List (Option (List ℕ))) (n : ℕ) → AreLeft os n
+    → value_above H 0 (take n os) x bits ≡ value_above H 0 os x bits
+left_value H x bits os n h = sym (trimmed_value H x bits (take n os) (length os - n))
+    ∙ ap (λ t. value_above H 0 t x bits) (sym (left_is os n h))
 
-left_count : (H : List ℕ → List ℕ) (m : SparseMap) (bits : List Bool) (os : List (Option (List ℕ))) → IsPeers H (λ k. None) (get m) bits os → (os ≡ []) ⊎ EndsInSome os → IsPeerCount 0 m bits (length os)
+left_count : (H : List ℕ → List ℕ) (m : SparseMap) (bits : List Bool) (os : List (Option (List ℕ)))
+    → IsPeers H (λ k. None) (get m) bits os → (os ≡ []) ⊎ EndsInSome os → IsPeerCount 0 m bits (length os)
 left_count H m bits os p (inl none) = rw none (no_count H m bits 0 (rw none at p))
 left_count H m bits os p (inr some) = some_count H m bits os 0 p some
 
-presence_count : (H : List ℕ → List ℕ) (m : SparseMap) (bits : List Bool) (os : List (Option (List ℕ))) → IsPeers H (λ k. None) (get m) bits os → (os ≡ []) ⊎ EndsInSome os → IsPeerCount 1 m bits (length (presence_peers H os))
+presence_count : (H : List ℕ → List ℕ) (m : SparseMap) (bits : List Bool) (os : List (Option (List ℕ)))
+    → IsPeers H (λ k. None) (get m) bits os → (os ≡ []) ⊎ EndsInSome os
+    → IsPeerCount 1 m bits (length (presence_peers H os))
 presence_count H m bits [] p ends = no_count H m bits 1 p
 presence_count H m bits (o ∷ os) p (inl none) = absurd (cc none)
 presence_count H m bits (o ∷ os) p (inr some) = rw (length-filled_from H 1 os) (some_count H m bits (o ∷ os) 1 p some)
 
-presence_are : (H : List ℕ → List ℕ) (held : List Bool → Option (List ℕ)) (bits : List Bool) (os : List (Option (List ℕ))) → length bits ≡ 256 → IsPeers H (λ k. None) held bits os → IsPeers H (λ k. Some (empty_root H k)) held bits (presence_peers H os)
+presence_are : (H : List ℕ → List ℕ) (held : List Bool → Option (List ℕ)) (bits : List Bool)
+    (os : List (Option (List ℕ))) → length bits ≡ 256 → IsPeers H (λ k. None) held bits os
+    → IsPeers H (λ k. Some (empty_root H k)) held bits (presence_peers H os)
 presence_are H held bits [] n p = lone_ends H held bits n p
 presence_are H held bits (o ∷ os) n p = filled_peers H held bits 0 (o ∷ os) (omega arith) p
 
-presence_value : (H : List ℕ → List ℕ) (x : List ℕ) (bits : List Bool) (os : List (Option (List ℕ))) → length bits ≡ 256 → value_above H 0 (presence_peers H os) x bits ≡ value_above H 0 os x bits
+presence_value : (H : List ℕ → List ℕ) (x : List ℕ) (bits : List Bool) (os : List (Option (List ℕ))) → length bits ≡ 256
+    → value_above H 0 (presence_peers H os) x bits ≡ value_above H 0 os x bits
 presence_value H x bits [] n = lone_value H x bits n
 presence_value H x bits (o ∷ os) n = filled_value H x bits 0 (o ∷ os) (omega arith)
 
-presence_few : (H : List ℕ → List ℕ) (os : List (Option (List ℕ))) → length os ≤ 256 → length (presence_peers H os) ≤ 256
+presence_few : (H : List ℕ → List ℕ) (os : List (Option (List ℕ))) → length os ≤ 256
+    → length (presence_peers H os) ≤ 256
 presence_few H [] le = omega arith
 presence_few H (o ∷ os) le = let n = length-filled_from H 0 (o ∷ os) in omega arith
 
 -- the proof of presence
-pub held_proof : (H : List ℕ → List ℕ) (es : List (List ℕ × List ℕ)) (key leaf : List ℕ) (os : List (Option (List ℕ))) (n : ℕ) → AreLeft os n → IsPeers H (λ k. None) (get (map_of H es)) (last_bits key 256) os → get (map_of H es) (last_bits key 256) ≡ Some leaf
+pub held_proof : (H : List ℕ → List ℕ) (es : List (List ℕ × List ℕ)) (key leaf : List ℕ) (os : List (Option (List ℕ)))
+    (n : ℕ) → AreLeft os n → IsPeers H (λ k. None) (get (map_of H es)) (last_bits key 256) os
+    → get (map_of H es) (last_bits key 256) ≡ Some leaf
     → Proves H 256 (map_of H es) (last_bits key 256) (reverse (presence_peers H (take n os)))
 held_proof H es key leaf os n h p held =
     let left = left_peers H es key os n h p in record {
       held = ap is_some held;
-      peers_from_top = rw (reverse-reverse (presence_peers H (take n os))) (presence_are H (get (map_of H es)) (last_bits key 256) (take n os) (length-last_bits key 256) left);
-      count = rw (length-reverse (presence_peers H (take n os))) (presence_count H (map_of H es) (last_bits key 256) (take n os) left h.ends);
+      peers_from_top = rw (reverse-reverse (presence_peers H (take n os)))
+          (presence_are H (get (map_of H es)) (last_bits key 256) (take n os) (length-last_bits key 256) left);
+      count = rw (length-reverse (presence_peers H (take n os)))
+          (presence_count H (map_of H es) (last_bits key 256) (take n os) left h.ends);
     }
 
-pub held_leads : (H : List ℕ → List ℕ) (key leaf root : List ℕ) (os : List (Option (List ℕ))) (n : ℕ) → AreLeft os n → length os ≤ 256 → value_above H 0 os leaf (last_bits key 256) ≡ root → proof_value H (reverse (presence_peers H (take n os))) leaf (last_bits key 256) ≡ root
+pub held_leads : (H : List ℕ → List ℕ) (key leaf root : List ℕ) (os : List (Option (List ℕ))) (n : ℕ) → AreLeft os n
+    → length os ≤ 256 → value_above H 0 os leaf (last_bits key 256) ≡ root
+    → proof_value H (reverse (presence_peers H (take n os))) leaf (last_bits key 256) ≡ root
 held_leads H key leaf root os n h few leads =
     let size : length (take n os) ≤ 256 = let all = length-take n os in omega arith in
-    reversed_value H (presence_peers H (take n os)) leaf (last_bits key 256) (length-last_bits key 256) (presence_few H (take n os) size)
-    ∙ presence_value H leaf (last_bits key 256) (take n os) (length-last_bits key 256) ∙ left_value H leaf (last_bits key 256) os n h ∙ leads
+    reversed_value H (presence_peers H (take n os)) leaf (last_bits key 256) (length-last_bits key 256)
+    (presence_few H (take n os) size)
+    ∙ presence_value H leaf (last_bits key 256) (take n os) (length-last_bits key 256)
+    ∙ left_value H leaf (last_bits key 256) os n h ∙ leads
 
 -- and of absence
-pub absent_proof : (H : List ℕ → List ℕ) (es : List (List ℕ × List ℕ)) (key : List ℕ) (os : List (Option (List ℕ))) (n : ℕ) → AreLeft os n → IsPeers H (λ k. None) (get (map_of H es)) (last_bits key 256) os → get (map_of H es) (last_bits key 256) ≡ None
+pub absent_proof : (H : List ℕ → List ℕ) (es : List (List ℕ × List ℕ)) (key : List ℕ) (os : List (Option (List ℕ)))
+    (n : ℕ) → AreLeft os n → IsPeers H (λ k. None) (get (map_of H es)) (last_bits key 256) os
+    → get (map_of H es) (last_bits key 256) ≡ None
     → ProvesAbsent H (map_of H es) (last_bits key 256) (reverse (take n os))
 absent_proof H es key os n h p none =
     let left = left_peers H es key os n h p in record {
@@ -149,13 +187,17 @@ absent_proof H es key os n h p none =
       count = rw (length-reverse (take n os)) (left_count H (map_of H es) (last_bits key 256) (take n os) left h.ends);
     }
 
-pub absent_leads : (H : List ℕ → List ℕ) (key x root : List ℕ) (os : List (Option (List ℕ))) (n : ℕ) → AreLeft os n → length os ≤ 256 → value_above H 0 os x (last_bits key 256) ≡ root → proof_value H (reverse (take n os)) x (last_bits key 256) ≡ root
+pub absent_leads : (H : List ℕ → List ℕ) (key x root : List ℕ) (os : List (Option (List ℕ))) (n : ℕ) → AreLeft os n
+    → length os ≤ 256 → value_above H 0 os x (last_bits key 256) ≡ root
+    → proof_value H (reverse (take n os)) x (last_bits key 256) ≡ root
 absent_leads H key x root os n h few leads =
     let size : length (take n os) ≤ 256 = let all = length-take n os in omega arith in
-    reversed_value H (take n os) x (last_bits key 256) (length-last_bits key 256) size ∙ left_value H x (last_bits key 256) os n h ∙ leads
+    reversed_value H (take n os) x (last_bits key 256) (length-last_bits key 256) size
+    ∙ left_value H x (last_bits key 256) os n h ∙ leads
 
 -- the way from the root, where there are insertions
-pub last_of_all : (H : List ℕ → List ℕ) (e : List ℕ × List ℕ) (es : List (List ℕ × List ℕ)) → stands_over H (e ∷ es) [] (last_with (is_below H []) (e ∷ es)) ≡ true
+pub last_of_all : (H : List ℕ → List ℕ) (e : List ℕ × List ℕ) (es : List (List ℕ × List ℕ))
+    → stands_over H (e ∷ es) [] (last_with (is_below H []) (e ∷ es)) ≡ true
 unfolding last_with
 last_of_all H e es = by_last (last_with (is_below H []) es)
   where
@@ -170,13 +212,16 @@ version_of_all H (e ∷ es) = rw (version_of_all H es) (more (length es))
   where
     more : (n : ℕ) → cond (eqb n 0) 1 (suc n) ≡ suc n
     more zero = refl
-    more (suc n) = let some : eqb (suc n) 0 ≡ false = false_from_ne_true _ (λ e. let z = eqb-true (suc n) 0 e in omega arith) in cond-false _ _ _ some
+    more (suc n) = let some : eqb (suc n) 0 ≡ false = false_from_ne_true _ (λ e. let z = eqb-true (suc n) 0 e in
+        omega arith) in cond-false _ _ _ some
 
 no_bits : (key : List ℕ) → bits_from key 0 0 ≡ []
 unfolding bits_from
 no_bits key = refl
 
-pub own_at_root : (H : List ℕ → List ℕ) (bytes_at : List ℕ → ℕ → Option (List ℕ)) (root key : List ℕ) (count : ℕ) (es : List (List ℕ × List ℕ)) → count < 2 ^ 64 → ¬ (count ≡ 0) → IsOwnSource H bytes_at root count es → IsOwnAt H bytes_at key 0 root count es
+pub own_at_root : (H : List ℕ → List ℕ) (bytes_at : List ℕ → ℕ → Option (List ℕ)) (root key : List ℕ) (count : ℕ)
+    (es : List (List ℕ × List ℕ)) → count < 2 ^ 64 → ¬ (count ≡ 0) → IsOwnSource H bytes_at root count es
+    → IsOwnAt H bytes_at key 0 root count es
 own_at_root H bytes_at root key count es fits some own = record {
   pages = own.pages;
   fits = (let all = own.all in omega arith);
@@ -189,36 +234,56 @@ own_at_root H bytes_at root key count es fits some own = record {
     there [] n = absurd (some (sym n))
     there (e ∷ es) n = last_of_all H e es
 
-pub whole_way : (H : List ℕ → List ℕ) (bytes_at : List ℕ → ℕ → Option (List ℕ)) (root key : List ℕ) (count : ℕ) (os more : List (Option (List ℕ))) (held : Option (ℕ × List ℕ)) → count < 2 ^ 64 → ¬ (count ≡ 0) → os ≡ more → IsWayDown H bytes_at key 0 root count more held → IsWholeWay H bytes_at root count key os held
+pub whole_way : (H : List ℕ → List ℕ) (bytes_at : List ℕ → ℕ → Option (List ℕ)) (root key : List ℕ) (count : ℕ)
+    (os more : List (Option (List ℕ))) (held : Option (ℕ × List ℕ)) → count < 2 ^ 64 → ¬ (count ≡ 0) → os ≡ more
+    → IsWayDown H bytes_at key 0 root count more held → IsWholeWay H bytes_at root count key os held
 whole_way H bytes_at root key count os more held fits some e way = rw e record {
   few = way.few;
   leads = way.leads;
-  own = λ es own. let own_way = way.own es (own_at_root H bytes_at root key count es fits some own) in (at_root es own_way.are_peers, own_way.is_leaf, own_way.is_index);
+  own = λ es own. let own_way = way.own es (own_at_root H bytes_at root key count es fits some own) in
+      (at_root es own_way.are_peers, own_way.is_leaf, own_way.is_index);
 }
   where
-    at_root : (es : List (List ℕ × List ℕ)) → IsPeers H (λ k. None) (below (map_of H es) (bits_from key 0 0)) (last_bits key 256) more → IsPeers H (λ k. None) (get (map_of H es)) (last_bits key 256) more
-    at_root es h = let P : List Bool → Type 0 = λ p. IsPeers H (λ k. None) (below (map_of H es) p) (last_bits key 256) more in subst P (no_bits key) h
+    at_root : (es : List (List ℕ × List ℕ)) → IsPeers H (λ k. None) (below (map_of H es) (bits_from key 0 0))
+        (last_bits key 256) more → IsPeers H (λ k. None) (get (map_of H es)) (last_bits key 256) more
+    at_root es h = let P : List Bool → Type 0 = λ p. IsPeers H (λ k. None) (below (map_of H es) p)
+        (last_bits key 256) more in subst P (no_bits key) h
 
 -- where there are none
-pub nothing_held : (H : List ℕ → List ℕ) (es : List (List ℕ × List ℕ)) → length es ≡ 0 → (q : List Bool) → get (map_of H es) q ≡ None
+pub nothing_held : (H : List ℕ → List ℕ) (es : List (List ℕ × List ℕ)) → length es ≡ 0 → (q : List Bool)
+    → get (map_of H es) q ≡ None
 unfolding last_with
 nothing_held H [] n q = last_held H q []
 nothing_held H (e ∷ es) n q = absurd (omega arith)
 
-pub empty_way : (H : List ℕ → List ℕ) (bytes_at : List ℕ → ℕ → Option (List ℕ)) (root key : List ℕ) (count : ℕ) (os : List (Option (List ℕ))) → count ≡ 0 → os ≡ [] → root ≡ empty_root H 256 → IsWholeWay H bytes_at root count key os None
+pub empty_way : (H : List ℕ → List ℕ) (bytes_at : List ℕ → ℕ → Option (List ℕ)) (root key : List ℕ) (count : ℕ)
+    (os : List (Option (List ℕ))) → count ≡ 0 → os ≡ [] → root ≡ empty_root H 256
+    → IsWholeWay H bytes_at root count key os None
 empty_way H bytes_at root key count os z e empty = rw e record {
   few = omega arith;
   leads = nothing_value H key 256 ∙ sym empty;
-  own = λ es own. (nothing_end H (get (map_of H es)) (last_bits key 256) (nothing_held H es (own.all ∙ z)), nothing_held H es (own.all ∙ z) (last_bits key 256), tt);
+  own = λ es own. (
+    nothing_end H (get (map_of H es)) (last_bits key 256) (nothing_held H es (own.all ∙ z)),
+    nothing_held H es (own.all ∙ z) (last_bits key 256),
+    tt,
+  );
 }
 
-pub no_empty_way : (H : List ℕ → List ℕ) (bytes_at : List ℕ → ℕ → Option (List ℕ)) (root : List ℕ) (count : ℕ) (es : List (List ℕ × List ℕ)) → count ≡ 0 → ¬ (root ≡ empty_root H 256) → IsOwnSource H bytes_at root count es → ⊥
-no_empty_way H bytes_at root count es z other own = other (own.is_root ∙ root-same H 256 (get (map_of H es)) (λ q. None) (nothing_held H es (own.all ∙ z)) ∙ root-nothing H 256)
+pub no_empty_way : (H : List ℕ → List ℕ) (bytes_at : List ℕ → ℕ → Option (List ℕ)) (root : List ℕ) (count : ℕ)
+    (es : List (List ℕ × List ℕ)) → count ≡ 0 → ¬ (root ≡ empty_root H 256) → IsOwnSource H bytes_at root count es → ⊥
+no_empty_way H bytes_at root count es z other own =
+    other (own.is_root ∙ root-same H 256 (get (map_of H es)) (λ q. None) (nothing_held H es (own.all ∙ z))
+    ∙ root-nothing H 256)
 
 -- a peer more is filled
-pub presence_more : (H : List ℕ → List ℕ) (os : List (Option (List ℕ))) (at : ℕ) (o : Option (List ℕ)) → at < length os → o ≡ get_or os at o
-    → (lone_peer H os ++ filled_from H 0 (take at os)) ++ Some (unwrap_or o (empty_root H (255 - at))) ∷ [] ≡ lone_peer H os ++ filled_from H 0 (take (at + 1) os)
+pub presence_more : (H : List ℕ → List ℕ) (os : List (Option (List ℕ))) (at : ℕ) (o : Option (List ℕ)) → at < length os
+    → o ≡ get_or os at o
+    → (lone_peer H os ++ filled_from H 0 (take at os)) ++ Some (unwrap_or o (empty_root H (255 - at))) ∷ []
+    ≡ lone_peer H os ++ filled_from H 0 (take (at + 1) os)
 presence_more H os at o lt is =
     let size : 0 + length (take at os) ≡ at = let all = length-take at os in omega arith in
     append_assoc (lone_peer H os) (filled_from H 0 (take at os)) (Some (unwrap_or o (empty_root H (255 - at))) ∷ [])
-    ∙ ap (λ t. lone_peer H os ++ t) (ap (λ n. filled_from H 0 (take at os) ++ Some (unwrap_or o (empty_root H (255 - n))) ∷ []) (sym size) ∙ sym (filled_from-push H 0 (take at os) o) ∙ ap (filled_from H 0) (ap (λ x. take at os ++ x ∷ []) is ∙ sym (take_more os at o lt)))
+    ∙ ap (λ t. lone_peer H os ++ t)
+    (ap (λ n. filled_from H 0 (take at os) ++ Some (unwrap_or o (empty_root H (255 - n))) ∷ []) (sym size)
+    ∙ sym (filled_from-push H 0 (take at os) o)
+    ∙ ap (filled_from H 0) (ap (λ x. take at os ++ x ∷ []) is ∙ sym (take_more os at o lt)))

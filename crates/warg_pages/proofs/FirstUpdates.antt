@@ -29,23 +29,34 @@ no_bits : (k : List ℕ) → bits_from k 0 0 ≡ []
 unfolding bits_from
 no_bits k = refl
 
-own_first_bytes : (H : List ℕ → List ℕ) → GivesHashes H → (bytes_at : List ℕ → ℕ → Option (List ℕ)) (root : List ℕ) (count : ℕ) (es : List (List ℕ × List ℕ)) → count < 2 ^ 64 → ¬ (count ≡ 0) → IsOwnSource H bytes_at root count es → bytes_at [] count ≡ Some (page_bytes (page_of H es []))
+own_first_bytes : (H : List ℕ → List ℕ) → GivesHashes H → (bytes_at : List ℕ → ℕ → Option (List ℕ)) (root : List ℕ)
+    (count : ℕ) (es : List (List ℕ × List ℕ)) → count < 2 ^ 64 → ¬ (count ≡ 0) → IsOwnSource H bytes_at root count es
+    → bytes_at [] count ≡ Some (page_bytes (page_of H es []))
 own_first_bytes H gives bytes_at root count es fits some own =
-    own_bytes H bytes_at (H []) root 0 count es (omega arith) (gives _) (own_at_root H bytes_at root (H []) count es fits some own) ∙ ap (λ p. Some (page_bytes (page_of H es p))) (no_bits (H []))
+    own_bytes H bytes_at (H []) root 0 count es (omega arith) (gives _)
+    (own_at_root H bytes_at root (H []) count es fits some own) ∙ ap (λ p. Some (page_bytes (page_of H es p)))
+    (no_bits (H []))
 
-pub own_first_page : (H : List ℕ → List ℕ) → GivesHashes H → (bytes_at : List ℕ → ℕ → Option (List ℕ)) (root : List ℕ) (count : ℕ) (page : List SlotAt) (es : List (List ℕ × List ℕ)) → count < 2 ^ 64 → ¬ (count ≡ 0) → IsPage page → IfSome (bytes_at [] count) (λ known. known ≡ page_bytes page)
+pub own_first_page : (H : List ℕ → List ℕ) → GivesHashes H → (bytes_at : List ℕ → ℕ → Option (List ℕ)) (root : List ℕ)
+    (count : ℕ) (page : List SlotAt) (es : List (List ℕ × List ℕ)) → count < 2 ^ 64 → ¬ (count ≡ 0) → IsPage page
+    → IfSome (bytes_at [] count) (λ known. known ≡ page_bytes page)
     → IsOwnSource H bytes_at root count es → page ≡ page_of H es []
 own_first_page H gives bytes_at root count page es fits some is at own =
-    own_page_is H gives bytes_at (H []) root 0 count page es (omega arith) (gives _) is at (own_at_root H bytes_at root (H []) count es fits some own) ∙ ap (page_of H es) (no_bits (H []))
+    own_page_is H gives bytes_at (H []) root 0 count page es (omega arith) (gives _) is at
+    (own_at_root H bytes_at root (H []) count es fits some own) ∙ ap (page_of H es) (no_bits (H []))
 
-pub first_page_refused : (H : List ℕ → List ℕ) → GivesHashes H → (bytes_at : List ℕ → ℕ → Option (List ℕ)) (root : List ℕ) (count : ℕ) (es : List (List ℕ × List ℕ)) → count < 2 ^ 64 → ¬ (count ≡ 0)
-    → ((slots : List SlotAt) → IsPage slots → bytes_at [] count ≢ Some (page_bytes slots)) → IsOwnSource H bytes_at root count es → ⊥
+pub first_page_refused : (H : List ℕ → List ℕ) → GivesHashes H → (bytes_at : List ℕ → ℕ → Option (List ℕ))
+    (root : List ℕ) (count : ℕ) (es : List (List ℕ × List ℕ)) → count < 2 ^ 64 → ¬ (count ≡ 0)
+    → ((slots : List SlotAt) → IsPage slots → bytes_at [] count ≢ Some (page_bytes slots))
+    → IsOwnSource H bytes_at root count es → ⊥
 first_page_refused H gives bytes_at root count es fits some fault own =
     let all = own.all in
-    fault (page_of H es []) (own_slots H es [] gives (omega arith)) (own_first_bytes H gives bytes_at root count es fits some own)
+    fault (page_of H es []) (own_slots H es [] gives (omega arith))
+    (own_first_bytes H gives bytes_at root count es fits some own)
 
 -- of no insertions
-pub empty_first_page : (H : List ℕ → List ℕ) (bytes_at : List ℕ → ℕ → Option (List ℕ)) (root : List ℕ) (count : ℕ) (page : List SlotAt) → count ≡ 0 → page ≡ [] → IsFirstPage H bytes_at root count page
+pub empty_first_page : (H : List ℕ → List ℕ) (bytes_at : List ℕ → ℕ → Option (List ℕ)) (root : List ℕ) (count : ℕ)
+    (page : List SlotAt) → count ≡ 0 → page ≡ [] → IsFirstPage H bytes_at root count page
 empty_first_page H bytes_at root count page z e = λ es own. e ∙ none es (own.all ∙ z)
   where
     none : (es : List (List ℕ × List ℕ)) → length es ≡ 0 → [] ≡ page_of H es []
@@ -65,7 +76,9 @@ all_stand : (H : List ℕ → List ℕ) (es : List (List ℕ × List ℕ)) → 0
 all_stand H [] some = absurd (omega arith)
 all_stand H (e ∷ es) some = last_of_all H e es
 
-pub first_update : (H : List ℕ → List ℕ) (bytes_at : List ℕ → ℕ → Option (List ℕ)) (root : List ℕ) (count : ℕ) (page : List SlotAt) (old more : List (List ℕ × List ℕ)) → 0 < length more → count + length more < 2 ^ 64 → IsFirstPage H bytes_at root count page → IsOwnSource H bytes_at root count old
+pub first_update : (H : List ℕ → List ℕ) (bytes_at : List ℕ → ℕ → Option (List ℕ)) (root : List ℕ) (count : ℕ)
+    (page : List SlotAt) (old more : List (List ℕ × List ℕ)) → 0 < length more → count + length more < 2 ^ 64
+    → IsFirstPage H bytes_at root count page → IsOwnSource H bytes_at root count old
     → IsOwnUpdate H bytes_at [] (count + length more) root page (changes_from H count more) old more
 first_update H bytes_at root count page old more some fits is_first own =
     let n = own.all in
@@ -76,7 +89,8 @@ first_update H bytes_at root count page old more some fits is_first own =
         fits = omega arith;
         are_bytes = All-nil IsByte;
         are_slots = is_first old own ∙ ap (page_of H old) (sym no_prefix);
-        are_changes = ap (λ m. changes_from H m more) (sym n) ∙ sym (all_of (changes_from H (length old) more)) ∙ ap (changes_below H (length old) more) (sym no_prefix);
+        are_changes = ap (λ m. changes_from H m more) (sym n) ∙ sym (all_of (changes_from H (length old) more))
+            ∙ ap (changes_below H (length old) more) (sym no_prefix);
       };
       changed = record {
         are_bytes = All-nil IsByte;
@@ -88,11 +102,13 @@ first_update H bytes_at root count page old more some fits is_first own =
       is_digest = own.is_root ∙ sym (at_prefix old no_prefix);
     }
   where
-    at_prefix : (es : List (List ℕ × List ℕ)) {p : List Bool} → p ≡ [] → root_of_levels H 256 (λ bits. get (map_of H es) (p ++ bits)) ≡ sparse_root H 256 (map_of H es)
+    at_prefix : (es : List (List ℕ × List ℕ)) {p : List Bool} → p ≡ []
+        → root_of_levels H 256 (λ bits. get (map_of H es) (p ++ bits)) ≡ sparse_root H 256 (map_of H es)
     at_prefix es e = ap (λ q. root_of_levels H 256 (λ bits. get (map_of H es) (q ++ bits))) e
 
 -- all pages that change
-pub all_changed : (H : List ℕ → List ℕ) (old more : List (List ℕ × List ℕ)) (digest : List ℕ) (pages : List ChangedPageAt) → IsUpdated H old more [] digest pages → AreChangedPages H old more pages
+pub all_changed : (H : List ℕ → List ℕ) (old more : List (List ℕ × List ℕ)) (digest : List ℕ)
+    (pages : List ChangedPageAt) → IsUpdated H old more [] digest pages → AreChangedPages H old more pages
 all_changed H old more digest pages updated =
     let among = updated.changed in
     record {
@@ -101,14 +117,18 @@ all_changed H old more digest pages updated =
       once = among.once;
     }
 
-pub root_changed : (H : List ℕ → List ℕ) (old more : List (List ℕ × List ℕ)) (digest : List ℕ) (pages : List ChangedPageAt) → IsUpdated H old more [] digest pages → digest ≡ sparse_root H 256 (map_of H (old ++ more))
+pub root_changed : (H : List ℕ → List ℕ) (old more : List (List ℕ × List ℕ)) (digest : List ℕ)
+    (pages : List ChangedPageAt) → IsUpdated H old more [] digest pages
+    → digest ≡ sparse_root H 256 (map_of H (old ++ more))
 root_changed H old more digest pages updated = updated.is_root ∙ at_prefix no_prefix
   where
-    at_prefix : {p : List Bool} → p ≡ [] → root_of_levels H 256 (λ bits. get (map_of H (old ++ more)) (p ++ bits)) ≡ sparse_root H 256 (map_of H (old ++ more))
+    at_prefix : {p : List Bool} → p ≡ [] → root_of_levels H 256 (λ bits. get (map_of H (old ++ more)) (p ++ bits))
+        ≡ sparse_root H 256 (map_of H (old ++ more))
     at_prefix e = ap (λ q. root_of_levels H 256 (λ bits. get (map_of H (old ++ more)) (q ++ bits))) e
 
 -- no page changes without an insertion
-pub none_changed : (H : List ℕ → List ℕ) (old more : List (List ℕ × List ℕ)) (pages : List ChangedPageAt) → length more ≡ 0 → pages ≡ [] → AreChangedPages H old more pages
+pub none_changed : (H : List ℕ → List ℕ) (old more : List (List ℕ × List ℕ)) (pages : List ChangedPageAt)
+    → length more ≡ 0 → pages ≡ [] → AreChangedPages H old more pages
 none_changed H old more pages none e = rw e record {
   each = λ i d lt. absurd (omega arith);
   all = λ prefix changes.
@@ -122,7 +142,8 @@ none_changed H old more pages none e = rw e record {
 pub named_first : (H : List ℕ → List ℕ) (root : List ℕ) → IsNamedAt H root [] root
 named_first H root = λ slots e. first slots e
 
-pub first_changes : (H : List ℕ → List ℕ) (count : ℕ) (more : List (List ℕ × List ℕ)) → AreChangesAt H count more [] (changes_from H count more)
+pub first_changes : (H : List ℕ → List ℕ) (count : ℕ) (more : List (List ℕ × List ℕ))
+    → AreChangesAt H count more [] (changes_from H count more)
 first_changes H count more = record {
   are_bytes = All-nil IsByte;
   are_changes = sym (all_of (changes_from H count more)) ∙ ap (changes_below H count more) (sym no_prefix);

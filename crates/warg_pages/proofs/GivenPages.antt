@@ -25,17 +25,21 @@ unfolding empty_root
 size_empty H size zero = size _
 size_empty H size (suc k) = size _
 
-size_over : (H : List ℕ → List ℕ) → HasSize H → (f : ℕ → List ℕ) (first k : ℕ) → length (f first) ≡ 32 → length (root_over H f first k) ≡ 32
+size_over : (H : List ℕ → List ℕ) → HasSize H → (f : ℕ → List ℕ) (first k : ℕ) → length (f first) ≡ 32
+    → length (root_over H f first k) ≡ 32
 unfolding root_over
 size_over H size f first zero h = h
 size_over H size f first (suc k) h = size _
 
-size_at : (H : List ℕ → List ℕ) → HasSize H → (height : ℕ) (slots : List SlotAt) (s : ℕ) → All IsSlot slots → length (digest_at H height slots s) ≡ 32
+size_at : (H : List ℕ → List ℕ) → HasSize H → (height : ℕ) (slots : List SlotAt) (s : ℕ) → All IsSlot slots
+    → length (digest_at H height slots s) ≡ 32
 unfolding digest_at
 size_at H size height [] s h = size_empty H size height
-size_at H size height (x ∷ xs) s h = either (eqb x.byte s) (All-head IsSlot x xs h).digest.has_32 (size_at H size height xs s (All-tail IsSlot x xs h))
+size_at H size height (x ∷ xs) s h = either (eqb x.byte s) (All-head IsSlot x xs h).digest.has_32
+    (size_at H size height xs s (All-tail IsSlot x xs h))
   where
-    either : (b : Bool) → length x.digest ≡ 32 → length (digest_at H height xs s) ≡ 32 → length (cond b x.digest (digest_at H height xs s)) ≡ 32
+    either : (b : Bool) → length x.digest ≡ 32 → length (digest_at H height xs s) ≡ 32
+        → length (cond b x.digest (digest_at H height xs s)) ≡ 32
     either true here there = here
     either false here there = there
 
@@ -48,8 +52,10 @@ both join (inr d) b = inr d
 abbrev SameOver : (ℕ → List ℕ) → (ℕ → List ℕ) → ℕ → ℕ → Type 0
 SameOver f g first k = (s : ℕ) → first ≤ s → s < first + 2 ^ k → f s ≡ g s
 
-halves : (f g : ℕ → List ℕ) (first k : ℕ) → SameOver f g first k → SameOver f g (first + 2 ^ k) k → SameOver f g first (suc k)
-halves f g first k l r = λ s ge lt. let double = pow-suc 2 k in elim (cases_lt s (first + 2 ^ k)) [ inl low ↦ l s ge low | inr high ↦ r s high (omega arith) ]
+halves : (f g : ℕ → List ℕ) (first k : ℕ) → SameOver f g first k → SameOver f g (first + 2 ^ k) k
+    → SameOver f g first (suc k)
+halves f g first k l r = λ s ge lt. let double = pow-suc 2 k in
+    elim (cases_lt s (first + 2 ^ k)) [ inl low ↦ l s ge low | inr high ↦ r s high (omega arith) ]
 
 abbrev Sized : (ℕ → List ℕ) → Type 0
 Sized f = (s : ℕ) → s < 256 → length (f s) ≡ 32
@@ -57,8 +63,10 @@ Sized f = (s : ℕ) → s < 256 → length (f s) ≡ 32
 same_over : (H : List ℕ → List ℕ) → HasSize H → (depth : ℕ) (xs ys : List SlotAt) (first k place : ℕ)
     → first ≡ place * 2 ^ k → first + 2 ^ k ≤ 256 → Sized (digest_at H (slot_height depth) xs)
     → Sized (digest_at H (slot_height depth) ys)
-    → root_over H (digest_at H (slot_height depth) xs) first k ≡ root_over H (digest_at H (slot_height depth) ys) first k
-    → SameOver (digest_at H (slot_height depth) xs) (digest_at H (slot_height depth) ys) first k ⊎ SomeCollision H (AreInputsAt H depth xs ys)
+    → root_over H (digest_at H (slot_height depth) xs) first k ≡ root_over H (digest_at H (slot_height depth) ys) first
+    k
+    → SameOver (digest_at H (slot_height depth) xs) (digest_at H (slot_height depth) ys) first k
+    ⊎ SomeCollision H (AreInputsAt H depth xs ys)
 unfolding root_over
 same_over H size depth xs ys first zero place from le lf lg e =
     inl (λ s ge lt. let at : s ≡ first = omega arith in rw at e)
@@ -70,7 +78,9 @@ same_over H size depth xs ys first (suc k) place from le lf lg e =
     let g = digest_at H (slot_height depth) ys in
     elim (same_or_not (input_over H depth xs first k) (input_over H depth ys first k)) [
       | inl same ↦ (
-          let parts = branch_parts (root_over H f first k) (root_over H f (first + 2 ^ k) k) (root_over H g first k) (root_over H g (first + 2 ^ k) k) (size_over H size f first k (lf first (omega arith)) ∙ sym (size_over H size g first k (lg first (omega arith)))) same in
+          let parts = branch_parts (root_over H f first k) (root_over H f (first + 2 ^ k) k) (root_over H g first k)
+          (root_over H g (first + 2 ^ k) k) (size_over H size f first k (lf first (omega arith))
+          ∙ sym (size_over H size g first k (lg first (omega arith)))) same in
           both (halves f g first k)
           (same_over H size depth xs ys first k (2 * place) (omega arith) (omega arith) lf lg parts.0)
           (same_over H size depth xs ys (first + 2 ^ k) k (2 * place + 1) (omega arith) (omega arith) lf lg parts.1))
@@ -91,8 +101,10 @@ same_over H size depth xs ys first (suc k) place from le lf lg e =
     ]
 
 -- the law
-pub given_page : (H : List ℕ → List ℕ) (es : List (List ℕ × List ℕ)) (p : List Bool) (depth : ℕ) (slots : List SlotAt) → GivesHashes H → depth < 32 → length p ≡ 8 * depth → IsPage slots
-    → page_digest H depth slots ≡ root_of_levels H (256 - 8 * depth) (below (map_of H es) p) → HaveSameDigests H depth slots (page_of H es p) ⊎ SomeCollision H (AreInputsAt H depth slots (page_of H es p))
+pub given_page : (H : List ℕ → List ℕ) (es : List (List ℕ × List ℕ)) (p : List Bool) (depth : ℕ) (slots : List SlotAt)
+    → GivesHashes H → depth < 32 → length p ≡ 8 * depth → IsPage slots
+    → page_digest H depth slots ≡ root_of_levels H (256 - 8 * depth) (below (map_of H es) p)
+    → HaveSameDigests H depth slots (page_of H es p) ⊎ SomeCollision H (AreInputsAt H depth slots (page_of H es p))
 given_page H es p depth slots gives lt n page e =
     let size = sizes gives in
     both (λ same (u : Unit {0}) s low. same s (omega arith) low)
@@ -103,6 +115,10 @@ given_page H es p depth slots gives lt n page e =
   where
     own : Sized (digest_at H (slot_height depth) (page_of H es p))
     own s low =
-        let at : digest_at H (slot_height depth) (page_of H es p) s ≡ root_of_levels H (slot_height depth) (λ r. below (map_of H es) p (byte_bits s ++ r)) = rw (number-byte_bits s low) at (page_slot H es p (byte_bits s) depth lt n (length-bits_from (s ∷ []) 0 8)) in
-        let same = root-same H (slot_height depth) (λ r. below (map_of H es) p (byte_bits s ++ r)) (below (map_of H es) (p ++ byte_bits s)) (λ r. ap (get (map_of H es)) (sym (append_assoc p (byte_bits s) r))) in
+        let at : digest_at H (slot_height depth) (page_of H es p) s ≡ root_of_levels H (slot_height depth)
+        (λ r. below (map_of H es) p (byte_bits s ++ r)) = rw (number-byte_bits s low) at
+        (page_slot H es p (byte_bits s) depth lt n (length-bits_from (s ∷ []) 0 8)) in
+        let same = root-same H (slot_height depth) (λ r. below (map_of H es) p (byte_bits s ++ r))
+        (below (map_of H es) (p ++ byte_bits s))
+        (λ r. ap (get (map_of H es)) (sym (append_assoc p (byte_bits s) r))) in
         ap length (at ∙ same) ∙ (root_is_digest H gives es (p ++ byte_bits s) (slot_height depth)).has_32

@@ -11,7 +11,8 @@ negated true e = refl
 negated false e = absurd (cc)
 
 pub same_hashes : (a b : List ℕ) (r : Bool) → r ≡ not (pointwise eqb a b && true) → r ≡ false → a ≡ b
-same_hashes a b r is e = (bytes_decides a b).0 (sym (alone_and (pointwise eqb a b)) ∙ negated (pointwise eqb a b && true) (sym is ∙ e))
+same_hashes a b r is e = (bytes_decides a b).0 (sym (alone_and (pointwise eqb a b))
+    ∙ negated (pointwise eqb a b && true) (sym is ∙ e))
 
 pub other_hashes : (a b : List ℕ) (r : Bool) → r ≡ not (pointwise eqb a b && true) → r ≡ true → ¬ (a ≡ b)
 other_hashes a b r is e same =
@@ -20,7 +21,8 @@ other_hashes a b r is e same =
     absurd (let t : true ≡ false = sym e ∙ is ∙ no in cc)
 
 -- and `==`
-pub hashes_decide : (a b : List ℕ) (r : Bool) → r ≡ (pointwise eqb a b && true) → (r ≡ true → a ≡ b) × (a ≡ b → r ≡ true)
+pub hashes_decide : (a b : List ℕ) (r : Bool) → r ≡ (pointwise eqb a b && true) → (r ≡ true → a ≡ b)
+    × (a ≡ b → r ≡ true)
 hashes_decide a b r is = (
   λ t. (bytes_decides a b).0 (sym (alone_and (pointwise eqb a b)) ∙ sym is ∙ t),
   λ e. is ∙ alone_and (pointwise eqb a b) ∙ (bytes_decides a b).1 e,

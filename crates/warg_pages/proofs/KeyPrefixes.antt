@@ -12,7 +12,8 @@ length-bits_from bytes i zero = refl
 length-bits_from bytes i (suc n) = ap suc (length-bits_from bytes (i + 1) n)
 
 -- the bits from a place on, by a part of them
-pub bits_from-append : (bytes : List ℕ) (i m n : ℕ) → bits_from bytes i (m + n) ≡ bits_from bytes i m ++ bits_from bytes (i + m) n
+pub bits_from-append : (bytes : List ℕ) (i m n : ℕ) → bits_from bytes i (m + n) ≡ bits_from bytes i m ++ bits_from bytes
+    (i + m) n
 unfolding bits_from
 bits_from-append bytes i zero n =
     let all : zero + n ≡ n = omega arith in
@@ -24,7 +25,8 @@ bits_from-append bytes i (suc m) n =
     rw (all, at, bits_from-append bytes (i + 1) m n)
 
 -- the same bits elsewhere
-pub bits_from-same : (a b : List ℕ) (i j n : ℕ) → ((m : ℕ) → m < n → bit_at a (i + m) ≡ bit_at b (j + m)) → bits_from a i n ≡ bits_from b j n
+pub bits_from-same : (a b : List ℕ) (i j n : ℕ) → ((m : ℕ) → m < n → bit_at a (i + m) ≡ bit_at b (j + m))
+    → bits_from a i n ≡ bits_from b j n
 unfolding bits_from
 bits_from-same a b i j zero h = refl
 bits_from-same a b i j (suc n) h = rw (first, bits_from-same a b (i + 1) (j + 1) n rest) refl
@@ -33,7 +35,8 @@ bits_from-same a b i j (suc n) h = rw (first, bits_from-same a b (i + 1) (j + 1)
     first = let at : i + 0 ≡ i = omega arith in let and : j + 0 ≡ j = omega arith in rw (at, and) at (h 0 (omega arith))
 
     rest : (m : ℕ) → m < n → bit_at a (i + 1 + m) ≡ bit_at b (j + 1 + m)
-    rest m lt = let at : i + suc m ≡ i + 1 + m = omega arith in let and : j + suc m ≡ j + 1 + m = omega arith in rw (at, and) at (h (suc m) (omega arith))
+    rest m lt = let at : i + suc m ≡ i + 1 + m = omega arith in let and : j + suc m ≡ j + 1 + m = omega arith in
+        rw (at, and) at (h (suc m) (omega arith))
 
 -- the bits of one byte
 pub byte_at_depth : (bytes : List ℕ) (depth : ℕ) → bits_from bytes (8 * depth) 8 ≡ byte_bits (slice_index bytes depth)
@@ -48,10 +51,13 @@ byte_at_depth bytes depth = bits_from-same bytes (slice_index bytes depth ∷ []
         rw (place, rest, alone, in_it) refl
 
 -- a key's bits are those of the bytes before a page, of the slot's byte, and the rest
-pub key_split : (H : List ℕ → List ℕ) (key : List ℕ) (depth : ℕ) → depth < 32 → key_bits H key ≡ prefix_of H key depth ++ (byte_bits (slice_index (H key) depth) ++ last_bits (H key) (slot_height depth))
+pub key_split : (H : List ℕ → List ℕ) (key : List ℕ) (depth : ℕ) → depth < 32
+    → key_bits H key ≡ prefix_of H key depth ++
+    (byte_bits (slice_index (H key) depth) ++ last_bits (H key) (slot_height depth))
 key_split H key depth lt =
     let all : 256 ≡ 8 * depth + (8 + slot_height depth) = omega arith in
     let low : 256 - slot_height depth ≡ 8 * depth + 8 = omega arith in
     let at : 0 + 8 * depth ≡ 8 * depth = omega arith in
     ap (bits_from (H key) 0) all ∙ bits_from-append (H key) 0 (8 * depth) (8 + slot_height depth)
-    ∙ ap (λ t. prefix_of H key depth ++ t) (rw (at, low, ← byte_at_depth (H key) depth) (bits_from-append (H key) (8 * depth) 8 (slot_height depth)))
+    ∙ ap (λ t. prefix_of H key depth ++ t)
+    (rw (at, low, ← byte_at_depth (H key) depth) (bits_from-append (H key) (8 * depth) 8 (slot_height depth)))

@@ -21,14 +21,17 @@ fork : (H : List ℕ → List ℕ) (b : Bool) (x e : List ℕ) → H (input_besi
 fork H true x e = refl
 fork H false x e = refl
 
-pub parted_value : (H : List ℕ → List ℕ) (leaf y : List ℕ) (p r o : List Bool) (b : Bool) → length r ≡ length o → y ≡ value_above H 0 [] leaf o
-    → value_above H 0 (replicate (length p) None ++ Some y ∷ []) (empty_root H 0) (p ++ b ∷ r) ≡ value_above H 0 [] leaf (p ++ not b ∷ o)
+pub parted_value : (H : List ℕ → List ℕ) (leaf y : List ℕ) (p r o : List Bool) (b : Bool) → length r ≡ length o
+    → y ≡ value_above H 0 [] leaf o
+    → value_above H 0 (replicate (length p) None ++ Some y ∷ []) (empty_root H 0) (p ++ b ∷ r) ≡ value_above H 0 [] leaf
+    (p ++ not b ∷ o)
 unfolding value_above
 parted_value H leaf y [] r o b n e =
     let height : length r + 0 ≡ length o + 0 = omega arith in
     rw (value_above-empty H 0 r, e, height) (fork H b (value_above H 0 [] leaf o) (empty_root H (length o + 0)))
 parted_value H leaf y (c ∷ p) r o b n e =
-    let height : length (p ++ b ∷ r) + 0 ≡ length (p ++ not b ∷ o) + 0 = rw (length-append p (b ∷ r), length-append p (not b ∷ o)) (omega arith) in
+    let height : length (p ++ b ∷ r) + 0 ≡ length (p ++ not b ∷ o) + 0 =
+    rw (length-append p (b ∷ r), length-append p (not b ∷ o)) (omega arith) in
     rw (parted_value H leaf y p r o b n e, height) refl
 
 -- the peers there
@@ -43,35 +46,48 @@ heads_back : (c : Bool) {q r : List Bool} → ¬ (c ∷ q ≡ not c ∷ r)
 heads_back true e = cc e
 heads_back false e = cc e
 
-pub parted_peers : (H : List ℕ → List ℕ) (held : List Bool → Option (List ℕ)) (leaf y : List ℕ) (p r o : List Bool) (b : Bool) → length r ≡ length o → y ≡ value_above H 0 [] leaf o → HoldsAlone held (p ++ not b ∷ o) leaf
+pub parted_peers : (H : List ℕ → List ℕ) (held : List Bool → Option (List ℕ)) (leaf y : List ℕ) (p r o : List Bool)
+    (b : Bool) → length r ≡ length o → y ≡ value_above H 0 [] leaf o → HoldsAlone held (p ++ not b ∷ o) leaf
     → IsPeers H (λ k. None) held (p ++ b ∷ r) (replicate (length p) None ++ Some y ∷ [])
 unfolding IsPeers
 parted_peers H held leaf y [] r o b n e h = (
   inr (
-    ap Some (e ∙ ap (λ t. value_above H 0 [] (unwrap_or t (empty_root H 0)) o) (sym h.this) ∙ sym (alone_root H (λ q. held (not b ∷ q)) o (λ q m. h.others (not b ∷ q) (λ s. m (tails (not b) s)))) ∙ ap (λ k. root_of_levels H k (λ q. held (not b ∷ q))) (sym n)),
+    ap Some (e ∙ ap (λ t. value_above H 0 [] (unwrap_or t (empty_root H 0)) o) (sym h.this)
+        ∙ sym (alone_root H (λ q. held (not b ∷ q)) o (λ q m. h.others (not b ∷ q) (λ s. m (tails (not b) s))))
+        ∙ ap (λ k. root_of_levels H k (λ q. held (not b ∷ q))) (sym n)),
     (o, ap is_some h.this),
   ),
   λ q m. h.others (b ∷ q) (heads_back b),
 )
 parted_peers H held leaf y (c ∷ p) r o b n e h = (
   inl (refl, λ q. h.others (not c ∷ q) (heads c)),
-  parted_peers H (λ q. held (c ∷ q)) leaf y p r o b n e record { this = h.this; others = λ q m. h.others (c ∷ q) (λ s. m (tails c s)) },
+  parted_peers H (λ q. held (c ∷ q)) leaf y p r o b n e record {
+    this = h.this;
+    others = λ q m. h.others (c ∷ q)
+        (λ s. m (tails c s));
+  },
 )
 
 -- and those of the lone key itself
-pub own_end : (H : List ℕ → List ℕ) (held : List Bool → Option (List ℕ)) (leaf : List ℕ) (bits : List Bool) → HoldsAlone held bits leaf → IsPeers H (λ k. None) held bits []
+pub own_end : (H : List ℕ → List ℕ) (held : List Bool → Option (List ℕ)) (leaf : List ℕ) (bits : List Bool)
+    → HoldsAlone held bits leaf → IsPeers H (λ k. None) held bits []
 unfolding IsPeers
 own_end H held leaf bits h = h.others
 
-pub alone_value : (H : List ℕ → List ℕ) (held : List Bool → Option (List ℕ)) (leaf : List ℕ) (bits : List Bool) → HoldsAlone held bits leaf → root_of_levels H (length bits) held ≡ value_above H 0 [] leaf bits
-alone_value H held leaf bits h = alone_root H held bits h.others ∙ ap (λ t. value_above H 0 [] (unwrap_or t (empty_root H 0)) bits) h.this
+pub alone_value : (H : List ℕ → List ℕ) (held : List Bool → Option (List ℕ)) (leaf : List ℕ) (bits : List Bool)
+    → HoldsAlone held bits leaf → root_of_levels H (length bits) held ≡ value_above H 0 [] leaf bits
+alone_value H held leaf bits h = alone_root H held bits h.others
+    ∙ ap (λ t. value_above H 0 [] (unwrap_or t (empty_root H 0)) bits) h.this
 
-pub nothing_end : (H : List ℕ → List ℕ) (held : List Bool → Option (List ℕ)) (bits : List Bool) → ((q : List Bool) → held q ≡ None) → IsPeers H (λ k. None) held bits []
+pub nothing_end : (H : List ℕ → List ℕ) (held : List Bool → Option (List ℕ)) (bits : List Bool)
+    → ((q : List Bool) → held q ≡ None) → IsPeers H (λ k. None) held bits []
 unfolding IsPeers
 nothing_end H held bits none = λ q n. none q
 
 -- the end at the key itself
-pub held_end : (H : List ℕ → List ℕ) (key : List ℕ) (depth index : ℕ) (slot : SlotAt) (lone : List ℕ × List ℕ) → depth < 32 → bits_from key 0 256 ≡ bits_from lone.0 0 256 → lone_root H key lone.1 (slot_height depth) ≡ slot.digest → index + 1 ≡ slot.version
+pub held_end : (H : List ℕ → List ℕ) (key : List ℕ) (depth index : ℕ) (slot : SlotAt) (lone : List ℕ × List ℕ)
+    → depth < 32 → bits_from key 0 256 ≡ bits_from lone.0 0 256 → lone_root H key lone.1 (slot_height depth)
+    ≡ slot.digest → index + 1 ≡ slot.version
     → EndsAt H key depth slot lone [] (Some (index, lone.1))
 held_end H key depth index slot lone lt same root version = record {
   few = omega arith;
@@ -80,23 +96,36 @@ held_end H key depth index slot lone lt same root version = record {
   index = (version, same);
 }
   where
-    own_rest : (key other : List ℕ) (depth : ℕ) (rest : List Bool) → depth < 32 → bits_from key 0 256 ≡ bits_from other 0 256 → last_bits other 256 ≡ bits_from key 0 (8 * depth + 8) ++ rest → last_bits key (slot_height depth) ≡ rest
+    own_rest : (key other : List ℕ) (depth : ℕ) (rest : List Bool) → depth < 32 → bits_from key 0 256
+        ≡ bits_from other 0 256 → last_bits other 256 ≡ bits_from key 0 (8 * depth + 8) ++ rest
+        → last_bits key (slot_height depth) ≡ rest
     own_rest key other depth rest lt same begins =
         let height : 256 - (8 * depth + 8) ≡ slot_height depth = omega arith in
-        append_cancel_left (bits_from key 0 (8 * depth + 8)) (last_bits key (slot_height depth)) rest (ap (λ n. bits_from key 0 (8 * depth + 8) ++ last_bits key n) (sym height) ∙ sym (key_at key (8 * depth + 8) (omega arith)) ∙ same ∙ begins)
+        append_cancel_left (bits_from key 0 (8 * depth + 8)) (last_bits key (slot_height depth)) rest
+        (ap (λ n. bits_from key 0 (8 * depth + 8) ++ last_bits key n) (sym height)
+        ∙ sym (key_at key (8 * depth + 8) (omega arith)) ∙ same ∙ begins)
 
-    own : (f : List Bool → Option (List ℕ)) → StandsAlone H (bits_from key 0 (8 * depth + 8)) lone (slot_height depth) slot.digest f → IsPeers H (λ k. None) f (last_bits key (slot_height depth)) [] × (f (last_bits key (slot_height depth)) ≡ Some lone.1)
+    own : (f : List Bool → Option (List ℕ)) → StandsAlone H (bits_from key 0 (8 * depth + 8)) lone
+        (slot_height depth) slot.digest f → IsPeers H (λ k. None) f (last_bits key (slot_height depth)) []
+        × (f (last_bits key (slot_height depth)) ≡ Some lone.1)
     own f stands =
-        let rest : last_bits key (slot_height depth) ≡ stands.rest = own_rest key lone.0 depth stands.rest lt same stands.begins in
+        let rest : last_bits key (slot_height depth) ≡ stands.rest =
+        own_rest key lone.0 depth stands.rest lt same stands.begins in
         (rw rest (own_end H f lone.1 stands.rest stands.alone), rw rest stands.alone.this)
 
 -- a lone key with this digest that has another root doesn't stand alone
-pub held_no_end : (H : List ℕ → List ℕ) (key : List ℕ) (depth : ℕ) (slot : SlotAt) (lone : List ℕ × List ℕ) → depth < 32 → bits_from key 0 256 ≡ bits_from lone.0 0 256 → ¬ (lone_root H key lone.1 (slot_height depth) ≡ slot.digest) → IsNoLoneKey H key depth slot lone
+pub held_no_end : (H : List ℕ → List ℕ) (key : List ℕ) (depth : ℕ) (slot : SlotAt) (lone : List ℕ × List ℕ) → depth < 32
+    → bits_from key 0 256 ≡ bits_from lone.0 0 256 → ¬ (lone_root H key lone.1 (slot_height depth) ≡ slot.digest)
+    → IsNoLoneKey H key depth slot lone
 held_no_end H key depth slot lone lt same other f stands some =
     let height : 256 - (8 * depth + 8) ≡ slot_height depth = omega arith in
-    let rest : last_bits key (slot_height depth) ≡ stands.rest = append_cancel_left (bits_from key 0 (8 * depth + 8)) (last_bits key (slot_height depth)) stands.rest (ap (λ n. bits_from key 0 (8 * depth + 8) ++ last_bits key n) (sym height) ∙ sym (key_at key (8 * depth + 8) (omega arith)) ∙ same ∙ stands.begins) in
-    let size : length stands.rest ≡ slot_height depth = ap length (sym rest) ∙ length-last_bits key (slot_height depth) in
-    other (ap (value_above H 0 [] lone.1) rest ∙ sym (alone_value H f lone.1 stands.rest stands.alone) ∙ ap (λ k. root_of_levels H k f) size ∙ sym stands.is_root)
+    let rest : last_bits key (slot_height depth) ≡ stands.rest = append_cancel_left (bits_from key 0 (8 * depth + 8))
+    (last_bits key (slot_height depth)) stands.rest (ap (λ n. bits_from key 0 (8 * depth + 8) ++ last_bits key n)
+    (sym height) ∙ sym (key_at key (8 * depth + 8) (omega arith)) ∙ same ∙ stands.begins) in
+    let size : length stands.rest ≡ slot_height depth = ap length (sym rest)
+    ∙ length-last_bits key (slot_height depth) in
+    other (ap (value_above H 0 [] lone.1) rest ∙ sym (alone_value H f lone.1 stands.rest stands.alone)
+    ∙ ap (λ k. root_of_levels H k f) size ∙ sym stands.is_root)
 
 -- a lone key that parts from the digest
 pub record Parting (key other : List ℕ) (depth shared : ℕ) : Type 0 where
@@ -107,7 +136,8 @@ pub record Parting (key other : List ℕ) (depth shared : ℕ) : Type 0 where
 
 -- the bits of both, below the slot
 key_parts : (key other : List ℕ) (depth shared : ℕ) → Parting key other depth shared
-    → last_bits key (slot_height depth) ≡ bits_from key (8 * depth + 8) (shared - (8 * depth + 8)) ++ bit_at key shared ∷ last_bits key (255 - shared)
+    → last_bits key (slot_height depth) ≡ bits_from key (8 * depth + 8) (shared - (8 * depth + 8)) ++ bit_at key shared
+    ∷ last_bits key (255 - shared)
 key_parts key other depth shared h =
     let below = h.below in
     let parts = h.parts in
@@ -115,22 +145,26 @@ key_parts key other depth shared h =
     ap (last_bits key) height ∙ last_at key (8 * depth + 8) shared below parts
 
 other_parts : (key other : List ℕ) (depth shared : ℕ) → Parting key other depth shared
-    → last_bits other (slot_height depth) ≡ bits_from key (8 * depth + 8) (shared - (8 * depth + 8)) ++ not (bit_at key shared) ∷ last_bits other (255 - shared)
+    → last_bits other (slot_height depth) ≡ bits_from key (8 * depth + 8) (shared - (8 * depth + 8)) ++ not
+    (bit_at key shared) ∷ last_bits other (255 - shared)
 other_parts key other depth shared h =
     let below = h.below in
     let parts = h.parts in
     let height : slot_height depth ≡ 256 - (8 * depth + 8) = omega arith in
     let same = (shared_from key other (8 * depth + 8) shared below h.same).1 in
     let bit = other_bit_is (bit_at key shared) (bit_at other shared) h.apart in
-    ap (last_bits other) height ∙ last_at other (8 * depth + 8) shared below parts ∙ (λ i. sym same i ++ bit i ∷ last_bits other (255 - shared))
+    ap (last_bits other) height ∙ last_at other (8 * depth + 8) shared below parts
+    ∙ (λ i. sym same i ++ bit i ∷ last_bits other (255 - shared))
 
-other_rest : (key other : List ℕ) (depth shared : ℕ) (rest : List Bool) → Parting key other depth shared → last_bits other 256 ≡ bits_from key 0 (8 * depth + 8) ++ rest → rest ≡ last_bits other (slot_height depth)
+other_rest : (key other : List ℕ) (depth shared : ℕ) (rest : List Bool) → Parting key other depth shared
+    → last_bits other 256 ≡ bits_from key 0 (8 * depth + 8) ++ rest → rest ≡ last_bits other (slot_height depth)
 other_rest key other depth shared rest h begins =
     let below = h.below in
     let parts = h.parts in
     let height : 256 - (8 * depth + 8) ≡ slot_height depth = omega arith in
     let first = (shared_from key other (8 * depth + 8) shared below h.same).0 in
-    append_cancel_left (bits_from key 0 (8 * depth + 8)) rest (last_bits other (slot_height depth)) (sym begins ∙ key_at other (8 * depth + 8) (omega arith) ∙ (λ i. sym first i ++ last_bits other (height i)))
+    append_cancel_left (bits_from key 0 (8 * depth + 8)) rest (last_bits other (slot_height depth))
+    (sym begins ∙ key_at other (8 * depth + 8) (omega arith) ∙ (λ i. sym first i ++ last_bits other (height i)))
 
 -- as many as they are
 length-replicate : (n : ℕ) → length (replicate {A = Option (List ℕ)} n None) ≡ n
@@ -141,15 +175,23 @@ length-replicate (suc n) = ap suc (length-replicate n)
 abbrev pub parting_peers : ℕ → List ℕ → List (Option (List ℕ))
 parting_peers n tree = replicate n None ++ Some tree ∷ []
 
-pub parted_end : (H : List ℕ → List ℕ) (key : List ℕ) (depth shared : ℕ) (slot : SlotAt) (lone : List ℕ × List ℕ) (tree : List ℕ) → Parting key lone.0 depth shared → tree ≡ lone_root H lone.0 lone.1 (255 - shared) → lone_root H lone.0 lone.1 (slot_height depth) ≡ slot.digest
+pub parted_end : (H : List ℕ → List ℕ) (key : List ℕ) (depth shared : ℕ) (slot : SlotAt) (lone : List ℕ × List ℕ)
+    (tree : List ℕ) → Parting key lone.0 depth shared → tree ≡ lone_root H lone.0 lone.1 (255 - shared)
+    → lone_root H lone.0 lone.1 (slot_height depth) ≡ slot.digest
     → EndsAt H key depth slot lone (parting_peers (shared - (8 * depth + 8)) tree) None
 parted_end H key depth shared slot lone tree h is root =
     let below = h.below in
     let parts = h.parts in record {
-      few = rw (length-append (replicate (shared - (8 * depth + 8)) None) (Some tree ∷ []), length-replicate (shared - (8 * depth + 8))) (omega arith);
-      leads = ap (value_above H 0 (parting_peers (shared - (8 * depth + 8)) tree) (empty_root H 0)) (key_parts key lone.0 depth shared h)
-          ∙ ap (λ n. value_above H 0 (parting_peers n tree) (empty_root H 0) (p ++ bit_at key shared ∷ last_bits key (255 - shared))) (sym size)
-          ∙ parted_value H lone.1 tree p (last_bits key (255 - shared)) (last_bits lone.0 (255 - shared)) (bit_at key shared) sizes is
+      few = rw (
+        length-append (replicate (shared - (8 * depth + 8)) None) (Some tree ∷ []),
+        length-replicate (shared - (8 * depth + 8)),
+      ) (omega arith);
+      leads = ap (value_above H 0 (parting_peers (shared - (8 * depth + 8)) tree) (empty_root H 0))
+          (key_parts key lone.0 depth shared h)
+          ∙ ap (λ n. value_above H 0 (parting_peers n tree) (empty_root H 0)
+          (p ++ bit_at key shared ∷ last_bits key (255 - shared))) (sym size)
+          ∙ parted_value H lone.1 tree p (last_bits key (255 - shared)) (last_bits lone.0 (255 - shared))
+          (bit_at key shared) sizes is
           ∙ ap (value_above H 0 [] lone.1) (sym (other_parts key lone.0 depth shared h)) ∙ root;
       own = own;
       index = tt;
@@ -164,26 +206,41 @@ parted_end H key depth shared slot lone tree h is root =
     sizes : length (last_bits key (255 - shared)) ≡ length (last_bits lone.0 (255 - shared))
     sizes = length-last_bits key (255 - shared) ∙ sym (length-last_bits lone.0 (255 - shared))
 
-    own : (f : List Bool → Option (List ℕ)) → StandsAlone H (bits_from key 0 (8 * depth + 8)) lone (slot_height depth) slot.digest f
-        → IsPeers H (λ k. None) f (last_bits key (slot_height depth)) (parting_peers (shared - (8 * depth + 8)) tree) × (f (last_bits key (slot_height depth)) ≡ None)
+    own : (f : List Bool → Option (List ℕ)) → StandsAlone H (bits_from key 0 (8 * depth + 8)) lone
+        (slot_height depth) slot.digest f
+        → IsPeers H (λ k. None) f (last_bits key (slot_height depth)) (parting_peers (shared - (8 * depth + 8)) tree)
+        × (f (last_bits key (slot_height depth)) ≡ None)
     own f stands =
-        let rest : stands.rest ≡ bits_from key (8 * depth + 8) (shared - (8 * depth + 8)) ++ not (bit_at key shared) ∷ last_bits lone.0 (255 - shared) = other_rest key lone.0 depth shared stands.rest h stands.begins ∙ other_parts key lone.0 depth shared h in
+        let rest : stands.rest ≡ bits_from key (8 * depth + 8) (shared - (8 * depth + 8)) ++ not (bit_at key shared)
+        ∷ last_bits lone.0 (255 - shared) = other_rest key lone.0 depth shared stands.rest h stands.begins
+        ∙ other_parts key lone.0 depth shared h in
         let alone = rw rest at stands.alone in
-        let peers = parted_peers H f lone.1 tree (bits_from key (8 * depth + 8) (shared - (8 * depth + 8))) (last_bits key (255 - shared)) (last_bits lone.0 (255 - shared)) (bit_at key shared) sizes is alone in (
+        let peers = parted_peers H f lone.1 tree (bits_from key (8 * depth + 8) (shared - (8 * depth + 8)))
+        (last_bits key (255 - shared)) (last_bits lone.0 (255 - shared)) (bit_at key shared) sizes is alone in (
           rw (key_parts key lone.0 depth shared h) (rw size at peers),
-          rw (key_parts key lone.0 depth shared h) (alone.others _ (λ e. heads_back (bit_at key shared) (append_cancel_left (bits_from key (8 * depth + 8) (shared - (8 * depth + 8))) _ _ e))),
+          rw (key_parts key lone.0 depth shared h)
+              (alone.others _ (λ e. heads_back (bit_at key shared)
+              (append_cancel_left (bits_from key (8 * depth + 8) (shared - (8 * depth + 8))) _ _ e))),
         )
 
-pub parted_no_end : (H : List ℕ → List ℕ) (key : List ℕ) (depth shared : ℕ) (slot : SlotAt) (lone : List ℕ × List ℕ) → Parting key lone.0 depth shared → ¬ (lone_root H lone.0 lone.1 (slot_height depth) ≡ slot.digest) → IsNoLoneKey H key depth slot lone
+pub parted_no_end : (H : List ℕ → List ℕ) (key : List ℕ) (depth shared : ℕ) (slot : SlotAt) (lone : List ℕ × List ℕ)
+    → Parting key lone.0 depth shared → ¬ (lone_root H lone.0 lone.1 (slot_height depth) ≡ slot.digest)
+    → IsNoLoneKey H key depth slot lone
 parted_no_end H key depth shared slot lone h other f stands some =
     let rest = other_rest key lone.0 depth shared stands.rest h stands.begins in
     let size : length stands.rest ≡ slot_height depth = ap length rest ∙ length-last_bits lone.0 (slot_height depth) in
-    other (ap (value_above H 0 [] lone.1) (sym rest) ∙ sym (alone_value H f lone.1 stands.rest stands.alone) ∙ ap (λ k. root_of_levels H k f) size ∙ sym stands.is_root)
+    other (ap (value_above H 0 [] lone.1) (sym rest) ∙ sym (alone_value H f lone.1 stands.rest stands.alone)
+    ∙ ap (λ k. root_of_levels H k f) size ∙ sym stands.is_root)
 
 -- a lone key that doesn't begin with its slot's prefix
-pub other_prefix : (H : List ℕ → List ℕ) (key : List ℕ) (depth shared : ℕ) (slot : SlotAt) (lone : List ℕ × List ℕ) → depth < 32 → shared < 8 * depth + 8 → ¬ (bit_at key shared ≡ bit_at lone.0 shared) → IsNoLoneKey H key depth slot lone
+pub other_prefix : (H : List ℕ → List ℕ) (key : List ℕ) (depth shared : ℕ) (slot : SlotAt) (lone : List ℕ × List ℕ)
+    → depth < 32 → shared < 8 * depth + 8 → ¬ (bit_at key shared ≡ bit_at lone.0 shared)
+    → IsNoLoneKey H key depth slot lone
 other_prefix H key depth shared slot lone lt less apart f stands some =
-    let first = same_parts (bits_from lone.0 0 (8 * depth + 8)) (last_bits lone.0 (256 - (8 * depth + 8))) (bits_from key 0 (8 * depth + 8)) stands.rest (length-bits_from lone.0 0 (8 * depth + 8) ∙ sym (length-bits_from key 0 (8 * depth + 8))) (sym (key_at lone.0 (8 * depth + 8) (omega arith)) ∙ stands.begins) in
+    let first = same_parts (bits_from lone.0 0 (8 * depth + 8)) (last_bits lone.0 (256 - (8 * depth + 8)))
+    (bits_from key 0 (8 * depth + 8)) stands.rest (length-bits_from lone.0 0 (8 * depth + 8)
+    ∙ sym (length-bits_from key 0 (8 * depth + 8))) (sym (key_at lone.0 (8 * depth + 8) (omega arith))
+    ∙ stands.begins) in
     apart (sym (shared_bit lone.0 key (8 * depth + 8) shared less first.0))
 
 pub replicate-more : (n : ℕ) → replicate {A = Option (List ℕ)} n None ++ None ∷ [] ≡ replicate (n + 1) None

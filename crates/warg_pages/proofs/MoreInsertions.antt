@@ -16,7 +16,8 @@ use Rattle.warg_pages.proofs.OwnWays.{some_version}
 use Rattle.warg_pages.proofs.LoneSlots.{last_passes}
 
 -- what one insertion elsewhere leaves, several do
-pub quiet : {X : Type 0} (H : List ℕ → List ℕ) (p : List Bool) (F : List (List ℕ × List ℕ) → X) → ((es : List (List ℕ × List ℕ)) (e : List ℕ × List ℕ) → is_below H p e ≡ false → F (es ++ e ∷ []) ≡ F es)
+pub quiet : {X : Type 0} (H : List ℕ → List ℕ) (p : List Bool) (F : List (List ℕ × List ℕ) → X)
+    → ((es : List (List ℕ × List ℕ)) (e : List ℕ × List ℕ) → is_below H p e ≡ false → F (es ++ e ∷ []) ≡ F es)
     → (es more : List (List ℕ × List ℕ)) → last_with (is_below H p) more ≡ None → F (es ++ more) ≡ F es
 unfolding last_with
 quiet H p F one es [] none = ap F (append-nil es)
@@ -24,48 +25,62 @@ quiet H p F one es (x ∷ more) none =
     let parts = later_none (last_with (is_below H p) more) (is_below H p x) x none in
     ap F (sym (append_assoc es (x ∷ []) more)) ∙ quiet H p F one (es ++ x ∷ []) more parts.0 ∙ one es x parts.1
 
-pub quiet_slot : (H : List ℕ → List ℕ) (old more : List (List ℕ × List ℕ)) (p : List Bool) (s : ℕ) → last_with (is_below H (p ++ byte_bits s)) more ≡ None → slot_of H (old ++ more) p s ≡ slot_of H old p s
-quiet_slot H old more p s none = quiet H (p ++ byte_bits s) (λ l. slot_of H l p s) (λ es e f. slot_of-other H es e p s f) old more none
+pub quiet_slot : (H : List ℕ → List ℕ) (old more : List (List ℕ × List ℕ)) (p : List Bool) (s : ℕ)
+    → last_with (is_below H (p ++ byte_bits s)) more ≡ None → slot_of H (old ++ more) p s ≡ slot_of H old p s
+quiet_slot H old more p s none = quiet H (p ++ byte_bits s) (λ l. slot_of H l p s)
+    (λ es e f. slot_of-other H es e p s f) old more none
 
-pub quiet_page : (H : List ℕ → List ℕ) (old more : List (List ℕ × List ℕ)) (p : List Bool) → last_with (is_below H p) more ≡ None → page_of H (old ++ more) p ≡ page_of H old p
+pub quiet_page : (H : List ℕ → List ℕ) (old more : List (List ℕ × List ℕ)) (p : List Bool)
+    → last_with (is_below H p) more ≡ None → page_of H (old ++ more) p ≡ page_of H old p
 quiet_page H old more p none = quiet H p (λ l. page_of H l p) (λ es e f. page_off_way H es e p f) old more none
 
-pub quiet_version : (H : List ℕ → List ℕ) (old more : List (List ℕ × List ℕ)) (p : List Bool) → last_with (is_below H p) more ≡ None → version H (old ++ more) p ≡ version H old p
-quiet_version H old more p none = quiet H p (λ l. version H l p) (λ es e f. last_place-more (is_below H p) es e ∙ cond-false _ _ _ f) old more none
+pub quiet_version : (H : List ℕ → List ℕ) (old more : List (List ℕ × List ℕ)) (p : List Bool)
+    → last_with (is_below H p) more ≡ None → version H (old ++ more) p ≡ version H old p
+quiet_version H old more p none = quiet H p (λ l. version H l p) (λ es e f. last_place-more (is_below H p) es e
+    ∙ cond-false _ _ _ f) old more none
 
-stands-other : (H : List ℕ → List ℕ) (p : List Bool) (es : List (List ℕ × List ℕ)) (e : List ℕ × List ℕ) → is_below H p e ≡ false → stands H (es ++ e ∷ []) p ≡ stands H es p
-stands-other H p es e f = ap (stands_over H (es ++ e ∷ []) p) (last_with-more (is_below H p) es e ∙ cond-false _ _ _ f) ∙ over (last_with (is_below H p) es)
+stands-other : (H : List ℕ → List ℕ) (p : List Bool) (es : List (List ℕ × List ℕ)) (e : List ℕ × List ℕ)
+    → is_below H p e ≡ false → stands H (es ++ e ∷ []) p ≡ stands H es p
+stands-other H p es e f = ap (stands_over H (es ++ e ∷ []) p) (last_with-more (is_below H p) es e ∙ cond-false _ _ _ f)
+    ∙ over (last_with (is_below H p) es)
   where
     over : (last : Option (List ℕ × List ℕ)) → stands_over H (es ++ e ∷ []) p last ≡ stands_over H es p last
     over None = refl
-    over (Some x) = ap (λ b. eqb (length p) 0 || not b) (list_all-more (λ y. not (is_below H p y) || same_bits (key_bits H x.0) (key_bits H y.0)) es e (rw f refl))
+    over (Some x) = ap (λ b. eqb (length p) 0 || not b)
+        (list_all-more (λ y. not (is_below H p y) || same_bits (key_bits H x.0) (key_bits H y.0)) es e (rw f refl))
 
-pub quiet_stands : (H : List ℕ → List ℕ) (old more : List (List ℕ × List ℕ)) (p : List Bool) → last_with (is_below H p) more ≡ None → stands H (old ++ more) p ≡ stands H old p
+pub quiet_stands : (H : List ℕ → List ℕ) (old more : List (List ℕ × List ℕ)) (p : List Bool)
+    → last_with (is_below H p) more ≡ None → stands H (old ++ more) p ≡ stands H old p
 quiet_stands H old more p none = quiet H p (λ l. stands H l p) (stands-other H p) old more none
 
 -- the last of two lists
-pub last_with-append : {X : Type 0} (p : X → Bool) (xs ys : List X) → last_with p (xs ++ ys) ≡ option_or (last_with p ys) (last_with p xs)
+pub last_with-append : {X : Type 0} (p : X → Bool) (xs ys : List X) → last_with p (xs ++ ys)
+    ≡ option_or (last_with p ys) (last_with p xs)
 unfolding last_with
 last_with-append {X = X} p [] ys = nothing (last_with p ys)
   where
     nothing : (o : Option X) → o ≡ option_or o None
     nothing None = refl
     nothing (Some y) = refl
-last_with-append {X = X} p (x ∷ xs) ys = rw (last_with-append p xs ys) (join (last_with p ys) (last_with p xs) (cond (p x) (Some x) None))
+last_with-append {X = X} p (x ∷ xs) ys = rw (last_with-append p xs ys)
+    (join (last_with p ys) (last_with p xs) (cond (p x) (Some x) None))
   where
     join : (a b c : Option X) → option_or (option_or a b) c ≡ option_or a (option_or b c)
     join None b c = refl
     join (Some y) b c = refl
 
-pub last_with-later : {X : Type 0} (p : X → Bool) (xs ys : List X) (e : X) → last_with p ys ≡ Some e → last_with p (xs ++ ys) ≡ Some e
+pub last_with-later : {X : Type 0} (p : X → Bool) (xs ys : List X) (e : X) → last_with p ys ≡ Some e
+    → last_with p (xs ++ ys) ≡ Some e
 last_with-later p xs ys e h = last_with-append p xs ys ∙ ap (λ o. option_or o (last_with p xs)) h
 
-pub last_place-later : {X : Type 0} (p : X → Bool) (xs ys : List X) (e : X) → last_with p ys ≡ Some e → last_place p (xs ++ ys) ≡ length xs + last_place p ys
+pub last_place-later : {X : Type 0} (p : X → Bool) (xs ys : List X) (e : X) → last_with p ys ≡ Some e
+    → last_place p (xs ++ ys) ≡ length xs + last_place p ys
 unfolding last_place
 last_place-later p [] ys e h = omega arith
 last_place-later p (x ∷ xs) ys e h =
     let some = some_version p ys e h in
-    let rest : eqb (length xs + last_place p ys) 0 ≡ false = false_from_ne_true _ (λ t. let z = eqb-true (length xs + last_place p ys) 0 t in omega arith) in
+    let rest : eqb (length xs + last_place p ys) 0 ≡ false = false_from_ne_true _
+    (λ t. let z = eqb-true (length xs + last_place p ys) 0 t in omega arith) in
     rw (last_place-later p xs ys e h, rest) (omega arith)
 
 -- of no element, the place is none
@@ -77,7 +92,8 @@ last_place-none p (x ∷ xs) h =
     rw (last_place-none p xs parts.0, parts.1) refl
 
 -- a longer prefix has no insertions below it where a shorter one has none
-pub none_longer : (H : List ℕ → List ℕ) (p q : List Bool) (es : List (List ℕ × List ℕ)) → last_with (is_below H p) es ≡ None → last_with (is_below H (p ++ q)) es ≡ None
+pub none_longer : (H : List ℕ → List ℕ) (p q : List Bool) (es : List (List ℕ × List ℕ)) → last_with (is_below H p) es
+    ≡ None → last_with (is_below H (p ++ q)) es ≡ None
 unfolding last_with
 none_longer H p q [] h = refl
 none_longer H p q (x ∷ es) h =
@@ -85,41 +101,48 @@ none_longer H p q (x ∷ es) h =
     rw (none_longer H p q es parts.0, longer p q (key_bits H x.0) parts.1) refl
 
 -- tests that agree where another holds of all
-pub last_same : {X : Type 0} (p q r : X → Bool) → ((x : X) → r x ≡ true → p x ≡ q x) → (xs : List X) → list_all r xs ≡ true → last_with p xs ≡ last_with q xs
+pub last_same : {X : Type 0} (p q r : X → Bool) → ((x : X) → r x ≡ true → p x ≡ q x) → (xs : List X)
+    → list_all r xs ≡ true → last_with p xs ≡ last_with q xs
 unfolding last_with
 last_same p q r h [] all = refl
 last_same p q r h (x ∷ xs) all =
     let parts = and_parts (r x) (list_all r xs) all in
     rw (last_same p q r h xs parts.1, h x parts.0) refl
 
-pub place_same : {X : Type 0} (p q r : X → Bool) → ((x : X) → r x ≡ true → p x ≡ q x) → (xs : List X) → list_all r xs ≡ true → last_place p xs ≡ last_place q xs
+pub place_same : {X : Type 0} (p q r : X → Bool) → ((x : X) → r x ≡ true → p x ≡ q x) → (xs : List X)
+    → list_all r xs ≡ true → last_place p xs ≡ last_place q xs
 unfolding last_place
 place_same p q r h [] all = refl
 place_same p q r h (x ∷ xs) all =
     let parts = and_parts (r x) (list_all r xs) all in
     rw (place_same p q r h xs parts.1, h x parts.0) refl
 
-pub all_weaker : {X : Type 0} (r q : X → Bool) → ((x : X) → r x ≡ true → q x ≡ true) → (xs : List X) → list_all r xs ≡ true → list_all q xs ≡ true
+pub all_weaker : {X : Type 0} (r q : X → Bool) → ((x : X) → r x ≡ true → q x ≡ true) → (xs : List X)
+    → list_all r xs ≡ true → list_all q xs ≡ true
 all_weaker r q h [] all = refl
 all_weaker r q h (x ∷ xs) all =
     let parts = and_parts (r x) (list_all r xs) all in
     rw (h x parts.0, all_weaker r q h xs parts.1) refl
 
 -- what holds of all holds of the last
-pub all_last : {X : Type 0} (r p : X → Bool) (xs : List X) (e : X) → list_all r xs ≡ true → last_with p xs ≡ Some e → r e ≡ true
+pub all_last : {X : Type 0} (r p : X → Bool) (xs : List X) (e : X) → list_all r xs ≡ true → last_with p xs ≡ Some e
+    → r e ≡ true
 unfolding last_with
 all_last r p [] e all h = absurd (cc)
 all_last {X = X} r p (x ∷ xs) e all h =
     let parts = and_parts (r x) (list_all r xs) all in
     either (last_with p xs) (p x) parts.0 (all_last r p xs e parts.1) h
   where
-    either : (o : Option X) (b : Bool) → r x ≡ true → (o ≡ Some e → r e ≡ true) → option_or o (cond b (Some x) None) ≡ Some e → r e ≡ true
+    either : (o : Option X) (b : Bool) → r x ≡ true → (o ≡ Some e → r e ≡ true) → option_or o (cond b (Some x) None)
+        ≡ Some e → r e ≡ true
     either None true t f h = let same : x ≡ e = cc in rw (← same) t
     either None false t f h = absurd (cc)
     either (Some y) b t f h = f h
 
 -- what holds where nothing is below
-pub all_none : (H : List ℕ → List ℕ) (p : List Bool) (k : List Bool) (es : List (List ℕ × List ℕ)) → last_with (is_below H p) es ≡ None → list_all (λ f. not (is_below H p f) || same_bits k (key_bits H f.0)) es ≡ true
+pub all_none : (H : List ℕ → List ℕ) (p : List Bool) (k : List Bool) (es : List (List ℕ × List ℕ))
+    → last_with (is_below H p) es ≡ None → list_all (λ f. not (is_below H p f) || same_bits k (key_bits H f.0)) es
+    ≡ true
 unfolding last_with
 all_none H p k [] h = refl
 all_none H p k (x ∷ es) h =
@@ -127,7 +150,9 @@ all_none H p k (x ∷ es) h =
     rw (parts.1, all_none H p k es parts.0) refl
 
 -- where a lone key stands below a prefix, it does below a longer one
-agree_longer : (H : List ℕ → List ℕ) (p q : List Bool) (e x : List ℕ × List ℕ) → is_below H (p ++ q) e ≡ true → (not (is_below H p x) || same_bits (key_bits H e.0) (key_bits H x.0)) ≡ true → is_below H p x ≡ is_below H (p ++ q) x
+agree_longer : (H : List ℕ → List ℕ) (p q : List Bool) (e x : List ℕ × List ℕ) → is_below H (p ++ q) e ≡ true
+    → (not (is_below H p x) || same_bits (key_bits H e.0) (key_bits H x.0)) ≡ true
+    → is_below H p x ≡ is_below H (p ++ q) x
 agree_longer H p q e x under t = either (is_below H p x) refl
   where
     either : (b : Bool) → is_below H p x ≡ b → is_below H p x ≡ is_below H (p ++ q) x
@@ -136,20 +161,31 @@ agree_longer H p q e x under t = either (is_below H p x) refl
         let same : same_bits (key_bits H e.0) (key_bits H x.0) ≡ true = rw y at t in
         y ∙ sym (ap (begins (p ++ q)) (sym (same_bits-true (key_bits H e.0) (key_bits H x.0) same)) ∙ under)
 
-pub record LoneLonger (H : List ℕ → List ℕ) (es : List (List ℕ × List ℕ)) (p q : List Bool) (e : List ℕ × List ℕ) : Type 0 where
+pub record LoneLonger (H : List ℕ → List ℕ) (es : List (List ℕ × List ℕ)) (p q : List Bool)
+    (e : List ℕ × List ℕ) : Type 0 where
   pub is_last : last_with (is_below H (p ++ q)) es ≡ Some e
   pub alone : is_lone H es (p ++ q) e ≡ true
   pub is_version : version H es (p ++ q) ≡ version H es p
 
-pub lone_longer : (H : List ℕ → List ℕ) (es : List (List ℕ × List ℕ)) (p q : List Bool) (e : List ℕ × List ℕ) → last_with (is_below H p) es ≡ Some e → is_lone H es p e ≡ true → is_below H (p ++ q) e ≡ true → LoneLonger H es p q e
+pub lone_longer : (H : List ℕ → List ℕ) (es : List (List ℕ × List ℕ)) (p q : List Bool) (e : List ℕ × List ℕ)
+    → last_with (is_below H p) es ≡ Some e → is_lone H es p e ≡ true → is_below H (p ++ q) e ≡ true
+    → LoneLonger H es p q e
 lone_longer H es p q e last lone under = record {
-  is_last = sym (last_same (is_below H p) (is_below H (p ++ q)) (λ f. not (is_below H p f) || same_bits (key_bits H e.0) (key_bits H f.0)) (λ f t. agree_longer H p q e f under t) es lone) ∙ last;
-  alone = all_weaker (λ f. not (is_below H p f) || same_bits (key_bits H e.0) (key_bits H f.0)) (λ f. not (is_below H (p ++ q) f) || same_bits (key_bits H e.0) (key_bits H f.0)) (λ f t. ap (λ b. not b || same_bits (key_bits H e.0) (key_bits H f.0)) (sym (agree_longer H p q e f under t)) ∙ t) es lone;
-  is_version = sym (place_same (is_below H p) (is_below H (p ++ q)) (λ f. not (is_below H p f) || same_bits (key_bits H e.0) (key_bits H f.0)) (λ f t. agree_longer H p q e f under t) es lone);
+  is_last = sym (last_same (is_below H p) (is_below H (p ++ q))
+      (λ f. not (is_below H p f) || same_bits (key_bits H e.0) (key_bits H f.0)) (λ f t. agree_longer H p q e f under t)
+      es lone) ∙ last;
+  alone = all_weaker (λ f. not (is_below H p f) || same_bits (key_bits H e.0) (key_bits H f.0))
+      (λ f. not (is_below H (p ++ q) f) || same_bits (key_bits H e.0) (key_bits H f.0))
+      (λ f t. ap (λ b. not b || same_bits (key_bits H e.0) (key_bits H f.0)) (sym (agree_longer H p q e f under t)) ∙ t)
+      es lone;
+  is_version = sym (place_same (is_below H p) (is_below H (p ++ q))
+      (λ f. not (is_below H p f) || same_bits (key_bits H e.0) (key_bits H f.0)) (λ f t. agree_longer H p q e f under t)
+      es lone);
 }
 
 -- elsewhere below the shorter prefix nothing stands
-pub lone_elsewhere : (H : List ℕ → List ℕ) (es : List (List ℕ × List ℕ)) (p q : List Bool) (e : List ℕ × List ℕ) → is_lone H es p e ≡ true → is_below H (p ++ q) e ≡ false → last_with (is_below H (p ++ q)) es ≡ None
+pub lone_elsewhere : (H : List ℕ → List ℕ) (es : List (List ℕ × List ℕ)) (p q : List Bool) (e : List ℕ × List ℕ)
+    → is_lone H es p e ≡ true → is_below H (p ++ q) e ≡ false → last_with (is_below H (p ++ q)) es ≡ None
 lone_elsewhere H es p q e lone off = by_last (last_with (is_below H (p ++ q)) es) refl
   where
     by_last : (o : Option (List ℕ × List ℕ)) → last_with (is_below H (p ++ q)) es ≡ o → o ≡ None
@@ -157,9 +193,11 @@ lone_elsewhere H es p q e lone off = by_last (last_with (is_below H (p ++ q)) es
     by_last (Some x) h =
         let here = last_passes (is_below H (p ++ q)) es x h in
         let up : is_below H p x ≡ true = shorter (is_below H p x) refl here in
-        let all = all_last (λ f. not (is_below H p f) || same_bits (key_bits H e.0) (key_bits H f.0)) (is_below H (p ++ q)) es x lone h in
+        let all = all_last (λ f. not (is_below H p f) || same_bits (key_bits H e.0) (key_bits H f.0))
+        (is_below H (p ++ q)) es x lone h in
         let same : same_bits (key_bits H e.0) (key_bits H x.0) ≡ true = rw up at all in
-        let there : is_below H (p ++ q) e ≡ true = ap (begins (p ++ q)) (same_bits-true (key_bits H e.0) (key_bits H x.0) same) ∙ here in
+        let there : is_below H (p ++ q) e ≡ true = ap (begins (p ++ q))
+        (same_bits-true (key_bits H e.0) (key_bits H x.0) same) ∙ here in
         absurd (let no : true ≡ false = sym there ∙ off in cc)
       where
         shorter : (b : Bool) → is_below H p x ≡ b → is_below H (p ++ q) x ≡ true → b ≡ true

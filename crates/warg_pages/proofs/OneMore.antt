@@ -20,55 +20,76 @@ use Rattle.warg_pages.proofs.PageRoots.{HasByte, slot_byte, begins-append, root-
 use Rattle.warg_pages.proofs.KeyPrefixes.{length-bits_from, key_split}
 
 -- the last element, and its place, with one more behind
-pub last_with-more : {X : Type 0} (p : X → Bool) (xs : List X) (x : X) → last_with p (xs ++ x ∷ []) ≡ cond (p x) (Some x) (last_with p xs)
+pub last_with-more : {X : Type 0} (p : X → Bool) (xs : List X) (x : X) → last_with p (xs ++ x ∷ [])
+    ≡ cond (p x) (Some x) (last_with p xs)
 unfolding last_with
 last_with-more p [] x = refl
 last_with-more p (y ∷ xs) x = rw (last_with-more p xs x) (join (p x) (last_with p xs) (cond (p y) (Some y) None) x)
   where
-    join : {X : Type 0} (b : Bool) (o r : Option X) (x : X) → option_or (cond b (Some x) o) r ≡ cond b (Some x) (option_or o r)
+    join : {X : Type 0} (b : Bool) (o r : Option X) (x : X) → option_or (cond b (Some x) o) r
+        ≡ cond b (Some x) (option_or o r)
     join true o r x = refl
     join false o r x = refl
 
-pub last_place-more : {X : Type 0} (p : X → Bool) (xs : List X) (x : X) → last_place p (xs ++ x ∷ []) ≡ cond (p x) (length (xs ++ x ∷ [])) (last_place p xs)
+pub last_place-more : {X : Type 0} (p : X → Bool) (xs : List X) (x : X) → last_place p (xs ++ x ∷ [])
+    ≡ cond (p x) (length (xs ++ x ∷ [])) (last_place p xs)
 unfolding last_place
 last_place-more p [] x = refl
-last_place-more p (y ∷ xs) x = rw (last_place-more p xs x) (join (p x) (length (xs ++ x ∷ [])) (last_place p xs) (cond (p y) 1 0) some)
+last_place-more p (y ∷ xs) x = rw (last_place-more p xs x)
+    (join (p x) (length (xs ++ x ∷ [])) (last_place p xs) (cond (p y) 1 0) some)
   where
     some : eqb (length (xs ++ x ∷ [])) 0 ≡ false
     some = rw (length-append xs (x ∷ [])) (grind arith)
 
-    join : (b : Bool) (n m r : ℕ) → eqb n 0 ≡ false → cond (eqb (cond b n m) 0) r (suc (cond b n m)) ≡ cond b (suc n) (cond (eqb m 0) r (suc m))
+    join : (b : Bool) (n m r : ℕ) → eqb n 0 ≡ false → cond (eqb (cond b n m) 0) r (suc (cond b n m))
+        ≡ cond b (suc n) (cond (eqb m 0) r (suc m))
     join true n m r e = cond-false _ _ _ e
     join false n m r e = refl
 
-pub list_all-more : {X : Type 0} (p : X → Bool) (xs : List X) (x : X) → p x ≡ true → list_all p (xs ++ x ∷ []) ≡ list_all p xs
+pub list_all-more : {X : Type 0} (p : X → Bool) (xs : List X) (x : X) → p x ≡ true → list_all p (xs ++ x ∷ [])
+    ≡ list_all p xs
 list_all-more p [] x e = rw e refl
 list_all-more p (y ∷ xs) x e = rw (list_all-more p xs x e) refl
 
 -- below a prefix of other bits nothing changes
 other_bits : (p q k : List Bool) → begins p k ≡ false → same_bits (p ++ q) k ≡ false
-other_bits p q k f = false_from_ne_true _ (λ s. let e : begins p (p ++ q) ≡ false = ap (begins p) (same_bits-true (p ++ q) k s) ∙ f in let t = begins-append p q in cc)
+other_bits p q k f = false_from_ne_true _
+    (λ s. let e : begins p (p ++ q) ≡ false = ap (begins p) (same_bits-true (p ++ q) k s) ∙ f in
+    let t = begins-append p q in cc)
 
-below-other : (H : List ℕ → List ℕ) (es : List (List ℕ × List ℕ)) (e : List ℕ × List ℕ) (p q : List Bool) → is_below H p e ≡ false → below (map_of H (es ++ e ∷ [])) p q ≡ below (map_of H es) p q
+below-other : (H : List ℕ → List ℕ) (es : List (List ℕ × List ℕ)) (e : List ℕ × List ℕ) (p q : List Bool)
+    → is_below H p e ≡ false → below (map_of H (es ++ e ∷ [])) p q ≡ below (map_of H es) p q
 below-other H es e p q f =
-    last_held H (p ++ q) (es ++ e ∷ []) ∙ ap (option_map (λ (x : List ℕ × List ℕ). leaf_digest H x.1)) (last_with-more (λ x. same_bits (p ++ q) (key_bits H x.0)) es e ∙ cond-false _ _ _ (other_bits p q (key_bits H e.0) f)) ∙ sym (last_held H (p ++ q) es)
+    last_held H (p ++ q) (es ++ e ∷ []) ∙ ap (option_map (λ (x : List ℕ × List ℕ). leaf_digest H x.1))
+    (last_with-more (λ x. same_bits (p ++ q) (key_bits H x.0)) es e
+    ∙ cond-false _ _ _ (other_bits p q (key_bits H e.0) f)) ∙ sym (last_held H (p ++ q) es)
 
-slot_over-other : (H : List ℕ → List ℕ) (es : List (List ℕ × List ℕ)) (e : List ℕ × List ℕ) (p : List Bool) (s : ℕ) (last : Option (List ℕ × List ℕ)) → is_below H p e ≡ false → slot_over H (es ++ e ∷ []) p s last ≡ slot_over H es p s last
+slot_over-other : (H : List ℕ → List ℕ) (es : List (List ℕ × List ℕ)) (e : List ℕ × List ℕ) (p : List Bool) (s : ℕ)
+    (last : Option (List ℕ × List ℕ)) → is_below H p e ≡ false → slot_over H (es ++ e ∷ []) p s last
+    ≡ slot_over H es p s last
 slot_over-other H es e p s None f = refl
 slot_over-other H es e p s (Some x) f =
     let v : version H (es ++ e ∷ []) p ≡ version H es p = last_place-more (is_below H p) es e ∙ cond-false _ _ _ f in
-    let d = root-same H (256 - length p) (below (map_of H (es ++ e ∷ [])) p) (below (map_of H es) p) (λ q. below-other H es e p q f) in
-    let l : is_lone H (es ++ e ∷ []) p x ≡ is_lone H es p x = list_all-more (λ y. not (is_below H p y) || same_bits (key_bits H x.0) (key_bits H y.0)) es e (rw f refl) in
+    let d = root-same H (256 - length p) (below (map_of H (es ++ e ∷ [])) p) (below (map_of H es) p)
+    (λ q. below-other H es e p q f) in
+    let l : is_lone H (es ++ e ∷ []) p x ≡ is_lone H es p x =
+    list_all-more (λ y. not (is_below H p y) || same_bits (key_bits H x.0) (key_bits H y.0)) es e (rw f refl) in
     rw (v, d, l) refl
 
-pub slot_of-other : (H : List ℕ → List ℕ) (es : List (List ℕ × List ℕ)) (e : List ℕ × List ℕ) (p : List Bool) (s : ℕ) → is_below H (p ++ byte_bits s) e ≡ false → slot_of H (es ++ e ∷ []) p s ≡ slot_of H es p s
+pub slot_of-other : (H : List ℕ → List ℕ) (es : List (List ℕ × List ℕ)) (e : List ℕ × List ℕ) (p : List Bool) (s : ℕ)
+    → is_below H (p ++ byte_bits s) e ≡ false → slot_of H (es ++ e ∷ []) p s ≡ slot_of H es p s
 slot_of-other H es e p s f =
-    ap (slot_over H (es ++ e ∷ []) (p ++ byte_bits s) s) (last_with-more (is_below H (p ++ byte_bits s)) es e ∙ cond-false _ _ _ f) ∙ slot_over-other H es e (p ++ byte_bits s) s _ f
+    ap (slot_over H (es ++ e ∷ []) (p ++ byte_bits s) s) (last_with-more (is_below H (p ++ byte_bits s)) es e
+    ∙ cond-false _ _ _ f) ∙ slot_over-other H es e (p ++ byte_bits s) s _ f
 
-slot_of-same : (H : List ℕ → List ℕ) (es : List (List ℕ × List ℕ)) (e : List ℕ × List ℕ) (p : List Bool) (s : ℕ) → is_below H (p ++ byte_bits s) e ≡ true → slot_of H (es ++ e ∷ []) p s ≡ Some (last_slot H (es ++ e ∷ []) (p ++ byte_bits s) s e)
+slot_of-same : (H : List ℕ → List ℕ) (es : List (List ℕ × List ℕ)) (e : List ℕ × List ℕ) (p : List Bool) (s : ℕ)
+    → is_below H (p ++ byte_bits s) e ≡ true → slot_of H (es ++ e ∷ []) p s
+    ≡ Some (last_slot H (es ++ e ∷ []) (p ++ byte_bits s) s e)
 slot_of-same H es e p s t =
-    let v : version H (es ++ e ∷ []) (p ++ byte_bits s) ≡ length (es ++ e ∷ []) = last_place-more (is_below H (p ++ byte_bits s)) es e ∙ cond-true _ _ _ t in
-    ap (slot_over H (es ++ e ∷ []) (p ++ byte_bits s) s) (last_with-more (is_below H (p ++ byte_bits s)) es e ∙ cond-true _ _ _ t) ∙ rw v refl
+    let v : version H (es ++ e ∷ []) (p ++ byte_bits s) ≡ length (es ++ e ∷ []) =
+    last_place-more (is_below H (p ++ byte_bits s)) es e ∙ cond-true _ _ _ t in
+    ap (slot_over H (es ++ e ∷ []) (p ++ byte_bits s) s) (last_with-more (is_below H (p ++ byte_bits s)) es e
+    ∙ cond-true _ _ _ t) ∙ rw v refl
 
 -- of a page's bytes one begins with a key's bits
 pub begins-front : (p a b : List Bool) → begins (p ++ a) (p ++ b) ≡ begins a b
@@ -88,68 +109,92 @@ begins-same (false ∷ a) (false ∷ b) c n e = ap (λ t. false ∷ t) (begins-s
 pub own_byte : (p rest : List Bool) (s : ℕ) → begins (p ++ byte_bits s) (p ++ (byte_bits s ++ rest)) ≡ true
 own_byte p rest s = begins-front p (byte_bits s) (byte_bits s ++ rest) ∙ begins-append (byte_bits s) rest
 
-pub other_byte : (p rest : List Bool) (s t : ℕ) → s < 256 → t < 256 → ¬ (t ≡ s) → begins (p ++ byte_bits t) (p ++ (byte_bits s ++ rest)) ≡ false
-other_byte p rest s t low lt n = begins-front p (byte_bits t) (byte_bits s ++ rest) ∙ false_from_ne_true _ (λ e. n (same e))
+pub other_byte : (p rest : List Bool) (s t : ℕ) → s < 256 → t < 256 → ¬ (t ≡ s)
+    → begins (p ++ byte_bits t) (p ++ (byte_bits s ++ rest)) ≡ false
+other_byte p rest s t low lt n = begins-front p (byte_bits t) (byte_bits s ++ rest)
+    ∙ false_from_ne_true _ (λ e. n (same e))
   where
     same : begins (byte_bits t) (byte_bits s ++ rest) ≡ true → t ≡ s
-    same e = sym (number-byte_bits t lt) ∙ ap number (begins-same (byte_bits t) (byte_bits s) rest (length-bits_from (t ∷ []) 0 8 ∙ sym (length-bits_from (s ∷ []) 0 8)) e) ∙ number-byte_bits s low
+    same e = sym (number-byte_bits t lt)
+        ∙ ap number (begins-same (byte_bits t) (byte_bits s) rest (length-bits_from (t ∷ []) 0 8
+        ∙ sym (length-bits_from (s ∷ []) 0 8)) e) ∙ number-byte_bits s low
 
 -- slots of functions that differ at one number
 abbrev pub Alike : (ℕ → Option SlotAt) → (ℕ → Option SlotAt) → ℕ → Type 0
 Alike f g s = (t : ℕ) → t < 256 → ¬ (t ≡ s) → g t ≡ f t
 
-behind : (f g : ℕ → Option SlotAt) (s first n : ℕ) → Alike f g s → s < first → first + n ≤ 256 → filter_map g (numbers first n) ≡ filter_map f (numbers first n)
+behind : (f g : ℕ → Option SlotAt) (s first n : ℕ) → Alike f g s → s < first → first + n ≤ 256
+    → filter_map g (numbers first n) ≡ filter_map f (numbers first n)
 unfolding numbers
 behind f g s first zero h lt le = refl
-behind f g s first (suc n) h lt le = rw (h first (omega arith) (λ e. omega arith), behind f g s (first + 1) n h (omega arith) (omega arith)) refl
+behind f g s first (suc n) h lt le =
+    rw (h first (omega arith) (λ e. omega arith), behind f g s (first + 1) n h (omega arith) (omega arith)) refl
 
-front_of : (x : SlotAt) (first : ℕ) (o : Option SlotAt) (ys : List SlotAt) → HasByte first o → x.byte < first → with_slot x ys ≡ x ∷ ys → with_slot x (cons_option o ys) ≡ x ∷ cons_option o ys
+front_of : (x : SlotAt) (first : ℕ) (o : Option SlotAt) (ys : List SlotAt) → HasByte first o → x.byte < first
+    → with_slot x ys ≡ x ∷ ys → with_slot x (cons_option o ys) ≡ x ∷ cons_option o ys
 unfolding with_slot
 front_of x first None ys h lt front = front
 front_of x first (Some y) ys h lt front = cond-true _ _ _ (lt-ltb x.byte y.byte (omega arith))
 
-in_front : (f : ℕ → Option SlotAt) (x : SlotAt) (first n : ℕ) → ((t : ℕ) → HasByte t (f t)) → x.byte < first → with_slot x (filter_map f (numbers first n)) ≡ x ∷ filter_map f (numbers first n)
+in_front : (f : ℕ → Option SlotAt) (x : SlotAt) (first n : ℕ) → ((t : ℕ) → HasByte t (f t)) → x.byte < first
+    → with_slot x (filter_map f (numbers first n)) ≡ x ∷ filter_map f (numbers first n)
 unfolding numbers with_slot
 in_front f x first zero i lt = refl
 in_front f x first (suc n) i lt = front_of x first (f first) _ (i first) lt (in_front f x (first + 1) n i (omega arith))
 
-replaced : (x : SlotAt) (first : ℕ) (o : Option SlotAt) (ys : List SlotAt) → HasByte first o → x.byte ≡ first → with_slot x ys ≡ x ∷ ys → x ∷ ys ≡ with_slot x (cons_option o ys)
+replaced : (x : SlotAt) (first : ℕ) (o : Option SlotAt) (ys : List SlotAt) → HasByte first o → x.byte ≡ first
+    → with_slot x ys ≡ x ∷ ys → x ∷ ys ≡ with_slot x (cons_option o ys)
 unfolding with_slot
 replaced x first None ys h e front = sym front
-replaced x first (Some y) ys h e front = sym (cond-false _ _ _ (le-ltb x.byte y.byte (omega arith)) ∙ cond-true _ _ _ (eq-eqb x.byte y.byte (e ∙ sym h)))
+replaced x first (Some y) ys h e front = sym (cond-false _ _ _ (le-ltb x.byte y.byte (omega arith))
+    ∙ cond-true _ _ _ (eq-eqb x.byte y.byte (e ∙ sym h)))
 
-passed : (x : SlotAt) (first : ℕ) (o : Option SlotAt) (ys : List SlotAt) → HasByte first o → first < x.byte → cons_option o (with_slot x ys) ≡ with_slot x (cons_option o ys)
+passed : (x : SlotAt) (first : ℕ) (o : Option SlotAt) (ys : List SlotAt) → HasByte first o → first < x.byte
+    → cons_option o (with_slot x ys) ≡ with_slot x (cons_option o ys)
 unfolding with_slot
 passed x first None ys h lt = refl
-passed x first (Some y) ys h lt = sym (cond-false _ _ _ (le-ltb x.byte y.byte (omega arith)) ∙ cond-false _ _ _ (false_from_ne_true _ (λ e. let same = eqb-true x.byte y.byte e in omega arith)))
+passed x first (Some y) ys h lt = sym (cond-false _ _ _ (le-ltb x.byte y.byte (omega arith))
+    ∙ cond-false _ _ _ (false_from_ne_true _ (λ e. let same = eqb-true x.byte y.byte e in omega arith)))
 
-pub with_one : (f g : ℕ → Option SlotAt) (x : SlotAt) (first n : ℕ) → ((t : ℕ) → HasByte t (f t)) → Alike f g x.byte → g x.byte ≡ Some x → first ≤ x.byte → x.byte < first + n → first + n ≤ 256
+pub with_one : (f g : ℕ → Option SlotAt) (x : SlotAt) (first n : ℕ) → ((t : ℕ) → HasByte t (f t)) → Alike f g x.byte
+    → g x.byte ≡ Some x → first ≤ x.byte → x.byte < first + n → first + n ≤ 256
     → filter_map g (numbers first n) ≡ with_slot x (filter_map f (numbers first n))
 unfolding numbers
 with_one f g x first zero i h at ge lt le = absurd (omega arith)
 with_one f g x first (suc n) i h at ge lt le = elim (cases_lt first x.byte) [
-  | inl low ↦ rw (h first (omega arith) (λ e. omega arith), with_one f g x (first + 1) n i h at (omega arith) (omega arith) (omega arith)) (passed x first (f first) _ (i first) low)
+  | inl low ↦ rw (
+    h first (omega arith) (λ e. omega arith),
+    with_one f g x (first + 1) n i h at (omega arith)
+        (omega arith) (omega arith),
+  ) (passed x first (f first) _ (i first) low)
   | inr high ↦ (
       let same : first ≡ x.byte = omega arith in
       let new : g first ≡ Some x = ap g same ∙ at in
-      rw (new, behind f g x.byte (first + 1) n h (omega arith) (omega arith)) (replaced x first (f first) _ (i first) (sym same) (in_front f x (first + 1) n i (omega arith))))
+      rw (new, behind f g x.byte (first + 1) n h (omega arith) (omega arith))
+      (replaced x first (f first) _ (i first) (sym same) (in_front f x (first + 1) n i (omega arith))))
 ]
 
 -- the page on the way of the new key
-pub one_more : (H : List ℕ → List ℕ) (es : List (List ℕ × List ℕ)) (e : List ℕ × List ℕ) (p rest : List Bool) (s : ℕ) → s < 256 → key_bits H e.0 ≡ p ++ (byte_bits s ++ rest)
+pub one_more : (H : List ℕ → List ℕ) (es : List (List ℕ × List ℕ)) (e : List ℕ × List ℕ) (p rest : List Bool) (s : ℕ)
+    → s < 256 → key_bits H e.0 ≡ p ++ (byte_bits s ++ rest)
     → page_of H (es ++ e ∷ []) p ≡ with_slot (last_slot H (es ++ e ∷ []) (p ++ byte_bits s) s e) (page_of H es p)
 unfolding page_of
 one_more H es e p rest s lt path =
-    with_one (slot_of H es p) (slot_of H (es ++ e ∷ []) p) (last_slot H (es ++ e ∷ []) (p ++ byte_bits s) s e) 0 256 (λ t. slot_byte H es (p ++ byte_bits t) t _)
+    with_one (slot_of H es p) (slot_of H (es ++ e ∷ []) p) (last_slot H (es ++ e ∷ []) (p ++ byte_bits s) s e) 0 256
+    (λ t. slot_byte H es (p ++ byte_bits t) t _)
     (λ t low n. slot_of-other H es e p t (ap (begins (p ++ byte_bits t)) path ∙ other_byte p rest s t lt low n))
-    (slot_of-same H es e p s (ap (begins (p ++ byte_bits s)) path ∙ own_byte p rest s)) (omega arith) (omega arith) (omega arith)
+    (slot_of-same H es e p s (ap (begins (p ++ byte_bits s)) path ∙ own_byte p rest s)) (omega arith) (omega arith)
+    (omega arith)
 
-pub page_on_way : (H : List ℕ → List ℕ) (es : List (List ℕ × List ℕ)) (e : List ℕ × List ℕ) (depth : ℕ) → IsDigest (H e.0) → depth < 32
+pub page_on_way : (H : List ℕ → List ℕ) (es : List (List ℕ × List ℕ)) (e : List ℕ × List ℕ) (depth : ℕ)
+    → IsDigest (H e.0) → depth < 32
     → page_of H (es ++ e ∷ []) (prefix_of H e.0 depth)
-    ≡ with_slot (last_slot H (es ++ e ∷ []) (prefix_of H e.0 depth ++ byte_bits (slice_index (H e.0) depth)) (slice_index (H e.0) depth) e) (page_of H es (prefix_of H e.0 depth))
+    ≡ with_slot (last_slot H (es ++ e ∷ []) (prefix_of H e.0 depth ++ byte_bits (slice_index (H e.0) depth))
+    (slice_index (H e.0) depth) e) (page_of H es (prefix_of H e.0 depth))
 page_on_way H es e depth is lt =
     let size = is.has_32 in
-    one_more H es e (prefix_of H e.0 depth) (last_bits (H e.0) (slot_height depth)) (slice_index (H e.0) depth) (is.are_bytes depth 0 (omega arith)) (key_split H e.0 depth lt)
+    one_more H es e (prefix_of H e.0 depth) (last_bits (H e.0) (slot_height depth)) (slice_index (H e.0) depth)
+    (is.are_bytes depth 0 (omega arith)) (key_split H e.0 depth lt)
 
 -- every other page
 pub longer : (p q k : List Bool) → begins p k ≡ false → begins (p ++ q) k ≡ false
@@ -161,11 +206,14 @@ longer (true ∷ p) q (false ∷ k) f = refl
 longer (false ∷ p) q (true ∷ k) f = refl
 longer (false ∷ p) q (false ∷ k) f = longer p q k f
 
-same_slots : (f g : ℕ → Option SlotAt) (first n : ℕ) → ((t : ℕ) → g t ≡ f t) → filter_map g (numbers first n) ≡ filter_map f (numbers first n)
+same_slots : (f g : ℕ → Option SlotAt) (first n : ℕ) → ((t : ℕ) → g t ≡ f t) → filter_map g (numbers first n)
+    ≡ filter_map f (numbers first n)
 unfolding numbers
 same_slots f g first zero h = refl
 same_slots f g first (suc n) h = rw (h first, same_slots f g (first + 1) n h) refl
 
-pub page_off_way : (H : List ℕ → List ℕ) (es : List (List ℕ × List ℕ)) (e : List ℕ × List ℕ) (p : List Bool) → begins p (key_bits H e.0) ≡ false → page_of H (es ++ e ∷ []) p ≡ page_of H es p
+pub page_off_way : (H : List ℕ → List ℕ) (es : List (List ℕ × List ℕ)) (e : List ℕ × List ℕ) (p : List Bool)
+    → begins p (key_bits H e.0) ≡ false → page_of H (es ++ e ∷ []) p ≡ page_of H es p
 unfolding page_of
-page_off_way H es e p f = same_slots (slot_of H es p) (slot_of H (es ++ e ∷ []) p) 0 256 (λ t. slot_of-other H es e p t (longer p (byte_bits t) (key_bits H e.0) f))
+page_off_way H es e p f = same_slots (slot_of H es p) (slot_of H (es ++ e ∷ []) p) 0 256
+    (λ t. slot_of-other H es e p t (longer p (byte_bits t) (key_bits H e.0) f))

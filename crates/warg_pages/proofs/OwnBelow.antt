@@ -33,22 +33,30 @@ unfolding numbers
 no_slots f first zero h = refl
 no_slots f first (suc n) h = rw (h first, no_slots f (first + 1) n h) refl
 
-pub nothing_below : (H : List ℕ → List ℕ) (es : List (List ℕ × List ℕ)) (p : List Bool) (s : ℕ) (last : Option (List ℕ × List ℕ)) → last_with (is_below H p) es ≡ last → None ≡ slot_over H es p s last → page_of H es p ≡ []
+pub nothing_below : (H : List ℕ → List ℕ) (es : List (List ℕ × List ℕ)) (p : List Bool) (s : ℕ)
+    (last : Option (List ℕ × List ℕ)) → last_with (is_below H p) es ≡ last → None ≡ slot_over H es p s last
+    → page_of H es p ≡ []
 unfolding page_of
-nothing_below H es p s None l e = no_slots (slot_of H es p) 0 256 (λ t. ap (slot_over H es (p ++ byte_bits t) t) (none_longer H p (byte_bits t) es l))
+nothing_below H es p s None l e = no_slots (slot_of H es p) 0 256
+    (λ t. ap (slot_over H es (p ++ byte_bits t) t) (none_longer H p (byte_bits t) es l))
 nothing_below H es p s (Some x) l e = absurd (cc)
 
 -- one slot at a byte
-one_slot : (f : ℕ → Option SlotAt) (x : SlotAt) → x.byte < 256 → f x.byte ≡ Some x → ((t : ℕ) → t < 256 → ¬ (t ≡ x.byte) → f t ≡ None) → filter_map f (numbers 0 256) ≡ x ∷ []
+one_slot : (f : ℕ → Option SlotAt) (x : SlotAt) → x.byte < 256 → f x.byte ≡ Some x
+    → ((t : ℕ) → t < 256 → ¬ (t ≡ x.byte) → f t ≡ None) → filter_map f (numbers 0 256) ≡ x ∷ []
 unfolding with_slot
-one_slot f x lt here other = with_one (λ t. None) f x 0 256 (λ t. tt) other here (omega arith) (omega arith) (omega arith) ∙ ap (with_slot x) (no_slots (λ t. None) 0 256 (λ t. refl))
+one_slot f x lt here other = with_one (λ t. None) f x 0 256 (λ t. tt) other here (omega arith) (omega arith)
+    (omega arith) ∙ ap (with_slot x) (no_slots (λ t. None) 0 256 (λ t. refl))
 
 -- a lone key below a prefix
-pub one_below : (H : List ℕ → List ℕ) → GivesHashes H → (es : List (List ℕ × List ℕ)) (p : List Bool) (depth : ℕ) (e : List ℕ × List ℕ) → length p ≡ 8 * depth → depth < 32 → last_with (is_below H p) es ≡ Some e → is_lone H es p e ≡ true
+pub one_below : (H : List ℕ → List ℕ) → GivesHashes H → (es : List (List ℕ × List ℕ)) (p : List Bool) (depth : ℕ)
+    (e : List ℕ × List ℕ) → length p ≡ 8 * depth → depth < 32 → last_with (is_below H p) es ≡ Some e
+    → is_lone H es p e ≡ true
     → page_of H es p ≡ lone_slot H depth (slice_index (H e.0) depth) (version H es p) (H e.0, leaf_digest H e.1) ∷ []
 unfolding page_of
 one_below H gives es p depth e size lt last lone =
-    one_slot (slot_of H es p) (lone_slot H depth (slice_index (H e.0) depth) (version H es p) (H e.0, leaf_digest H e.1)) fits here other
+    one_slot (slot_of H es p) (lone_slot H depth (slice_index (H e.0) depth) (version H es p)
+    (H e.0, leaf_digest H e.1)) fits here other
   where
     fits : slice_index (H e.0) depth < 256
     fits = let is = gives (e.0) in let all = is.has_32 in is.are_bytes depth 0 (omega arith)
@@ -59,64 +67,90 @@ one_below H gives es p depth e size lt last lone =
     sizes : (t : ℕ) → length (p ++ byte_bits t) ≡ 8 * depth + 8
     sizes t = length-append p (byte_bits t) ∙ (let n = length-bits_from (t ∷ []) 0 8 in omega arith)
 
-    here : slot_of H es p (slice_index (H e.0) depth) ≡ Some (lone_slot H depth (slice_index (H e.0) depth) (version H es p) (H e.0, leaf_digest H e.1))
+    here : slot_of H es p (slice_index (H e.0) depth)
+        ≡ Some (lone_slot H depth (slice_index (H e.0) depth) (version H es p) (H e.0, leaf_digest H e.1))
     here =
         let s : ℕ = slice_index (H e.0) depth in
-        let there : is_below H (p ++ byte_bits s) e ≡ true = begins-more (H e.0) p depth s (gives _) size lt fits ∙ rw under (eq-eqb s s refl) in
+        let there : is_below H (p ++ byte_bits s) e ≡ true = begins-more (H e.0) p depth s (gives _) size lt fits
+        ∙ rw under (eq-eqb s s refl) in
         let long = lone_longer H es p (byte_bits s) e last lone there in
-        lone_slot_is H es (p ++ byte_bits s) depth s e (sizes s) lt long.is_last long.alone ∙ ap (λ v. Some (lone_slot H depth s v (H e.0, leaf_digest H e.1))) long.is_version
+        lone_slot_is H es (p ++ byte_bits s) depth s e (sizes s) lt long.is_last long.alone
+        ∙ ap (λ v. Some (lone_slot H depth s v (H e.0, leaf_digest H e.1))) long.is_version
 
     other : (t : ℕ) → t < 256 → ¬ (t ≡ slice_index (H e.0) depth) → slot_of H es p t ≡ None
     other t low apart =
-        let off : is_below H (p ++ byte_bits t) e ≡ false = begins-more (H e.0) p depth t (gives _) size lt low ∙ rw under (ne_eqb (slice_index (H e.0) depth) t (λ same. apart (sym same))) in
+        let off : is_below H (p ++ byte_bits t) e ≡ false = begins-more (H e.0) p depth t (gives _) size lt low
+        ∙ rw under (ne_eqb (slice_index (H e.0) depth) t (λ same. apart (sym same))) in
         ap (slot_over H es (p ++ byte_bits t) t) (lone_elsewhere H es p (byte_bits t) e lone off)
 
 -- what an own slot with a lone key says of it
-pub record OwnLoneBelow (H : List ℕ → List ℕ) (es : List (List ℕ × List ℕ)) (prefix : List ℕ) (x : SlotAt) (lone : List ℕ × List ℕ) : Type 0 where
+pub record OwnLoneBelow (H : List ℕ → List ℕ) (es : List (List ℕ × List ℕ)) (prefix : List ℕ) (x : SlotAt)
+    (lone : List ℕ × List ℕ) : Type 0 where
   pub begins : take (length prefix) lone.0 ≡ prefix
   pub page : page_of H es (bits_of_bytes prefix) ≡ slot_one_down H prefix x.version lone ∷ []
 
-own_over : (H : List ℕ → List ℕ) → GivesHashes H → (es : List (List ℕ × List ℕ)) (prefix : List ℕ) (s : ℕ) (last : Option (List ℕ × List ℕ)) (x : SlotAt) (lone : List ℕ × List ℕ) → All IsByte prefix → length prefix < 32
-    → last_with (is_below H (bits_of_bytes prefix)) es ≡ last → Some x ≡ slot_over H es (bits_of_bytes prefix) s last → x.lone ≡ Some lone → OwnLoneBelow H es prefix x lone
+own_over : (H : List ℕ → List ℕ) → GivesHashes H → (es : List (List ℕ × List ℕ)) (prefix : List ℕ) (s : ℕ)
+    (last : Option (List ℕ × List ℕ)) (x : SlotAt) (lone : List ℕ × List ℕ) → All IsByte prefix → length prefix < 32
+    → last_with (is_below H (bits_of_bytes prefix)) es ≡ last → Some x ≡ slot_over H es (bits_of_bytes prefix) s last
+    → x.lone ≡ Some lone → OwnLoneBelow H es prefix x lone
 own_over H gives es prefix s None x lone bytes short l e is = absurd (cc)
 own_over H gives es prefix s (Some f) x lone bytes short l e is =
     let p : List Bool = bits_of_bytes prefix in
     let size : length p ≡ 8 * length prefix = length-bits prefix in
     let same = some_same e in
-    let found = lone_of (is_lone H es p f) (H f.0, leaf_digest H f.1) lone (sym (ap (λ (y : SlotAt). y.lone) same) ∙ is) in
+    let found = lone_of (is_lone H es p f) (H f.0, leaf_digest H f.1) lone (sym (ap (λ (y : SlotAt). y.lone) same)
+    ∙ is) in
     let under = last_passes (is_below H p) es f l in
     let rest = begins-rest p (key_bits H f.0) under in
-    let bits = (same_parts p rest.0 (bits_from (H f.0) 0 (8 * length prefix)) (last_bits (H f.0) (256 - 8 * length prefix)) (size ∙ sym (length-bits_from (H f.0) 0 (8 * length prefix))) (sym rest.1 ∙ key_at (H f.0) (8 * length prefix) (omega arith))).0 in
+    let bits = (same_parts p rest.0 (bits_from (H f.0) 0 (8 * length prefix))
+    (last_bits (H f.0) (256 - 8 * length prefix)) (size ∙ sym (length-bits_from (H f.0) 0 (8 * length prefix)))
+    (sym rest.1 ∙ key_at (H f.0) (8 * length prefix) (omega arith))).0 in
     let is_digest = gives f.0 in
     let has = is_digest.has_32 in
-    let taken : length (take (length prefix) (H f.0)) ≡ length prefix = let all = length-take (length prefix) (H f.0) in omega arith in
-    let begins : take (length prefix) (H f.0) ≡ prefix = same_bytes (take (length prefix) (H f.0)) prefix (All-take IsByte (length prefix) (H f.0) is_digest.are_bytes) bytes taken (bits_of_taken (H f.0) (length prefix) (omega arith) ∙ sym bits) in
+    let taken : length (take (length prefix) (H f.0)) ≡ length prefix = let all = length-take (length prefix) (H f.0) in
+    omega arith in
+    let begins : take (length prefix) (H f.0) ≡ prefix = same_bytes (take (length prefix) (H f.0)) prefix
+    (All-take IsByte (length prefix) (H f.0) is_digest.are_bytes) bytes taken
+    (bits_of_taken (H f.0) (length prefix) (omega arith) ∙ sym bits) in
     let page = one_below H gives es p (length prefix) f size short l found.0 in
     let version_is : version H es p ≡ x.version = sym (ap (λ (y : SlotAt). y.version) same) in
     let P : List ℕ × List ℕ → Type 0 = λ l. OwnLoneBelow H es prefix x l in
     subst P found.1 record {
       begins = begins;
-      page = page ∙ ap (λ v. lone_slot H (length prefix) (slice_index (H f.0) (length prefix)) v (H f.0, leaf_digest H f.1) ∷ []) version_is;
+      page = page ∙ ap (λ v. lone_slot H (length prefix) (slice_index (H f.0) (length prefix)) v
+          (H f.0, leaf_digest H f.1) ∷ []) version_is;
     }
 
-pub own_lone_below : (H : List ℕ → List ℕ) → GivesHashes H → (bytes_at : List ℕ → ℕ → Option (List ℕ)) (prefix : List ℕ) (x : SlotAt) (lone : List ℕ × List ℕ) (es : List (List ℕ × List ℕ)) → length prefix < 32 → IsOwnBelow H bytes_at prefix (Some x) es → x.lone ≡ Some lone → OwnLoneBelow H es prefix x lone
-own_lone_below H gives bytes_at prefix x lone es short own is = own_over H gives es prefix own.byte (last_with (is_below H (bits_of_bytes prefix)) es) x lone own.are_bytes short refl own.is_slot is
+pub own_lone_below : (H : List ℕ → List ℕ) → GivesHashes H → (bytes_at : List ℕ → ℕ → Option (List ℕ)) (prefix : List ℕ)
+    (x : SlotAt) (lone : List ℕ × List ℕ) (es : List (List ℕ × List ℕ)) → length prefix < 32
+    → IsOwnBelow H bytes_at prefix (Some x) es → x.lone ≡ Some lone → OwnLoneBelow H es prefix x lone
+own_lone_below H gives bytes_at prefix x lone es short own is = own_over H gives es prefix own.byte
+    (last_with (is_below H (bits_of_bytes prefix)) es) x lone own.are_bytes short refl own.is_slot is
 
 -- what an own slot of a page says of it
-own_slot_below : (H : List ℕ → List ℕ) (bytes_at : List ℕ → ℕ → Option (List ℕ)) (prefix : List ℕ) (x : SlotAt) (es : List (List ℕ × List ℕ)) → IsOwnBelow H bytes_at prefix (Some x) es → OwnSlot H es (bits_of_bytes prefix) x
-own_slot_below H bytes_at prefix x es own = own_slot_over H es (bits_of_bytes prefix) own.byte _ x refl (sym own.is_slot)
+own_slot_below : (H : List ℕ → List ℕ) (bytes_at : List ℕ → ℕ → Option (List ℕ)) (prefix : List ℕ) (x : SlotAt)
+    (es : List (List ℕ × List ℕ)) → IsOwnBelow H bytes_at prefix (Some x) es → OwnSlot H es (bits_of_bytes prefix) x
+own_slot_below H bytes_at prefix x es own = own_slot_over H es (bits_of_bytes prefix) own.byte _ x refl
+    (sym own.is_slot)
 
-own_bytes_below : (H : List ℕ → List ℕ) (bytes_at : List ℕ → ℕ → Option (List ℕ)) (prefix : List ℕ) (x : SlotAt) (es : List (List ℕ × List ℕ)) → length prefix < 32 → IsOwnBelow H bytes_at prefix (Some x) es → x.lone ≡ None
+own_bytes_below : (H : List ℕ → List ℕ) (bytes_at : List ℕ → ℕ → Option (List ℕ)) (prefix : List ℕ) (x : SlotAt)
+    (es : List (List ℕ × List ℕ)) → length prefix < 32 → IsOwnBelow H bytes_at prefix (Some x) es → x.lone ≡ None
     → bytes_at prefix x.version ≡ Some (page_bytes (page_of H es (bits_of_bytes prefix)))
 own_bytes_below H bytes_at prefix x es short own none =
     let slot = own_slot_below H bytes_at prefix x es own in
     ap (bytes_at prefix) slot.version ∙ own.pages prefix own.are_bytes short (slot.page none)
 
-pub own_page_below : (H : List ℕ → List ℕ) → GivesHashes H → (bytes_at : List ℕ → ℕ → Option (List ℕ)) (prefix : List ℕ) (x : SlotAt) (page : List SlotAt) (es : List (List ℕ × List ℕ)) → length prefix < 32 → IsPage page → IfSome (bytes_at prefix x.version) (λ known. known ≡ page_bytes page)
+pub own_page_below : (H : List ℕ → List ℕ) → GivesHashes H → (bytes_at : List ℕ → ℕ → Option (List ℕ)) (prefix : List ℕ)
+    (x : SlotAt) (page : List SlotAt) (es : List (List ℕ × List ℕ)) → length prefix < 32 → IsPage page
+    → IfSome (bytes_at prefix x.version) (λ known. known ≡ page_bytes page)
     → IsOwnBelow H bytes_at prefix (Some x) es → x.lone ≡ None → page ≡ page_of H es (bits_of_bytes prefix)
 own_page_below H gives bytes_at prefix x page es short is at own none =
-    one_page page (page_of H es (bits_of_bytes prefix)) is (own_slots H es (bits_of_bytes prefix) gives own.fits) (sym (rw (own_bytes_below H bytes_at prefix x es short own none) at at))
+    one_page page (page_of H es (bits_of_bytes prefix)) is (own_slots H es (bits_of_bytes prefix) gives own.fits)
+    (sym (rw (own_bytes_below H bytes_at prefix x es short own none) at at))
 
-pub own_page_refused : (H : List ℕ → List ℕ) → GivesHashes H → (bytes_at : List ℕ → ℕ → Option (List ℕ)) (prefix : List ℕ) (x : SlotAt) (es : List (List ℕ × List ℕ)) → length prefix < 32
-    → ((slots : List SlotAt) → IsPage slots → bytes_at prefix x.version ≢ Some (page_bytes slots)) → IsOwnBelow H bytes_at prefix (Some x) es → x.lone ≡ None → ⊥
-own_page_refused H gives bytes_at prefix x es short fault own none = fault (page_of H es (bits_of_bytes prefix)) (own_slots H es (bits_of_bytes prefix) gives own.fits) (own_bytes_below H bytes_at prefix x es short own none)
+pub own_page_refused : (H : List ℕ → List ℕ) → GivesHashes H → (bytes_at : List ℕ → ℕ → Option (List ℕ))
+    (prefix : List ℕ) (x : SlotAt) (es : List (List ℕ × List ℕ)) → length prefix < 32
+    → ((slots : List SlotAt) → IsPage slots → bytes_at prefix x.version ≢ Some (page_bytes slots))
+    → IsOwnBelow H bytes_at prefix (Some x) es → x.lone ≡ None → ⊥
+own_page_refused H gives bytes_at prefix x es short fault own none = fault (page_of H es (bits_of_bytes prefix))
+    (own_slots H es (bits_of_bytes prefix) gives own.fits) (own_bytes_below H bytes_at prefix x es short own none)

@@ -35,207 +35,315 @@ use Rattle.warg_pages.proofs.ValuesAbove.{PeersAbove, value_above-append, value_
 use Rattle.warg_pages.proofs.LoneEnds.{nothing_end}
 
 -- the eight bits of a page, and those below it
-pub rest_at : (k : List ℕ) (depth : ℕ) → depth < 32 → last_bits k (256 - 8 * depth) ≡ bits_from k (8 * depth) 8 ++ last_bits k (slot_height depth)
+pub rest_at : (k : List ℕ) (depth : ℕ) → depth < 32 → last_bits k (256 - 8 * depth)
+    ≡ bits_from k (8 * depth) 8 ++ last_bits k (slot_height depth)
 rest_at k depth lt =
     let from : 256 - (256 - 8 * depth) ≡ 8 * depth = omega arith in
     let all : 256 - 8 * depth ≡ 8 + slot_height depth = omega arith in
     let next : 8 * depth + 8 ≡ 256 - slot_height depth = omega arith in
-    ap (λ i. bits_from k i (256 - 8 * depth)) from ∙ ap (bits_from k (8 * depth)) all ∙ bits_from-append k (8 * depth) 8 (slot_height depth) ∙ ap (λ i. bits_from k (8 * depth) 8 ++ bits_from k i (slot_height depth)) next
+    ap (λ i. bits_from k i (256 - 8 * depth)) from ∙ ap (bits_from k (8 * depth)) all ∙ bits_from-append k (8 * depth) 8
+    (slot_height depth) ∙ ap (λ i. bits_from k (8 * depth) 8 ++ bits_from k i (slot_height depth)) next
 
-pub eight_peers : (H : List ℕ → List ℕ) (depth : ℕ) (slots : List SlotAt) (s n : ℕ) → length (peers_below H depth slots s n) ≡ n
+pub eight_peers : (H : List ℕ → List ℕ) (depth : ℕ) (slots : List SlotAt) (s n : ℕ)
+    → length (peers_below H depth slots s n) ≡ n
 unfolding peers_below
 eight_peers H depth slots s zero = refl
 eight_peers H depth slots s (suc n) = ap suc (eight_peers H depth slots s n)
 
 -- over any page
-below_page : (H : List ℕ → List ℕ) (k digest y : List ℕ) (depth : ℕ) (page : List SlotAt) (more : List (Option (List ℕ))) → depth < 32 → page_value H depth page k ≡ digest
-    → value_above H 0 more y (last_bits k (slot_height depth)) ≡ digest_at H (slot_height depth) page (get_or k depth 0) → value_above H 0 (page_peers H depth page k ++ more) y (last_bits k (256 - 8 * depth)) ≡ digest
+below_page : (H : List ℕ → List ℕ) (k digest y : List ℕ) (depth : ℕ) (page : List SlotAt)
+    (more : List (Option (List ℕ))) → depth < 32 → page_value H depth page k ≡ digest
+    → value_above H 0 more y (last_bits k (slot_height depth)) ≡ digest_at H (slot_height depth) page (get_or k depth 0)
+    → value_above H 0 (page_peers H depth page k ++ more) y (last_bits k (256 - 8 * depth)) ≡ digest
 below_page H k digest y depth page more lt leads foot =
-    let height : length (last_bits k (slot_height depth)) + 0 ≡ slot_height depth = rw (length-last_bits k (slot_height depth)) (omega arith) in
-    let sizes : length (page_peers H depth page k) ≡ length (bits_from k (8 * depth) 8) = eight_peers H depth page (get_or k depth 0) 8 ∙ sym (length-bits_from k (8 * depth) 8) in
-    ap (value_above H 0 (page_peers H depth page k ++ more) y) (rest_at k depth lt) ∙ value_above-append H 0 (page_peers H depth page k) more y (bits_from k (8 * depth) 8) (last_bits k (slot_height depth)) sizes
+    let height : length (last_bits k (slot_height depth)) + 0 ≡ slot_height depth =
+    rw (length-last_bits k (slot_height depth)) (omega arith) in
+    let sizes : length (page_peers H depth page k) ≡ length (bits_from k (8 * depth) 8) = eight_peers H depth page
+    (get_or k depth 0) 8 ∙ sym (length-bits_from k (8 * depth) 8) in
+    ap (value_above H 0 (page_peers H depth page k ++ more) y) (rest_at k depth lt)
+    ∙ value_above-append H 0 (page_peers H depth page k) more y (bits_from k (8 * depth) 8)
+    (last_bits k (slot_height depth)) sizes
     ∙ (λ i. value_above H (height i) (page_peers H depth page k) (foot i) (bits_from k (8 * depth) 8)) ∙ leads
 
-pub nothing_value : (H : List ℕ → List ℕ) (k : List ℕ) (height : ℕ) → value_above H 0 [] (empty_root H 0) (last_bits k height) ≡ empty_root H height
-nothing_value H k height = value_above-empty H 0 (last_bits k height) ∙ ap (empty_root H) (let n : length (last_bits k height) + 0 ≡ height = rw (length-last_bits k height) (omega arith) in n)
+pub nothing_value : (H : List ℕ → List ℕ) (k : List ℕ) (height : ℕ)
+    → value_above H 0 [] (empty_root H 0) (last_bits k height) ≡ empty_root H height
+nothing_value H k height = value_above-empty H 0 (last_bits k height)
+    ∙ ap (empty_root H) (let n : length (last_bits k height) + 0 ≡ height = rw (length-last_bits k height)
+    (omega arith) in n)
 
 -- over an own page
-own_foot : (H : List ℕ → List ℕ) (es : List (List ℕ × List ℕ)) (p : List Bool) (depth s : ℕ) → depth < 32 → length p ≡ 8 * depth → s < 256
-    → digest_at H (slot_height depth) (page_of H es p) s ≡ root_of_levels H (slot_height depth) (below (map_of H es) (p ++ byte_bits s))
+own_foot : (H : List ℕ → List ℕ) (es : List (List ℕ × List ℕ)) (p : List Bool) (depth s : ℕ) → depth < 32
+    → length p ≡ 8 * depth → s < 256
+    → digest_at H (slot_height depth) (page_of H es p) s ≡ root_of_levels H (slot_height depth)
+    (below (map_of H es) (p ++ byte_bits s))
 own_foot H es p depth s lt n byte =
-    let height : 256 - length (p ++ byte_bits s) ≡ slot_height depth = rw (length-append p (byte_bits s), n, length-bits_from (s ∷ []) 0 8) (omega arith) in
-    digest_at-slot H (slot_height depth) (page_of H es p) s ∙ ap (digest_of H (slot_height depth)) (own_slot_at H es p s byte) ∙ slot_digest H (slot_height depth) es (p ++ byte_bits s) s _ refl height
+    let height : 256 - length (p ++ byte_bits s) ≡ slot_height depth =
+    rw (length-append p (byte_bits s), n, length-bits_from (s ∷ []) 0 8) (omega arith) in
+    digest_at-slot H (slot_height depth) (page_of H es p) s ∙ ap (digest_of H (slot_height depth))
+    (own_slot_at H es p s byte) ∙ slot_digest H (slot_height depth) es (p ++ byte_bits s) s _ refl height
 
-own_above : (H : List ℕ → List ℕ) (es : List (List ℕ × List ℕ)) (p : List Bool) (depth s : ℕ) → depth < 32 → length p ≡ 8 * depth → s < 256
+own_above : (H : List ℕ → List ℕ) (es : List (List ℕ × List ℕ)) (p : List Bool) (depth s : ℕ) → depth < 32
+    → length p ≡ 8 * depth → s < 256
     → PeersAbove H (slot_height depth) (below (map_of H es) p) (byte_bits s) (peers_below H depth (page_of H es p) s 8)
-own_above H es p depth s lt n byte = rw (length-bits_from (s ∷ []) 0 8) at (own_peers_below H es p [] (byte_bits s) depth s lt n byte refl)
+own_above H es p depth s lt n byte = rw (length-bits_from (s ∷ []) 0 8) at
+    (own_peers_below H es p [] (byte_bits s) depth s lt n byte refl)
 
-shifted : (H : List ℕ → List ℕ) (es : List (List ℕ × List ℕ)) (p b : List Bool) → ◌≡◌ {A = List Bool → Option (List ℕ)} (below (map_of H es) (p ++ b)) (λ q. below (map_of H es) p (b ++ q))
+shifted : (H : List ℕ → List ℕ) (es : List (List ℕ × List ℕ)) (p b : List Bool)
+    → ◌≡◌ {A = List Bool → Option (List ℕ)} (below (map_of H es) (p ++ b)) (λ q. below (map_of H es) p (b ++ q))
 shifted H es p b = λ i q. get (map_of H es) (append_assoc p b q i)
 
 own_value : (H : List ℕ → List ℕ) (es : List (List ℕ × List ℕ)) (k : List ℕ) (depth : ℕ) → depth < 32 → IsDigest k
-    → page_value H depth (page_of H es (bits_from k 0 (8 * depth))) k ≡ root_of_levels H (256 - 8 * depth) (below (map_of H es) (bits_from k 0 (8 * depth)))
+    → page_value H depth (page_of H es (bits_from k 0 (8 * depth))) k ≡ root_of_levels H (256 - 8 * depth)
+    (below (map_of H es) (bits_from k 0 (8 * depth)))
 own_value H es k depth lt is =
     let size = is.has_32 in
     let s : ℕ = get_or k depth 0 in
     let p : List Bool = bits_from k 0 (8 * depth) in
     let byte : s < 256 = is.are_bytes depth 0 (omega arith) in
     let n : length p ≡ 8 * depth = length-bits_from k 0 (8 * depth) in
-    let height : length (byte_bits s) + slot_height depth ≡ 256 - 8 * depth = rw (length-bits_from (s ∷ []) 0 8) (omega arith) in
-    (λ i. value_above H (slot_height depth) (page_peers H depth (page_of H es p) k) ((own_foot H es p depth s lt n byte ∙ ap (root_of_levels H (slot_height depth)) (shifted H es p (byte_bits s))) i) (byte_at_depth k depth i))
-    ∙ sym (root_above H (slot_height depth) (below (map_of H es) p) (byte_bits s) (page_peers H depth (page_of H es p) k) (own_above H es p depth s lt n byte)) ∙ ap (λ h. root_of_levels H h (below (map_of H es) p)) height
+    let height : length (byte_bits s) + slot_height depth ≡ 256 - 8 * depth = rw (length-bits_from (s ∷ []) 0 8)
+    (omega arith) in
+    (λ i. value_above H (slot_height depth) (page_peers H depth (page_of H es p) k)
+    ((own_foot H es p depth s lt n byte ∙ ap (root_of_levels H (slot_height depth)) (shifted H es p (byte_bits s)))
+    i) (byte_at_depth k depth i))
+    ∙ sym (root_above H (slot_height depth) (below (map_of H es) p) (byte_bits s)
+    (page_peers H depth (page_of H es p) k) (own_above H es p depth s lt n byte))
+    ∙ ap (λ h. root_of_levels H h (below (map_of H es) p)) height
 
 -- what a source of own pages has
-pub own_bytes : (H : List ℕ → List ℕ) (bytes_at : List ℕ → ℕ → Option (List ℕ)) (k digest : List ℕ) (depth number : ℕ) (es : List (List ℕ × List ℕ)) → depth < 32 → IsDigest k → IsOwnAt H bytes_at k depth digest number es
+pub own_bytes : (H : List ℕ → List ℕ) (bytes_at : List ℕ → ℕ → Option (List ℕ)) (k digest : List ℕ) (depth number : ℕ)
+    (es : List (List ℕ × List ℕ)) → depth < 32 → IsDigest k → IsOwnAt H bytes_at k depth digest number es
     → bytes_at (take depth k) number ≡ Some (page_bytes (page_of H es (bits_from k 0 (8 * depth))))
 own_bytes H bytes_at k digest depth number es lt is own =
     let size = is.has_32 in
     let bits : bits_of_bytes (take depth k) ≡ bits_from k 0 (8 * depth) = bits_of_taken k depth (omega arith) in
     let short : length (take depth k) < 32 = let all = length-take depth k in omega arith in
-    ap (bytes_at (take depth k)) (own.is_version ∙ ap (version H es) (sym bits)) ∙ own.pages (take depth k) (All-take IsByte depth k is.are_bytes) short (ap (stands H es) bits ∙ own.is_there) ∙ ap (λ p. Some (page_bytes (page_of H es p))) bits
+    ap (bytes_at (take depth k)) (own.is_version ∙ ap (version H es) (sym bits))
+    ∙ own.pages (take depth k) (All-take IsByte depth k is.are_bytes) short (ap (stands H es) bits ∙ own.is_there)
+    ∙ ap (λ p. Some (page_bytes (page_of H es p))) bits
 
-pub own_page_is : (H : List ℕ → List ℕ) → GivesHashes H → (bytes_at : List ℕ → ℕ → Option (List ℕ)) (k digest : List ℕ) (depth number : ℕ) (page : List SlotAt) (es : List (List ℕ × List ℕ)) → depth < 32 → IsDigest k → IsPage page
-    → IfSome (bytes_at (take depth k) number) (λ known. known ≡ page_bytes page) → IsOwnAt H bytes_at k depth digest number es → page ≡ page_of H es (bits_from k 0 (8 * depth))
+pub own_page_is : (H : List ℕ → List ℕ) → GivesHashes H → (bytes_at : List ℕ → ℕ → Option (List ℕ)) (k digest : List ℕ)
+    (depth number : ℕ) (page : List SlotAt) (es : List (List ℕ × List ℕ)) → depth < 32 → IsDigest k → IsPage page
+    → IfSome (bytes_at (take depth k) number) (λ known. known ≡ page_bytes page)
+    → IsOwnAt H bytes_at k depth digest number es → page ≡ page_of H es (bits_from k 0 (8 * depth))
 own_page_is H gives bytes_at k digest depth number page es lt is page_is at own =
-    one_page page (page_of H es (bits_from k 0 (8 * depth))) page_is (own_slots H es (bits_from k 0 (8 * depth)) gives own.fits) (sym (rw (own_bytes H bytes_at k digest depth number es lt is own) at at))
+    one_page page (page_of H es (bits_from k 0 (8 * depth))) page_is
+    (own_slots H es (bits_from k 0 (8 * depth)) gives own.fits)
+    (sym (rw (own_bytes H bytes_at k digest depth number es lt is own) at at))
 
-pub own_page_there : (H : List ℕ → List ℕ) → GivesHashes H → (bytes_at : List ℕ → ℕ → Option (List ℕ)) (k digest : List ℕ) (depth number : ℕ) (es : List (List ℕ × List ℕ)) → depth < 32 → IsDigest k
-    → ((slots : List SlotAt) → IsPage slots → bytes_at (take depth k) number ≢ Some (page_bytes slots)) → IsOwnAt H bytes_at k depth digest number es → ⊥
-own_page_there H gives bytes_at k digest depth number es lt is none own = none (page_of H es (bits_from k 0 (8 * depth))) (own_slots H es (bits_from k 0 (8 * depth)) gives own.fits) (own_bytes H bytes_at k digest depth number es lt is own)
+pub own_page_there : (H : List ℕ → List ℕ) → GivesHashes H → (bytes_at : List ℕ → ℕ → Option (List ℕ))
+    (k digest : List ℕ) (depth number : ℕ) (es : List (List ℕ × List ℕ)) → depth < 32 → IsDigest k
+    → ((slots : List SlotAt) → IsPage slots → bytes_at (take depth k) number ≢ Some (page_bytes slots))
+    → IsOwnAt H bytes_at k depth digest number es → ⊥
+own_page_there H gives bytes_at k digest depth number es lt is none own =
+    none (page_of H es (bits_from k 0 (8 * depth))) (own_slots H es (bits_from k 0 (8 * depth)) gives own.fits)
+    (own_bytes H bytes_at k digest depth number es lt is own)
 
-pub own_page_value : (H : List ℕ → List ℕ) → GivesHashes H → (bytes_at : List ℕ → ℕ → Option (List ℕ)) (k digest : List ℕ) (depth number : ℕ) (page : List SlotAt) (es : List (List ℕ × List ℕ)) → depth < 32 → IsDigest k → IsPage page
-    → IfSome (bytes_at (take depth k) number) (λ known. known ≡ page_bytes page) → page_value H depth page k ≢ digest → IsOwnAt H bytes_at k depth digest number es → ⊥
+pub own_page_value : (H : List ℕ → List ℕ) → GivesHashes H → (bytes_at : List ℕ → ℕ → Option (List ℕ))
+    (k digest : List ℕ) (depth number : ℕ) (page : List SlotAt) (es : List (List ℕ × List ℕ)) → depth < 32 → IsDigest k
+    → IsPage page
+    → IfSome (bytes_at (take depth k) number) (λ known. known ≡ page_bytes page) → page_value H depth page k ≢ digest
+    → IsOwnAt H bytes_at k depth digest number es → ⊥
 own_page_value H gives bytes_at k digest depth number page es lt is page_is at other own =
-    other (ap (λ xs. page_value H depth xs k) (own_page_is H gives bytes_at k digest depth number page es lt is page_is at own) ∙ own_value H es k depth lt is ∙ sym own.is_digest)
+    other (ap (λ xs. page_value H depth xs k)
+    (own_page_is H gives bytes_at k digest depth number page es lt is page_is at own) ∙ own_value H es k depth lt is
+    ∙ sym own.is_digest)
 
 -- the peers of an own page, and those below it
-own_append : (H : List ℕ → List ℕ) (es : List (List ℕ × List ℕ)) (k : List ℕ) (depth : ℕ) (more : List (Option (List ℕ))) → depth < 32 → IsDigest k
-    → IsPeers H (λ h. None) (below (map_of H es) (bits_from k 0 (8 * depth) ++ byte_bits (get_or k depth 0))) (last_bits k (slot_height depth)) more
-    → IsPeers H (λ h. None) (below (map_of H es) (bits_from k 0 (8 * depth))) (last_bits k (256 - 8 * depth)) (page_peers H depth (page_of H es (bits_from k 0 (8 * depth))) k ++ more)
+own_append : (H : List ℕ → List ℕ) (es : List (List ℕ × List ℕ)) (k : List ℕ) (depth : ℕ)
+    (more : List (Option (List ℕ))) → depth < 32 → IsDigest k
+    → IsPeers H (λ h. None) (below (map_of H es) (bits_from k 0 (8 * depth) ++ byte_bits (get_or k depth 0)))
+    (last_bits k (slot_height depth)) more
+    → IsPeers H (λ h. None) (below (map_of H es) (bits_from k 0 (8 * depth))) (last_bits k (256 - 8 * depth))
+    (page_peers H depth (page_of H es (bits_from k 0 (8 * depth))) k ++ more)
 own_append H es k depth more lt is rest =
     let size = is.has_32 in
     let s : ℕ = get_or k depth 0 in
     let p : List Bool = bits_from k 0 (8 * depth) in
     let byte : s < 256 = is.are_bytes depth 0 (omega arith) in
     let above = own_above H es p depth s lt (length-bits_from k 0 (8 * depth)) byte in
-    let height : slot_height depth ≡ length (last_bits k (slot_height depth)) = sym (length-last_bits k (slot_height depth)) in
-    let over : PeersAbove H (length (last_bits k (slot_height depth))) (below (map_of H es) p) (byte_bits s) (page_peers H depth (page_of H es p) k) = at_height (slot_height depth) (length (last_bits k (slot_height depth))) p s height above in
-    let all = IsPeers-append H (below (map_of H es) p) (byte_bits s) (last_bits k (slot_height depth)) (page_peers H depth (page_of H es p) k) more over (at_held p s (shifted H es p (byte_bits s)) rest) in
+    let height : slot_height depth ≡ length (last_bits k (slot_height depth)) =
+    sym (length-last_bits k (slot_height depth)) in
+    let over : PeersAbove H (length (last_bits k (slot_height depth))) (below (map_of H es) p) (byte_bits s)
+    (page_peers H depth (page_of H es p) k) = at_height (slot_height depth)
+    (length (last_bits k (slot_height depth))) p s height above in
+    let all = IsPeers-append H (below (map_of H es) p) (byte_bits s) (last_bits k (slot_height depth))
+    (page_peers H depth (page_of H es p) k) more over (at_held p s (shifted H es p (byte_bits s)) rest) in
     at_bits p (λ i. (sym (byte_at_depth k depth) i) ++ last_bits k (slot_height depth)) all
   where
-    at_height : (m n : ℕ) (p : List Bool) (s : ℕ) → m ≡ n → PeersAbove H m (below (map_of H es) p) (byte_bits s) (page_peers H depth (page_of H es (bits_from k 0 (8 * depth))) k) → PeersAbove H n (below (map_of H es) p) (byte_bits s) (page_peers H depth (page_of H es (bits_from k 0 (8 * depth))) k)
-    at_height m n p s e h = let P : ℕ → Type 0 = λ j. PeersAbove H j (below (map_of H es) p) (byte_bits s) (page_peers H depth (page_of H es (bits_from k 0 (8 * depth))) k) in subst P e h
+    at_height : (m n : ℕ) (p : List Bool) (s : ℕ) → m ≡ n → PeersAbove H m (below (map_of H es) p) (byte_bits s)
+        (page_peers H depth (page_of H es (bits_from k 0 (8 * depth))) k) → PeersAbove H n (below (map_of H es) p)
+        (byte_bits s) (page_peers H depth (page_of H es (bits_from k 0 (8 * depth))) k)
+    at_height m n p s e h = let P : ℕ → Type 0 = λ j. PeersAbove H j (below (map_of H es) p) (byte_bits s)
+        (page_peers H depth (page_of H es (bits_from k 0 (8 * depth))) k) in subst P e h
 
-    at_held : (p : List Bool) (s : ℕ) {f g : List Bool → Option (List ℕ)} → f ≡ g → IsPeers H (λ h. None) f (last_bits k (slot_height depth)) more → IsPeers H (λ h. None) g (last_bits k (slot_height depth)) more
-    at_held p s e h = let P : (List Bool → Option (List ℕ)) → Type 0 = λ f. IsPeers H (λ h. None) f (last_bits k (slot_height depth)) more in subst P e h
+    at_held : (p : List Bool) (s : ℕ) {f g : List Bool → Option (List ℕ)} → f ≡ g
+        → IsPeers H (λ h. None) f (last_bits k (slot_height depth)) more
+        → IsPeers H (λ h. None) g (last_bits k (slot_height depth)) more
+    at_held p s e h = let P : (List Bool → Option (List ℕ))
+        → Type 0 = λ f. IsPeers H (λ h. None) f (last_bits k (slot_height depth)) more in subst P e h
 
-    at_bits : (p : List Bool) {q : List Bool} → q ≡ bits_from k (8 * depth) 8 ++ last_bits k (slot_height depth) → IsPeers H (λ h. None) (below (map_of H es) p) q (page_peers H depth (page_of H es (bits_from k 0 (8 * depth))) k ++ more) → IsPeers H (λ h. None) (below (map_of H es) p) (last_bits k (256 - 8 * depth)) (page_peers H depth (page_of H es (bits_from k 0 (8 * depth))) k ++ more)
-    at_bits p e h = let P : List Bool → Type 0 = λ q. IsPeers H (λ h. None) (below (map_of H es) p) q (page_peers H depth (page_of H es (bits_from k 0 (8 * depth))) k ++ more) in subst P (e ∙ sym (rest_at k depth lt)) h
+    at_bits : (p : List Bool) {q : List Bool} → q ≡ bits_from k (8 * depth) 8 ++ last_bits k (slot_height depth)
+        → IsPeers H (λ h. None) (below (map_of H es) p) q
+        (page_peers H depth (page_of H es (bits_from k 0 (8 * depth))) k ++ more)
+        → IsPeers H (λ h. None) (below (map_of H es) p) (last_bits k (256 - 8 * depth))
+        (page_peers H depth (page_of H es (bits_from k 0 (8 * depth))) k ++ more)
+    at_bits p e h = let P : List Bool → Type 0 = λ q. IsPeers H (λ h. None) (below (map_of H es) p) q
+        (page_peers H depth (page_of H es (bits_from k 0 (8 * depth))) k ++ more) in
+        subst P (e ∙ sym (rest_at k depth lt)) h
 
 -- what stands at the whole digest
 own_whole : (H : List ℕ → List ℕ) (es : List (List ℕ × List ℕ)) (k : List ℕ) (depth : ℕ) → depth < 32
-    → get (map_of H es) (last_bits k 256) ≡ below (map_of H es) (bits_from k 0 (8 * depth) ++ byte_bits (get_or k depth 0)) (last_bits k (slot_height depth))
+    → get (map_of H es) (last_bits k 256) ≡ below (map_of H es)
+    (bits_from k 0 (8 * depth) ++ byte_bits (get_or k depth 0)) (last_bits k (slot_height depth))
 own_whole H es k depth lt =
     let p : List Bool = bits_from k 0 (8 * depth) in
-    ap (get (map_of H es)) (key_at k (8 * depth) (omega arith) ∙ ap (λ t. p ++ t) (rest_at k depth lt ∙ (λ i. byte_at_depth k depth i ++ last_bits k (slot_height depth))) ∙ sym (append_assoc p (byte_bits (get_or k depth 0)) (last_bits k (slot_height depth))))
+    ap (get (map_of H es)) (key_at k (8 * depth) (omega arith)
+    ∙ ap (λ t. p ++ t) (rest_at k depth lt ∙ (λ i. byte_at_depth k depth i ++ last_bits k (slot_height depth)))
+    ∙ sym (append_assoc p (byte_bits (get_or k depth 0)) (last_bits k (slot_height depth))))
 
 -- a slot that isn't there
-pub missing_way : (H : List ℕ → List ℕ) → GivesHashes H → (bytes_at : List ℕ → ℕ → Option (List ℕ)) (k digest : List ℕ) (depth number : ℕ) (page : List SlotAt) → depth < 32 → IsDigest k → IsPage page
-    → IfSome (bytes_at (take depth k) number) (λ known. known ≡ page_bytes page) → page_value H depth page k ≡ digest → slot_at page (get_or k depth 0) ≡ None → IsWayDown H bytes_at k depth digest number (page_peers H depth page k) None
+pub missing_way : (H : List ℕ → List ℕ) → GivesHashes H → (bytes_at : List ℕ → ℕ → Option (List ℕ)) (k digest : List ℕ)
+    (depth number : ℕ) (page : List SlotAt) → depth < 32 → IsDigest k → IsPage page
+    → IfSome (bytes_at (take depth k) number) (λ known. known ≡ page_bytes page) → page_value H depth page k ≡ digest
+    → slot_at page (get_or k depth 0) ≡ None → IsWayDown H bytes_at k depth digest number
+    (page_peers H depth page k) None
 missing_way H gives bytes_at k digest depth number page lt is page_is at leads none = record {
   few = (let size = eight_peers H depth page (get_or k depth 0) 8 in omega arith);
-  leads = ap (λ os. value_above H 0 os (empty_root H 0) (last_bits k (256 - 8 * depth))) (sym (append-nil (page_peers H depth page k))) ∙ below_page H k digest (empty_root H 0) depth page [] lt leads foot;
+  leads = ap (λ os. value_above H 0 os (empty_root H 0) (last_bits k (256 - 8 * depth)))
+      (sym (append-nil (page_peers H depth page k))) ∙ below_page H k digest (empty_root H 0) depth page [] lt leads
+      foot;
   own = own;
 }
   where
-    foot : value_above H 0 [] (empty_root H 0) (last_bits k (slot_height depth)) ≡ digest_at H (slot_height depth) page (get_or k depth 0)
-    foot = nothing_value H k (slot_height depth) ∙ sym (digest_at-slot H (slot_height depth) page (get_or k depth 0) ∙ ap (digest_of H (slot_height depth)) none)
+    foot : value_above H 0 [] (empty_root H 0) (last_bits k (slot_height depth)) ≡ digest_at H (slot_height depth) page
+        (get_or k depth 0)
+    foot = nothing_value H k (slot_height depth) ∙ sym (digest_at-slot H (slot_height depth) page (get_or k depth 0)
+        ∙ ap (digest_of H (slot_height depth)) none)
 
-    own : (es : List (List ℕ × List ℕ)) → IsOwnAt H bytes_at k depth digest number es → IsOwnWay H es k depth (page_peers H depth page k) None
+    own : (es : List (List ℕ × List ℕ)) → IsOwnAt H bytes_at k depth digest number es
+        → IsOwnWay H es k depth (page_peers H depth page k) None
     own es at_own =
         let size = is.has_32 in
         let same = own_page_is H gives bytes_at k digest depth number page es lt is page_is at at_own in
         let byte : get_or k depth 0 < 256 = is.are_bytes depth 0 (omega arith) in
         let p : List Bool = bits_from k 0 (8 * depth) in
-        let no_one : slot_of H es p (get_or k depth 0) ≡ None = sym (own_slot_at H es p (get_or k depth 0) byte) ∙ ap (λ xs. slot_at xs (get_or k depth 0)) (sym same) ∙ none in
-        let nothing : (q : List Bool) → below (map_of H es) (p ++ byte_bits (get_or k depth 0)) q ≡ None = no_slot H es (p ++ byte_bits (get_or k depth 0)) (get_or k depth 0) _ refl no_one in
-        let peers = own_append H es k depth [] lt is (nothing_end H (below (map_of H es) (p ++ byte_bits (get_or k depth 0))) (last_bits k (slot_height depth)) nothing) in
+        let no_one : slot_of H es p (get_or k depth 0) ≡ None = sym (own_slot_at H es p (get_or k depth 0) byte)
+        ∙ ap (λ xs. slot_at xs (get_or k depth 0)) (sym same) ∙ none in
+        let nothing : (q : List Bool) → below (map_of H es) (p ++ byte_bits (get_or k depth 0)) q ≡ None =
+        no_slot H es (p ++ byte_bits (get_or k depth 0)) (get_or k depth 0) _ refl no_one in
+        let peers = own_append H es k depth [] lt is
+        (nothing_end H (below (map_of H es) (p ++ byte_bits (get_or k depth 0))) (last_bits k (slot_height depth))
+        nothing) in
         record {
           are_peers = at_page es same (append-nil (page_peers H depth (page_of H es p) k)) peers;
           is_leaf = own_whole H es k depth lt ∙ nothing (last_bits k (slot_height depth));
           is_index = tt;
         }
       where
-        at_page : (es : List (List ℕ × List ℕ)) {xs : List SlotAt} {os : List (Option (List ℕ))} → page ≡ xs → os ≡ page_peers H depth xs k → IsPeers H (λ h. None) (below (map_of H es) (bits_from k 0 (8 * depth))) (last_bits k (256 - 8 * depth)) os
-            → IsPeers H (λ h. None) (below (map_of H es) (bits_from k 0 (8 * depth))) (last_bits k (256 - 8 * depth)) (page_peers H depth page k)
-        at_page es same e h = let P : List (Option (List ℕ)) → Type 0 = λ os. IsPeers H (λ h. None) (below (map_of H es) (bits_from k 0 (8 * depth))) (last_bits k (256 - 8 * depth)) os in subst P (e ∙ ap (λ xs. page_peers H depth xs k) (sym same)) h
+        at_page : (es : List (List ℕ × List ℕ)) {xs : List SlotAt} {os : List (Option (List ℕ))} → page ≡ xs
+            → os ≡ page_peers H depth xs k → IsPeers H (λ h. None) (below (map_of H es) (bits_from k 0 (8 * depth)))
+            (last_bits k (256 - 8 * depth)) os
+            → IsPeers H (λ h. None) (below (map_of H es) (bits_from k 0 (8 * depth))) (last_bits k (256 - 8 * depth))
+            (page_peers H depth page k)
+        at_page es same e h = let P : List (Option (List ℕ))
+            → Type 0 = λ os. IsPeers H (λ h. None) (below (map_of H es) (bits_from k 0 (8 * depth)))
+            (last_bits k (256 - 8 * depth)) os in subst P (e ∙ ap (λ xs. page_peers H depth xs k) (sym same)) h
 
 -- the peers of a given page that is an own one
-at_own_page : (H : List ℕ → List ℕ) (es : List (List ℕ × List ℕ)) (k : List ℕ) (depth : ℕ) (page : List SlotAt) (more : List (Option (List ℕ))) → page ≡ page_of H es (bits_from k 0 (8 * depth))
-    → IsPeers H (λ h. None) (below (map_of H es) (bits_from k 0 (8 * depth))) (last_bits k (256 - 8 * depth)) (page_peers H depth (page_of H es (bits_from k 0 (8 * depth))) k ++ more)
-    → IsPeers H (λ h. None) (below (map_of H es) (bits_from k 0 (8 * depth))) (last_bits k (256 - 8 * depth)) (page_peers H depth page k ++ more)
-at_own_page H es k depth page more same h = let P : List SlotAt → Type 0 = λ xs. IsPeers H (λ h. None) (below (map_of H es) (bits_from k 0 (8 * depth))) (last_bits k (256 - 8 * depth)) (page_peers H depth xs k ++ more) in subst P (sym same) h
+at_own_page : (H : List ℕ → List ℕ) (es : List (List ℕ × List ℕ)) (k : List ℕ) (depth : ℕ) (page : List SlotAt)
+    (more : List (Option (List ℕ))) → page ≡ page_of H es (bits_from k 0 (8 * depth))
+    → IsPeers H (λ h. None) (below (map_of H es) (bits_from k 0 (8 * depth))) (last_bits k (256 - 8 * depth))
+    (page_peers H depth (page_of H es (bits_from k 0 (8 * depth))) k ++ more)
+    → IsPeers H (λ h. None) (below (map_of H es) (bits_from k 0 (8 * depth))) (last_bits k (256 - 8 * depth))
+    (page_peers H depth page k ++ more)
+at_own_page H es k depth page more same h = let P : List SlotAt
+    → Type 0 = λ xs. IsPeers H (λ h. None) (below (map_of H es) (bits_from k 0 (8 * depth)))
+    (last_bits k (256 - 8 * depth)) (page_peers H depth xs k ++ more) in subst P (sym same) h
 
 -- own slots of insertions, by cases on the last one
 pub begins-whole : (a b : List Bool) → length a ≡ length b → begins a b ≡ same_bits a b
 begins-whole a b n = elim (cases_Bool (begins a b)) [
-  | inl t ↦ (let same : a ≡ b = begins-same a b [] n (ap (begins a) (append-nil b) ∙ t) in t ∙ sym (ap (same_bits a) (sym same) ∙ same_bits-itself a))
+  | inl t ↦ (let same : a ≡ b = begins-same a b [] n (ap (begins a) (append-nil b) ∙ t) in
+      t ∙ sym (ap (same_bits a) (sym same) ∙ same_bits-itself a))
   | inr f ↦ elim (cases_Bool (same_bits a b)) [
-    | inl t ↦ (let same = same_bits-true a b t in let yes : begins a b ≡ true = ap (begins a) (sym same ∙ sym (append-nil a)) ∙ begins-append a [] in absurd (cc))
+    | inl t ↦ (let same = same_bits-true a b t in let yes : begins a b ≡ true = ap (begins a)
+        (sym same ∙ sym (append-nil a)) ∙ begins-append a [] in absurd (cc))
     | inr g ↦ f ∙ sym g
   ]
 ]
 
 -- the version of a lone key's slot is that of its whole digest
-pub version_lone : (H : List ℕ → List ℕ) (p : List Bool) (e : List ℕ × List ℕ) (es : List (List ℕ × List ℕ)) → is_below H p e ≡ true → is_lone H es p e ≡ true → version H es p ≡ version H es (key_bits H e.0)
+pub version_lone : (H : List ℕ → List ℕ) (p : List Bool) (e : List ℕ × List ℕ) (es : List (List ℕ × List ℕ))
+    → is_below H p e ≡ true → is_lone H es p e ≡ true → version H es p ≡ version H es (key_bits H e.0)
 unfolding last_place
 version_lone H p e [] t h = refl
 version_lone H p e (x ∷ es) t h =
     let parts = and_parts (not (is_below H p x) || same_bits (key_bits H e.0) (key_bits H x.0)) (is_lone H es p e) h in
-    let here : is_below H p x ≡ same_bits (key_bits H e.0) (key_bits H x.0) = sym (agree (is_below H p x) (same_bits (key_bits H e.0) (key_bits H x.0)) parts.0 (λ s. ap (begins p) (sym (same_bits-true (key_bits H e.0) (key_bits H x.0) s)) ∙ t)) in
-    let whole : is_below H p x ≡ begins (key_bits H e.0) (key_bits H x.0) = here ∙ sym (begins-whole (key_bits H e.0) (key_bits H x.0) (all_bits H e.0 ∙ sym (all_bits H x.0))) in
+    let here : is_below H p x ≡ same_bits (key_bits H e.0) (key_bits H x.0) =
+    sym (agree (is_below H p x) (same_bits (key_bits H e.0) (key_bits H x.0)) parts.0
+    (λ s. ap (begins p) (sym (same_bits-true (key_bits H e.0) (key_bits H x.0) s)) ∙ t)) in
+    let whole : is_below H p x ≡ begins (key_bits H e.0) (key_bits H x.0) = here
+    ∙ sym (begins-whole (key_bits H e.0) (key_bits H x.0) (all_bits H e.0 ∙ sym (all_bits H x.0))) in
     rw (version_lone H p e es t parts.1, whole) refl
 
 -- some insertion is below
 pub some_version : {X : Type 0} (p : X → Bool) (xs : List X) (e : X) → last_with p xs ≡ Some e → 0 < last_place p xs
 unfolding last_place last_with
 some_version p [] e h = absurd (cc)
-some_version {X = X} p (x ∷ xs) e h = either (last_with p xs) (p x) (eqb (last_place p xs) 0) refl (some_version p xs e) h
+some_version {X = X} p (x ∷ xs) e h = either (last_with p xs) (p x) (eqb (last_place p xs) 0) refl
+    (some_version p xs e) h
   where
-    either : (o : Option X) (b z : Bool) → eqb (last_place p xs) 0 ≡ z → (o ≡ Some e → 0 < last_place p xs) → option_or o (cond b (Some x) None) ≡ Some e → 0 < cond z (cond b 1 0) (suc (last_place p xs))
+    either : (o : Option X) (b z : Bool) → eqb (last_place p xs) 0 ≡ z → (o ≡ Some e → 0 < last_place p xs)
+        → option_or o (cond b (Some x) None) ≡ Some e → 0 < cond z (cond b 1 0) (suc (last_place p xs))
     either o b false t f h = omega arith
     either None true true t f h = omega arith
     either None false true t f h = absurd (cc)
     either (Some y) b true t f h = absurd (let lt = f h in let none = eqb-true (last_place p xs) 0 t in omega arith)
 
 -- an own slot with a lone key
-pub record OwnLone (H : List ℕ → List ℕ) (es : List (List ℕ × List ℕ)) (p : List Bool) (x : SlotAt) (lone : List ℕ × List ℕ) : Type 0 where
+pub record OwnLone (H : List ℕ → List ℕ) (es : List (List ℕ × List ℕ)) (p : List Bool) (x : SlotAt)
+    (lone : List ℕ × List ℕ) : Type 0 where
   pub alone : StandsAlone H p lone (256 - length p) x.digest (below (map_of H es) p)
   pub whole : x.version ≡ version H es (last_bits lone.0 256)
   pub some : 0 < x.version
 
-pub own_lone_over : (H : List ℕ → List ℕ) (es : List (List ℕ × List ℕ)) (p : List Bool) (s : ℕ) (last : Option (List ℕ × List ℕ)) (x : SlotAt) (lone : List ℕ × List ℕ) → last_with (is_below H p) es ≡ last → slot_over H es p s last ≡ Some x → x.lone ≡ Some lone → OwnLone H es p x lone
+pub own_lone_over : (H : List ℕ → List ℕ) (es : List (List ℕ × List ℕ)) (p : List Bool) (s : ℕ)
+    (last : Option (List ℕ × List ℕ)) (x : SlotAt) (lone : List ℕ × List ℕ) → last_with (is_below H p) es ≡ last
+    → slot_over H es p s last ≡ Some x → x.lone ≡ Some lone → OwnLone H es p x lone
 own_lone_over H es p s None x lone l h is = absurd (cc)
 own_lone_over H es p s (Some e) x lone l h is =
-    let slot : SlotAt = record { byte = s; version = version H es p; digest = root_of_levels H (256 - length p) (below (map_of H es) p); lone = then_some {T = List ℕ × List ℕ} (is_lone H es p e) (H e.0, leaf_digest H e.1) } in
+    let slot : SlotAt = record {
+      byte = s;
+      version = version H es p;
+      digest = root_of_levels H (256 - length p)
+          (below (map_of H es) p);
+      lone = then_some {T = List ℕ × List ℕ} (is_lone H es p e)
+          (H e.0, leaf_digest H e.1);
+    } in
     let same : slot ≡ x = some_same h in
     let found = lone_of (is_lone H es p e) (H e.0, leaf_digest H e.1) lone (ap (λ (y : SlotAt). y.lone) same ∙ is) in
     let under = last_passes (is_below H p) es e l in
     let rest = begins-rest p (key_bits H e.0) under in
     let key : H e.0 ≡ lone.0 = ap (λ (v : List ℕ × List ℕ). v.0) found.1 in
     let bits : last_bits lone.0 256 ≡ p ++ rest.0 = ap (λ d. last_bits d 256) (sym key) ∙ rest.1 in
-    let held : (q : List Bool) → below (map_of H es) p q ≡ cond (same_bits (p ++ q) (last_bits lone.0 256)) (Some lone.1) None = lone_over H es p s (Some e) x lone.0 lone.1 l h is in
+    let held : (q : List Bool) → below (map_of H es) p q ≡ cond (same_bits (p ++ q) (last_bits lone.0 256))
+    (Some lone.1) None = lone_over H es p s (Some e) x lone.0 lone.1 l h is in
     record {
       alone = record {
         rest = rest.0;
         begins = bits;
         alone = record {
-          this = held rest.0 ∙ ap (λ b. cond b (Some lone.1) None) (ap (same_bits (p ++ rest.0)) bits ∙ same_bits-itself (p ++ rest.0));
-          others = λ q n. held q ∙ ap (λ b. cond b (Some lone.1) None) (false_from_ne_true _ (λ t. n (append_cancel_left p q rest.0 (same_bits-true (p ++ q) (last_bits lone.0 256) t ∙ bits))));
+          this = held rest.0 ∙ ap (λ b. cond b (Some lone.1) None) (ap (same_bits (p ++ rest.0)) bits
+              ∙ same_bits-itself (p ++ rest.0));
+          others = λ q n. held q ∙ ap (λ b. cond b (Some lone.1) None)
+              (false_from_ne_true _ (λ t. n (append_cancel_left p q rest.0
+              (same_bits-true (p ++ q) (last_bits lone.0 256) t ∙ bits))));
         };
         is_root = sym (ap (λ (y : SlotAt). y.digest) same);
       };
-      whole = sym (ap (λ (y : SlotAt). y.version) same) ∙ version_lone H p e es under found.0 ∙ ap (λ d. version H es (last_bits d 256)) key;
+      whole = sym (ap (λ (y : SlotAt). y.version) same) ∙ version_lone H p e es under found.0
+          ∙ ap (λ d. version H es (last_bits d 256)) key;
       some = at_version (ap (λ (y : SlotAt). y.version) same) (some_version (is_below H p) es e l);
     }
   where
@@ -243,72 +351,112 @@ own_lone_over H es p s (Some e) x lone l h is =
     at_version e h = omega arith
 
 -- so it stands alone below the slot
-own_stands : (H : List ℕ → List ℕ) (es : List (List ℕ × List ℕ)) (k : List ℕ) (depth : ℕ) (slot : SlotAt) (lone : List ℕ × List ℕ) → depth < 32 → OwnLone H es (bits_from k 0 (8 * depth) ++ byte_bits (get_or k depth 0)) slot lone
-    → StandsAlone H (bits_from k 0 (8 * depth + 8)) lone (slot_height depth) slot.digest (below (map_of H es) (bits_from k 0 (8 * depth) ++ byte_bits (get_or k depth 0)))
+own_stands : (H : List ℕ → List ℕ) (es : List (List ℕ × List ℕ)) (k : List ℕ) (depth : ℕ) (slot : SlotAt)
+    (lone : List ℕ × List ℕ) → depth < 32 → OwnLone H es (bits_from k 0 (8 * depth) ++ byte_bits (get_or k depth 0))
+    slot lone
+    → StandsAlone H (bits_from k 0 (8 * depth + 8)) lone (slot_height depth) slot.digest
+    (below (map_of H es) (bits_from k 0 (8 * depth) ++ byte_bits (get_or k depth 0)))
 own_stands H es k depth slot lone lt own =
     let p : List Bool = bits_from k 0 (8 * depth) in
-    let more : bits_from k 0 (8 * depth + 8) ≡ p ++ byte_bits (get_or k depth 0) = (let all : 8 * depth + 8 ≡ 8 * (depth + 1) = omega arith in ap (bits_from k 0) all ∙ prefix_more k depth) in
-    let height : 256 - length (p ++ byte_bits (get_or k depth 0)) ≡ slot_height depth = rw (length-append p (byte_bits (get_or k depth 0)), length-bits_from k 0 (8 * depth), length-bits_from (get_or k depth 0 ∷ []) 0 8) (omega arith) in
+    let more : bits_from k 0 (8 * depth + 8) ≡ p ++ byte_bits (get_or k depth 0) =
+    (let all : 8 * depth + 8 ≡ 8 * (depth + 1) = omega arith in ap (bits_from k 0) all ∙ prefix_more k depth) in
+    let height : 256 - length (p ++ byte_bits (get_or k depth 0)) ≡ slot_height depth =
+    rw (
+      length-append p (byte_bits (get_or k depth 0)),
+      length-bits_from k 0 (8 * depth),
+      length-bits_from (get_or k depth 0 ∷ []) 0 8,
+    ) (omega arith) in
     record {
       rest = own.alone.rest;
       begins = own.alone.begins ∙ ap (λ t. t ++ own.alone.rest) (sym more);
       alone = own.alone.alone;
-      is_root = own.alone.is_root ∙ ap (λ h. root_of_levels H h (below (map_of H es) (p ++ byte_bits (get_or k depth 0)))) height;
+      is_root = own.alone.is_root ∙ ap (λ h. root_of_levels H h
+          (below (map_of H es) (p ++ byte_bits (get_or k depth 0)))) height;
     }
 
 -- the way ends at a lone key
-pub lone_way : (H : List ℕ → List ℕ) → GivesHashes H → (bytes_at : List ℕ → ℕ → Option (List ℕ)) (k digest : List ℕ) (depth number : ℕ) (page : List SlotAt) (slot : SlotAt) (lone : List ℕ × List ℕ) (more : List (Option (List ℕ))) (held : Option (ℕ × List ℕ)) → depth < 32 → IsDigest k → IsPage page
-    → IfSome (bytes_at (take depth k) number) (λ known. known ≡ page_bytes page) → page_value H depth page k ≡ digest → slot_at page (get_or k depth 0) ≡ Some slot → slot.lone ≡ Some lone → EndsAt H k depth slot lone more held
+pub lone_way : (H : List ℕ → List ℕ) → GivesHashes H → (bytes_at : List ℕ → ℕ → Option (List ℕ)) (k digest : List ℕ)
+    (depth number : ℕ) (page : List SlotAt) (slot : SlotAt) (lone : List ℕ × List ℕ) (more : List (Option (List ℕ)))
+    (held : Option (ℕ × List ℕ)) → depth < 32 → IsDigest k → IsPage page
+    → IfSome (bytes_at (take depth k) number) (λ known. known ≡ page_bytes page) → page_value H depth page k ≡ digest
+    → slot_at page (get_or k depth 0) ≡ Some slot → slot.lone ≡ Some lone → EndsAt H k depth slot lone more held
     → IsWayDown H bytes_at k depth digest number (page_peers H depth page k ++ more) held
-lone_way H gives bytes_at k digest depth number page slot lone more held lt is page_is at leads there is_lone_key ends = record {
-  few = (let size = eight_peers H depth page (get_or k depth 0) 8 in let few = ends.few in let all = length-append (page_peers H depth page k) more in omega arith);
-  leads = below_page H k digest _ depth page more lt leads (ends.leads ∙ sym (digest_at-slot H (slot_height depth) page (get_or k depth 0) ∙ ap (digest_of H (slot_height depth)) there));
-  own = own;
-}
+lone_way H gives bytes_at k digest depth number page slot lone more held lt is page_is at leads there is_lone_key ends =
+    record {
+      few = (let size = eight_peers H depth page (get_or k depth 0) 8 in let few = ends.few in
+          let all = length-append (page_peers H depth page k) more in omega arith);
+      leads = below_page H k digest _ depth page more lt leads
+          (ends.leads ∙ sym (digest_at-slot H (slot_height depth) page (get_or k depth 0)
+          ∙ ap (digest_of H (slot_height depth)) there));
+      own = own;
+    }
   where
-    own : (es : List (List ℕ × List ℕ)) → IsOwnAt H bytes_at k depth digest number es → IsOwnWay H es k depth (page_peers H depth page k ++ more) held
+    own : (es : List (List ℕ × List ℕ)) → IsOwnAt H bytes_at k depth digest number es
+        → IsOwnWay H es k depth (page_peers H depth page k ++ more) held
     own es at_own =
         let size = is.has_32 in
         let same = own_page_is H gives bytes_at k digest depth number page es lt is page_is at at_own in
         let byte : get_or k depth 0 < 256 = is.are_bytes depth 0 (omega arith) in
         let p : List Bool = bits_from k 0 (8 * depth) in
-        let slot_is : slot_of H es p (get_or k depth 0) ≡ Some slot = sym (own_slot_at H es p (get_or k depth 0) byte) ∙ ap (λ xs. slot_at xs (get_or k depth 0)) (sym same) ∙ there in
-        let own_is = own_lone_over H es (p ++ byte_bits (get_or k depth 0)) (get_or k depth 0) _ slot lone refl slot_is is_lone_key in
-        let below_it = ends.own (below (map_of H es) (p ++ byte_bits (get_or k depth 0))) (own_stands H es k depth slot lone lt own_is) in
+        let slot_is : slot_of H es p (get_or k depth 0) ≡ Some slot = sym (own_slot_at H es p (get_or k depth 0) byte)
+        ∙ ap (λ xs. slot_at xs (get_or k depth 0)) (sym same) ∙ there in
+        let own_is = own_lone_over H es (p ++ byte_bits (get_or k depth 0)) (get_or k depth 0) _ slot lone refl slot_is
+        is_lone_key in
+        let below_it = ends.own (below (map_of H es) (p ++ byte_bits (get_or k depth 0)))
+        (own_stands H es k depth slot lone lt own_is) in
         record {
           are_peers = at_own_page H es k depth page more same (own_append H es k depth more lt is below_it.0);
           is_leaf = own_whole H es k depth lt ∙ below_it.1;
           is_index = own_index held slot.version (last_bits lone.0 256) es own_is.whole ends.index;
         }
       where
-        own_index : (held : Option (ℕ × List ℕ)) (number : ℕ) (bits : List Bool) (es : List (List ℕ × List ℕ)) → number ≡ version H es bits → IfSome held (λ h. (h.0 + 1 ≡ number) × (last_bits k 256 ≡ bits)) → IfSome held (λ h. h.0 + 1 ≡ version H es (last_bits k 256))
+        own_index : (held : Option (ℕ × List ℕ)) (number : ℕ) (bits : List Bool) (es : List (List ℕ × List ℕ))
+            → number ≡ version H es bits → IfSome held (λ h. (h.0 + 1 ≡ number) × (last_bits k 256 ≡ bits))
+            → IfSome held (λ h. h.0 + 1 ≡ version H es (last_bits k 256))
         own_index None number bits es e h = tt
         own_index (Some v) number bits es e h = h.0 ∙ e ∙ ap (version H es) (sym h.1)
 
 -- an own page's lone key has an end
-pub own_lone_end : (H : List ℕ → List ℕ) → GivesHashes H → (bytes_at : List ℕ → ℕ → Option (List ℕ)) (k digest : List ℕ) (depth number : ℕ) (page : List SlotAt) (slot : SlotAt) (lone : List ℕ × List ℕ) (es : List (List ℕ × List ℕ)) → depth < 32 → IsDigest k → IsPage page
-    → IfSome (bytes_at (take depth k) number) (λ known. known ≡ page_bytes page) → slot_at page (get_or k depth 0) ≡ Some slot → slot.lone ≡ Some lone → IsNoLoneKey H k depth slot lone → IsOwnAt H bytes_at k depth digest number es → ⊥
+pub own_lone_end : (H : List ℕ → List ℕ) → GivesHashes H → (bytes_at : List ℕ → ℕ → Option (List ℕ)) (k digest : List ℕ)
+    (depth number : ℕ) (page : List SlotAt) (slot : SlotAt) (lone : List ℕ × List ℕ) (es : List (List ℕ × List ℕ))
+    → depth < 32 → IsDigest k → IsPage page
+    → IfSome (bytes_at (take depth k) number) (λ known. known ≡ page_bytes page) → slot_at page (get_or k depth 0)
+    ≡ Some slot → slot.lone ≡ Some lone → IsNoLoneKey H k depth slot lone
+    → IsOwnAt H bytes_at k depth digest number es → ⊥
 own_lone_end H gives bytes_at k digest depth number page slot lone es lt is page_is at there is_lone_key fault at_own =
     let size = is.has_32 in
     let same = own_page_is H gives bytes_at k digest depth number page es lt is page_is at at_own in
     let byte : get_or k depth 0 < 256 = is.are_bytes depth 0 (omega arith) in
     let p : List Bool = bits_from k 0 (8 * depth) in
-    let slot_is : slot_of H es p (get_or k depth 0) ≡ Some slot = sym (own_slot_at H es p (get_or k depth 0) byte) ∙ ap (λ xs. slot_at xs (get_or k depth 0)) (sym same) ∙ there in
-    let own_is = own_lone_over H es (p ++ byte_bits (get_or k depth 0)) (get_or k depth 0) _ slot lone refl slot_is is_lone_key in
-    fault (below (map_of H es) (p ++ byte_bits (get_or k depth 0))) (own_stands H es k depth slot lone lt own_is) own_is.some
+    let slot_is : slot_of H es p (get_or k depth 0) ≡ Some slot = sym (own_slot_at H es p (get_or k depth 0) byte)
+    ∙ ap (λ xs. slot_at xs (get_or k depth 0)) (sym same) ∙ there in
+    let own_is = own_lone_over H es (p ++ byte_bits (get_or k depth 0)) (get_or k depth 0) _ slot lone refl slot_is
+    is_lone_key in
+    fault (below (map_of H es) (p ++ byte_bits (get_or k depth 0))) (own_stands H es k depth slot lone lt own_is)
+    own_is.some
 
 -- the way goes on below a slot
-own_next : (H : List ℕ → List ℕ) → GivesHashes H → (bytes_at : List ℕ → ℕ → Option (List ℕ)) (k digest : List ℕ) (depth number : ℕ) (page : List SlotAt) (slot : SlotAt) (es : List (List ℕ × List ℕ)) → depth < 32 → IsDigest k → IsPage page
-    → IfSome (bytes_at (take depth k) number) (λ known. known ≡ page_bytes page) → slot_at page (get_or k depth 0) ≡ Some slot → slot.lone ≡ None → IsOwnAt H bytes_at k depth digest number es → IsOwnAt H bytes_at k (depth + 1) slot.digest slot.version es
+own_next : (H : List ℕ → List ℕ) → GivesHashes H → (bytes_at : List ℕ → ℕ → Option (List ℕ)) (k digest : List ℕ)
+    (depth number : ℕ) (page : List SlotAt) (slot : SlotAt) (es : List (List ℕ × List ℕ)) → depth < 32 → IsDigest k
+    → IsPage page
+    → IfSome (bytes_at (take depth k) number) (λ known. known ≡ page_bytes page) → slot_at page (get_or k depth 0)
+    ≡ Some slot → slot.lone ≡ None → IsOwnAt H bytes_at k depth digest number es
+    → IsOwnAt H bytes_at k (depth + 1) slot.digest slot.version es
 own_next H gives bytes_at k digest depth number page slot es lt is page_is at there no_lone at_own =
     let size = is.has_32 in
     let same = own_page_is H gives bytes_at k digest depth number page es lt is page_is at at_own in
     let byte : get_or k depth 0 < 256 = is.are_bytes depth 0 (omega arith) in
     let p : List Bool = bits_from k 0 (8 * depth) in
-    let slot_is : slot_of H es p (get_or k depth 0) ≡ Some slot = sym (own_slot_at H es p (get_or k depth 0) byte) ∙ ap (λ xs. slot_at xs (get_or k depth 0)) (sym same) ∙ there in
+    let slot_is : slot_of H es p (get_or k depth 0) ≡ Some slot = sym (own_slot_at H es p (get_or k depth 0) byte)
+    ∙ ap (λ xs. slot_at xs (get_or k depth 0)) (sym same) ∙ there in
     let own_is = own_slot_is H es p (get_or k depth 0) slot slot_is in
     let more = prefix_more k depth in
-    let height : 256 - length (p ++ byte_bits (get_or k depth 0)) ≡ 256 - 8 * (depth + 1) = rw (length-append p (byte_bits (get_or k depth 0)), length-bits_from k 0 (8 * depth), length-bits_from (get_or k depth 0 ∷ []) 0 8) (omega arith) in
+    let height : 256 - length (p ++ byte_bits (get_or k depth 0)) ≡ 256 - 8 * (depth + 1) =
+    rw (
+      length-append p (byte_bits (get_or k depth 0)),
+      length-bits_from k 0 (8 * depth),
+      length-bits_from (get_or k depth 0 ∷ []) 0 8,
+    ) (omega arith) in
     record {
       pages = at_own.pages;
       fits = at_own.fits;
@@ -317,60 +465,90 @@ own_next H gives bytes_at k digest depth number page slot es lt is page_is at th
       is_digest = own_is.digest ∙ (λ i. root_of_levels H (height i) (below (map_of H es) (sym more i)));
     }
 
-pub next_way : (H : List ℕ → List ℕ) → GivesHashes H → (bytes_at : List ℕ → ℕ → Option (List ℕ)) (k digest : List ℕ) (depth number : ℕ) (page : List SlotAt) (slot : SlotAt) (more : List (Option (List ℕ))) (held : Option (ℕ × List ℕ)) → depth < 32 → IsDigest k → IsPage page
-    → IfSome (bytes_at (take depth k) number) (λ known. known ≡ page_bytes page) → page_value H depth page k ≡ digest → slot_at page (get_or k depth 0) ≡ Some slot → slot.lone ≡ None → IsWayDown H bytes_at k (depth + 1) slot.digest slot.version more held
+pub next_way : (H : List ℕ → List ℕ) → GivesHashes H → (bytes_at : List ℕ → ℕ → Option (List ℕ)) (k digest : List ℕ)
+    (depth number : ℕ) (page : List SlotAt) (slot : SlotAt) (more : List (Option (List ℕ))) (held : Option (ℕ × List ℕ))
+    → depth < 32 → IsDigest k → IsPage page
+    → IfSome (bytes_at (take depth k) number) (λ known. known ≡ page_bytes page) → page_value H depth page k ≡ digest
+    → slot_at page (get_or k depth 0) ≡ Some slot → slot.lone ≡ None
+    → IsWayDown H bytes_at k (depth + 1) slot.digest slot.version more held
     → IsWayDown H bytes_at k depth digest number (page_peers H depth page k ++ more) held
 next_way H gives bytes_at k digest depth number page slot more held lt is page_is at leads there no_lone way = record {
-  few = (let size = eight_peers H depth page (get_or k depth 0) 8 in let few = way.few in let all = length-append (page_peers H depth page k) more in omega arith);
-  leads = below_page H k digest _ depth page more lt leads (ap (λ h. value_above H 0 more (unwrap_or (held_leaf held) (empty_root H 0)) (last_bits k h)) (sym height) ∙ way.leads ∙ sym (digest_at-slot H (slot_height depth) page (get_or k depth 0) ∙ ap (digest_of H (slot_height depth)) there));
+  few = (let size = eight_peers H depth page (get_or k depth 0) 8 in let few = way.few in
+      let all = length-append (page_peers H depth page k) more in omega arith);
+  leads = below_page H k digest _ depth page more lt leads
+      (ap (λ h. value_above H 0 more (unwrap_or (held_leaf held) (empty_root H 0)) (last_bits k h)) (sym height)
+      ∙ way.leads ∙ sym (digest_at-slot H (slot_height depth) page (get_or k depth 0)
+      ∙ ap (digest_of H (slot_height depth)) there));
   own = own;
 }
   where
     height : 256 - 8 * (depth + 1) ≡ slot_height depth
     height = omega arith
 
-    own : (es : List (List ℕ × List ℕ)) → IsOwnAt H bytes_at k depth digest number es → IsOwnWay H es k depth (page_peers H depth page k ++ more) held
+    own : (es : List (List ℕ × List ℕ)) → IsOwnAt H bytes_at k depth digest number es
+        → IsOwnWay H es k depth (page_peers H depth page k ++ more) held
     own es at_own =
         let same = own_page_is H gives bytes_at k digest depth number page es lt is page_is at at_own in
-        let rest = way.own es (own_next H gives bytes_at k digest depth number page slot es lt is page_is at there no_lone at_own) in
+        let rest = way.own es (own_next H gives bytes_at k digest depth number page slot es lt is page_is at there
+        no_lone at_own) in
         record {
-          are_peers = at_own_page H es k depth page more same (own_append H es k depth more lt is (at_next es rest.are_peers));
+          are_peers = at_own_page H es k depth page more same
+              (own_append H es k depth more lt is (at_next es rest.are_peers));
           is_leaf = rest.is_leaf;
           is_index = rest.is_index;
         }
       where
-        at_next : (es : List (List ℕ × List ℕ)) → IsPeers H (λ h. None) (below (map_of H es) (bits_from k 0 (8 * (depth + 1)))) (last_bits k (256 - 8 * (depth + 1))) more
-            → IsPeers H (λ h. None) (below (map_of H es) (bits_from k 0 (8 * depth) ++ byte_bits (get_or k depth 0))) (last_bits k (slot_height depth)) more
+        at_next : (es : List (List ℕ × List ℕ))
+            → IsPeers H (λ h. None) (below (map_of H es) (bits_from k 0 (8 * (depth + 1))))
+            (last_bits k (256 - 8 * (depth + 1))) more
+            → IsPeers H (λ h. None) (below (map_of H es) (bits_from k 0 (8 * depth) ++ byte_bits (get_or k depth 0)))
+            (last_bits k (slot_height depth)) more
         at_next es h =
-            let P : List Bool → Type 0 = λ q. IsPeers H (λ h. None) (below (map_of H es) q) (last_bits k (slot_height depth)) more in
-            let Q : ℕ → Type 0 = λ n. IsPeers H (λ h. None) (below (map_of H es) (bits_from k 0 (8 * (depth + 1)))) (last_bits k n) more in
+            let P : List Bool → Type 0 = λ q. IsPeers H (λ h. None) (below (map_of H es) q)
+            (last_bits k (slot_height depth)) more in
+            let Q : ℕ → Type 0 = λ n. IsPeers H (λ h. None) (below (map_of H es) (bits_from k 0 (8 * (depth + 1))))
+            (last_bits k n) more in
             subst P (prefix_more k depth) (subst Q height h)
 
-pub own_next_end : (H : List ℕ → List ℕ) → GivesHashes H → (bytes_at : List ℕ → ℕ → Option (List ℕ)) (k digest : List ℕ) (depth number : ℕ) (page : List SlotAt) (slot : SlotAt) (es : List (List ℕ × List ℕ)) → depth < 32 → IsDigest k → IsPage page
-    → IfSome (bytes_at (take depth k) number) (λ known. known ≡ page_bytes page) → slot_at page (get_or k depth 0) ≡ Some slot → slot.lone ≡ None → ((more : List (List ℕ × List ℕ)) → IsOwnAt H bytes_at k (depth + 1) slot.digest slot.version more → ⊥) → IsOwnAt H bytes_at k depth digest number es → ⊥
-own_next_end H gives bytes_at k digest depth number page slot es lt is page_is at there no_lone fault at_own = fault es (own_next H gives bytes_at k digest depth number page slot es lt is page_is at there no_lone at_own)
+pub own_next_end : (H : List ℕ → List ℕ) → GivesHashes H → (bytes_at : List ℕ → ℕ → Option (List ℕ)) (k digest : List ℕ)
+    (depth number : ℕ) (page : List SlotAt) (slot : SlotAt) (es : List (List ℕ × List ℕ)) → depth < 32 → IsDigest k
+    → IsPage page
+    → IfSome (bytes_at (take depth k) number) (λ known. known ≡ page_bytes page) → slot_at page (get_or k depth 0)
+    ≡ Some slot → slot.lone ≡ None
+    → ((more : List (List ℕ × List ℕ)) → IsOwnAt H bytes_at k (depth + 1) slot.digest slot.version more → ⊥)
+    → IsOwnAt H bytes_at k depth digest number es → ⊥
+own_next_end H gives bytes_at k digest depth number page slot es lt is page_is at there no_lone fault at_own =
+    fault es (own_next H gives bytes_at k digest depth number page slot es lt is page_is at there no_lone at_own)
 
 -- no page stands at a whole digest
-pub all_one : (H : List ℕ → List ℕ) (p : List Bool) (e : List ℕ × List ℕ) (es : List (List ℕ × List ℕ)) → length p ≡ 256 → is_below H p e ≡ true → is_lone H es p e ≡ true
+pub all_one : (H : List ℕ → List ℕ) (p : List Bool) (e : List ℕ × List ℕ) (es : List (List ℕ × List ℕ)) → length p ≡ 256
+    → is_below H p e ≡ true → is_lone H es p e ≡ true
 all_one H p e [] n t = refl
 all_one H p e (x ∷ es) n t = rw (one (is_below H p x) refl, all_one H p e es n t) refl
   where
     whole : (f : List ℕ × List ℕ) → is_below H p f ≡ true → p ≡ key_bits H f.0
-    whole f under = begins-same p (key_bits H f.0) [] (n ∙ sym (all_bits H f.0)) (ap (begins p) (append-nil (key_bits H f.0)) ∙ under)
+    whole f under = begins-same p (key_bits H f.0) [] (n ∙ sym (all_bits H f.0))
+        (ap (begins p) (append-nil (key_bits H f.0)) ∙ under)
 
     one : (b : Bool) → is_below H p x ≡ b → (not (is_below H p x) || same_bits (key_bits H e.0) (key_bits H x.0)) ≡ true
-    one true u = rw u (ap (same_bits (key_bits H e.0)) (sym (whole x u) ∙ whole e t) ∙ same_bits-itself (key_bits H e.0))
+    one true u = rw u (ap (same_bits (key_bits H e.0)) (sym (whole x u) ∙ whole e t)
+        ∙ same_bits-itself (key_bits H e.0))
     one false u = rw u refl
 
-pub no_way : (H : List ℕ → List ℕ) (bytes_at : List ℕ → ℕ → Option (List ℕ)) (k digest : List ℕ) (depth number : ℕ) (es : List (List ℕ × List ℕ)) → depth ≡ 32 → IsOwnAt H bytes_at k depth digest number es → ⊥
-no_way H bytes_at k digest depth number es e own = by_last (last_with (is_below H (bits_from k 0 (8 * depth))) es) refl own.is_there
+pub no_way : (H : List ℕ → List ℕ) (bytes_at : List ℕ → ℕ → Option (List ℕ)) (k digest : List ℕ) (depth number : ℕ)
+    (es : List (List ℕ × List ℕ)) → depth ≡ 32 → IsOwnAt H bytes_at k depth digest number es → ⊥
+no_way H bytes_at k digest depth number es e own = by_last (last_with (is_below H (bits_from k 0 (8 * depth))) es) refl
+    own.is_there
   where
     size : length (bits_from k 0 (8 * depth)) ≡ 256
     size = length-bits_from k 0 (8 * depth) ∙ (let n : 8 * depth ≡ 256 = omega arith in n)
 
-    by_last : (last : Option (List ℕ × List ℕ)) → last_with (is_below H (bits_from k 0 (8 * depth))) es ≡ last → stands_over H es (bits_from k 0 (8 * depth)) last ≡ true → ⊥
+    by_last : (last : Option (List ℕ × List ℕ)) → last_with (is_below H (bits_from k 0 (8 * depth))) es ≡ last
+        → stands_over H es (bits_from k 0 (8 * depth)) last ≡ true → ⊥
     by_last None l h = cc
     by_last (Some f) l h =
-        let lone = all_one H (bits_from k 0 (8 * depth)) f es size (last_passes (is_below H (bits_from k 0 (8 * depth))) es f l) in
-        let no : (eqb (length (bits_from k 0 (8 * depth))) 0 || not (is_lone H es (bits_from k 0 (8 * depth)) f)) ≡ false = rw (size, lone) refl in
+        let lone = all_one H (bits_from k 0 (8 * depth)) f es size
+        (last_passes (is_below H (bits_from k 0 (8 * depth))) es f l) in
+        let no : (eqb (length (bits_from k 0 (8 * depth))) 0 || not (is_lone H es (bits_from k 0 (8 * depth)) f))
+        ≡ false = rw (size, lone) refl in
         let both : false ≡ true = sym no ∙ h in cc

@@ -13,46 +13,63 @@ use Rattle.warg_pages.specs.PageBytes.{kind_of, lone_bytes, slot_bytes, page_byt
 
 -- parts of one length, and what is behind them
 pub same_parts : {X : Type 0} (a b c d : List X) → length a ≡ length c → a ++ b ≡ c ++ d → (a ≡ c) × (b ≡ d)
-same_parts a b c d len e =
-    (sym (take_at a b (length a) refl) ∙ ap (take (length a)) e ∙ take_at c d (length a) (sym len), sym (drop_at a b (length a) refl) ∙ ap (drop (length a)) e ∙ drop_at c d (length a) (sym len))
+same_parts a b c d len e = (
+  sym (take_at a b (length a) refl) ∙ ap (take (length a)) e ∙ take_at c d (length a) (sym len),
+  sym (drop_at a b (length a) refl) ∙ ap (drop (length a)) e ∙ drop_at c d (length a) (sym len),
+)
 
 pub eight : (n : ℕ) → length (to_be_bytes w64 n) ≡ 8
 eight n = refl
 
 -- lone keys of one kind
-pub same_lone : (l m : Option (List ℕ × List ℕ)) (xs ys : List ℕ) → IsLone l → IsLone m → kind_of l ≡ kind_of m → lone_bytes l ++ xs ≡ lone_bytes m ++ ys → (l ≡ m) × (xs ≡ ys)
+pub same_lone : (l m : Option (List ℕ × List ℕ)) (xs ys : List ℕ) → IsLone l → IsLone m → kind_of l ≡ kind_of m
+    → lone_bytes l ++ xs ≡ lone_bytes m ++ ys → (l ≡ m) × (xs ≡ ys)
 same_lone None None xs ys hl hm k e = (refl, e)
 same_lone None (Some m) xs ys hl hm k e = absurd (omega arith)
 same_lone (Some l) None xs ys hl hm k e = absurd (omega arith)
 same_lone (Some l) (Some m) xs ys hl hm k e =
     let one = hl l refl in
     let two = hm m refl in
-    let keys = same_parts l.0 (l.1 ++ xs) m.0 (m.1 ++ ys) (one.0.has_32 ∙ sym two.0.has_32) (sym (append_assoc l.0 l.1 xs) ∙ e ∙ append_assoc m.0 m.1 ys) in
+    let keys = same_parts l.0 (l.1 ++ xs) m.0 (m.1 ++ ys) (one.0.has_32 ∙ sym two.0.has_32)
+    (sym (append_assoc l.0 l.1 xs) ∙ e ∙ append_assoc m.0 m.1 ys) in
     let leaves = same_parts l.1 xs m.1 ys (one.1.has_32 ∙ sym two.1.has_32) keys.1 in
     (ap Some (λ i. (keys.0 i, leaves.0 i)), leaves.1)
 
 -- the bytes of a slot, part by part
-pub slot_parts : (x : SlotAt) (behind : List ℕ) → slot_bytes x ++ behind ≡ x.byte ∷ kind_of x.lone ∷ (to_be_bytes w64 x.version ++ (x.digest ++ (lone_bytes x.lone ++ behind)))
-slot_parts x behind = ap (λ t. x.byte ∷ kind_of x.lone ∷ t) (append_assoc (to_be_bytes w64 x.version) (x.digest ++ lone_bytes x.lone) behind ∙ ap (λ t. to_be_bytes w64 x.version ++ t) (append_assoc x.digest (lone_bytes x.lone) behind))
+pub slot_parts : (x : SlotAt) (behind : List ℕ) → slot_bytes x ++ behind ≡ x.byte ∷ kind_of x.lone ∷
+    (to_be_bytes w64 x.version ++ (x.digest ++ (lone_bytes x.lone ++ behind)))
+slot_parts x behind = ap (λ t. x.byte ∷ kind_of x.lone ∷ t)
+    (append_assoc (to_be_bytes w64 x.version) (x.digest ++ lone_bytes x.lone) behind
+    ∙ ap (λ t. to_be_bytes w64 x.version ++ t) (append_assoc x.digest (lone_bytes x.lone) behind))
 
-pub same_slot : (x y : SlotAt) (xs ys : List ℕ) → IsSlot x → IsSlot y → slot_bytes x ++ xs ≡ slot_bytes y ++ ys → (x ≡ y) × (xs ≡ ys)
+pub same_slot : (x y : SlotAt) (xs ys : List ℕ) → IsSlot x → IsSlot y → slot_bytes x ++ xs ≡ slot_bytes y ++ ys
+    → (x ≡ y) × (xs ≡ ys)
 same_slot x y xs ys hx hy e =
-    let parts : x.byte ∷ kind_of x.lone ∷ (to_be_bytes w64 x.version ++ (x.digest ++ (lone_bytes x.lone ++ xs))) ≡ y.byte ∷ kind_of y.lone ∷ (to_be_bytes w64 y.version ++ (y.digest ++ (lone_bytes y.lone ++ ys))) = sym (slot_parts x xs) ∙ e ∙ slot_parts y ys in
+    let parts : x.byte ∷ kind_of x.lone ∷ (to_be_bytes w64 x.version ++ (x.digest ++ (lone_bytes x.lone ++ xs)))
+    ≡ y.byte ∷ kind_of y.lone ∷ (to_be_bytes w64 y.version ++ (y.digest ++ (lone_bytes y.lone ++ ys))) =
+    sym (slot_parts x xs) ∙ e ∙ slot_parts y ys in
     let bytes : x.byte ≡ y.byte = cc in
     let kinds : kind_of x.lone ≡ kind_of y.lone = cc in
-    let rest : to_be_bytes w64 x.version ++ (x.digest ++ (lone_bytes x.lone ++ xs)) ≡ to_be_bytes w64 y.version ++ (y.digest ++ (lone_bytes y.lone ++ ys)) = cc in
-    let versions = same_parts (to_be_bytes w64 x.version) (x.digest ++ (lone_bytes x.lone ++ xs)) (to_be_bytes w64 y.version) (y.digest ++ (lone_bytes y.lone ++ ys)) (eight x.version ∙ sym (eight y.version)) rest in
-    let version : x.version ≡ y.version = sym (from_be_bytes-to_be_bytes_8 x.version hx.fits) ∙ ap (from_be_bytes w64) versions.0 ∙ from_be_bytes-to_be_bytes_8 y.version hy.fits in
-    let digests = same_parts x.digest (lone_bytes x.lone ++ xs) y.digest (lone_bytes y.lone ++ ys) (hx.digest.has_32 ∙ sym hy.digest.has_32) versions.1 in
+    let rest : to_be_bytes w64 x.version ++ (x.digest ++ (lone_bytes x.lone ++ xs)) ≡ to_be_bytes w64 y.version ++
+    (y.digest ++ (lone_bytes y.lone ++ ys)) = cc in
+    let versions = same_parts (to_be_bytes w64 x.version) (x.digest ++ (lone_bytes x.lone ++ xs))
+    (to_be_bytes w64 y.version) (y.digest ++ (lone_bytes y.lone ++ ys)) (eight x.version ∙ sym (eight y.version))
+    rest in
+    let version : x.version ≡ y.version = sym (from_be_bytes-to_be_bytes_8 x.version hx.fits)
+    ∙ ap (from_be_bytes w64) versions.0 ∙ from_be_bytes-to_be_bytes_8 y.version hy.fits in
+    let digests = same_parts x.digest (lone_bytes x.lone ++ xs) y.digest (lone_bytes y.lone ++ ys)
+    (hx.digest.has_32 ∙ sym hy.digest.has_32) versions.1 in
     let lones = same_lone x.lone y.lone xs ys hx.lone hy.lone kinds digests.1 in
     ((λ i. record { byte = bytes i; version = version i; digest = digests.0 i; lone = lones.0 i }), lones.1)
 
 -- slots that are read are the first ones of every page with these bytes
-pub read_first : (xs ys : List SlotAt) (rest : List ℕ) → All IsSlot xs → All IsSlot ys → page_bytes xs ++ rest ≡ page_bytes ys → (zs : List SlotAt) × (ys ≡ xs ++ zs) × (rest ≡ page_bytes zs)
+pub read_first : (xs ys : List SlotAt) (rest : List ℕ) → All IsSlot xs → All IsSlot ys → page_bytes xs ++ rest
+    ≡ page_bytes ys → (zs : List SlotAt) × (ys ≡ xs ++ zs) × (rest ≡ page_bytes zs)
 read_first [] ys rest hx hy e = (ys, refl, e)
 read_first (x ∷ xs) [] rest hx hy e = absurd (cc e)
 read_first (x ∷ xs) (y ∷ ys) rest hx hy e =
-    let same = same_slot x y (page_bytes xs ++ rest) (page_bytes ys) (All-head IsSlot x xs hx) (All-head IsSlot y ys hy) (sym (append_assoc (slot_bytes x) (page_bytes xs) rest) ∙ e) in
+    let same = same_slot x y (page_bytes xs ++ rest) (page_bytes ys) (All-head IsSlot x xs hx) (All-head IsSlot y ys hy)
+    (sym (append_assoc (slot_bytes x) (page_bytes xs) rest) ∙ e) in
     let more = read_first xs ys rest (All-tail IsSlot x xs hx) (All-tail IsSlot y ys hy) same.1 in
     (more.0, (λ i. (sym same.0 i) ∷ (more.1 i)), more.2)
 
@@ -69,12 +86,16 @@ one_page xs ys hx hy e =
 -- a slot more is read
 pub page_bytes-push : (xs : List SlotAt) (x : SlotAt) → page_bytes (xs ++ x ∷ []) ≡ page_bytes xs ++ slot_bytes x
 page_bytes-push [] x = append-nil (slot_bytes x)
-page_bytes-push (y ∷ xs) x = ap (λ t. slot_bytes y ++ t) (page_bytes-push xs x) ∙ sym (append_assoc (slot_bytes y) (page_bytes xs) (slot_bytes x))
+page_bytes-push (y ∷ xs) x = ap (λ t. slot_bytes y ++ t) (page_bytes-push xs x)
+    ∙ sym (append_assoc (slot_bytes y) (page_bytes xs) (slot_bytes x))
 
-pub read_more : (bytes : List ℕ) (xs : List SlotAt) (x : SlotAt) (rest behind : List ℕ) → bytes ≡ page_bytes xs ++ rest → rest ≡ slot_bytes x ++ behind → bytes ≡ page_bytes (xs ++ x ∷ []) ++ behind
-read_more bytes xs x rest behind read first = rw (read, first, page_bytes-push xs x) (sym (append_assoc (page_bytes xs) (slot_bytes x) behind))
+pub read_more : (bytes : List ℕ) (xs : List SlotAt) (x : SlotAt) (rest behind : List ℕ) → bytes ≡ page_bytes xs ++ rest
+    → rest ≡ slot_bytes x ++ behind → bytes ≡ page_bytes (xs ++ x ∷ []) ++ behind
+read_more bytes xs x rest behind read first = rw (read, first, page_bytes-push xs x)
+    (sym (append_assoc (page_bytes xs) (slot_bytes x) behind))
 
-pub IsPage-push : (xs : List SlotAt) (x : SlotAt) → IsPage xs → IsSlot x → All (λ y. y.byte < x.byte) xs → IsPage (xs ++ x ∷ [])
+pub IsPage-push : (xs : List SlotAt) (x : SlotAt) → IsPage xs → IsSlot x → All (λ y. y.byte < x.byte) xs
+    → IsPage (xs ++ x ∷ [])
 IsPage-push xs x page is below = record {
   ascend = all_pairs_push (λ (y z : SlotAt). y.byte < z.byte) xs x page.ascend below;
   are_slots = All-push IsSlot xs x page.are_slots is;
@@ -84,7 +105,8 @@ pub IsPage-nil : IsPage []
 IsPage-nil = record { ascend = λ i j d lt within. absurd (omega arith); are_slots = λ i d lt. absurd (omega arith) }
 
 -- bytes that begin with no slot are no page's
-pub none_left : (bytes : List ℕ) (xs ys : List SlotAt) (rest : List ℕ) → IsPage xs → IsPage ys → bytes ≡ page_bytes xs ++ rest → 0 < length rest
+pub none_left : (bytes : List ℕ) (xs ys : List SlotAt) (rest : List ℕ) → IsPage xs → IsPage ys
+    → bytes ≡ page_bytes xs ++ rest → 0 < length rest
     → ((x : SlotAt) (behind : List ℕ) → IsSlot x → rest ≢ slot_bytes x ++ behind) → bytes ≢ page_bytes ys
 none_left bytes xs ys rest hx hy read some none is =
     let more = read_first xs ys rest hx.are_slots hy.are_slots (sym read ∙ is) in
@@ -99,7 +121,8 @@ none_left bytes xs ys rest hx hy read some none is =
         in_middle (x ∷ xs) z zs h = in_middle xs z zs (All-tail IsSlot x (xs ++ z ∷ zs) h)
 
 -- nor are those that begin with a slot that doesn't ascend
-pub falls_back : (bytes : List ℕ) (xs ys : List SlotAt) (x : SlotAt) (rest behind : List ℕ) → IsPage xs → IsPage ys → IsSlot x → bytes ≡ page_bytes xs ++ rest → rest ≡ slot_bytes x ++ behind
+pub falls_back : (bytes : List ℕ) (xs ys : List SlotAt) (x : SlotAt) (rest behind : List ℕ) → IsPage xs → IsPage ys
+    → IsSlot x → bytes ≡ page_bytes xs ++ rest → rest ≡ slot_bytes x ++ behind
     → (All (λ y. y.byte < x.byte) xs → ⊥) → bytes ≢ page_bytes ys
 falls_back bytes xs ys x rest behind hx hy is read first back same =
     let more = read_first xs ys rest hx.are_slots hy.are_slots (sym read ∙ same) in
@@ -109,21 +132,26 @@ falls_back bytes xs ys x rest behind hx hy is read first back same =
     in_middle [] z zs h = All-head IsSlot z zs h
     in_middle (y ∷ xs) z zs h = in_middle xs z zs (All-tail IsSlot y (xs ++ z ∷ zs) h)
 
-    in_front : (xs : List SlotAt) (z : SlotAt) (zs : List SlotAt) → Ascends (xs ++ z ∷ zs) → All (λ y. y.byte < z.byte) xs
+    in_front : (xs : List SlotAt) (z : SlotAt) (zs : List SlotAt) → Ascends (xs ++ z ∷ zs)
+        → All (λ y. y.byte < z.byte) xs
     in_front xs z zs h = λ i d lt.
         let all = length-append xs (z ∷ zs) in
         front_below xs z zs i d lt (h i (length xs) d lt (omega arith))
       where
-        front_at : (xs : List SlotAt) (z : SlotAt) (zs : List SlotAt) (i : ℕ) (d : SlotAt) → i < length xs → get_or (xs ++ z ∷ zs) i d ≡ get_or xs i d
+        front_at : (xs : List SlotAt) (z : SlotAt) (zs : List SlotAt) (i : ℕ) (d : SlotAt) → i < length xs
+            → get_or (xs ++ z ∷ zs) i d ≡ get_or xs i d
         front_at [] z zs i d lt = absurd (omega arith)
         front_at (y ∷ xs) z zs zero d lt = refl
         front_at (y ∷ xs) z zs (suc i) d lt = front_at xs z zs i d (omega arith)
 
-        seam_at : (xs : List SlotAt) (z : SlotAt) (zs : List SlotAt) (d : SlotAt) → get_or (xs ++ z ∷ zs) (length xs) d ≡ z
+        seam_at : (xs : List SlotAt) (z : SlotAt) (zs : List SlotAt) (d : SlotAt) → get_or (xs ++ z ∷ zs) (length xs) d
+            ≡ z
         seam_at [] z zs d = refl
         seam_at (y ∷ xs) z zs d = seam_at xs z zs d
 
-        front_below : (xs : List SlotAt) (z : SlotAt) (zs : List SlotAt) (i : ℕ) (d : SlotAt) → i < length xs → (get_or (xs ++ z ∷ zs) i d).byte < (get_or (xs ++ z ∷ zs) (length xs) d).byte → (get_or xs i d).byte < z.byte
+        front_below : (xs : List SlotAt) (z : SlotAt) (zs : List SlotAt) (i : ℕ) (d : SlotAt) → i < length xs
+            → (get_or (xs ++ z ∷ zs) i d).byte < (get_or (xs ++ z ∷ zs) (length xs) d).byte
+            → (get_or xs i d).byte < z.byte
         front_below xs z zs i d lt h = rw (front_at xs z zs i d lt, seam_at xs z zs d) at h
 
     left : (zs : List SlotAt) → ys ≡ xs ++ zs → rest ≡ page_bytes zs → ⊥
@@ -138,7 +166,8 @@ pub some_left : (rest : List ℕ) → eqb (length rest) 0 ≡ false → 0 < leng
 some_left rest is = let other : length rest ≢ 0 = eqb-false (length rest) 0 is in omega arith
 
 -- bytes before a digest
-byte_in_part : (n m : ℕ) (bytes : List ℕ) → ((i : ℕ) → get_or bytes i 0 < 256) → (i : ℕ) → get_or (take n (drop m bytes)) i 0 < 256
+byte_in_part : (n m : ℕ) (bytes : List ℕ) → ((i : ℕ) → get_or bytes i 0 < 256) → (i : ℕ)
+    → get_or (take n (drop m bytes)) i 0 < 256
 byte_in_part n m bytes h i = elim (cases_lt i (length (take n (drop m bytes)))) [
   | inl inside ↦ (
       let short : i < n = let all = length-take n (drop m bytes) in omega arith in
@@ -158,38 +187,55 @@ two_first (a ∷ []) le = absurd (omega arith)
 two_first (a ∷ b ∷ bytes) le = refl
 
 -- a slot that is read
-pub whole_slot : (bytes version rest digest behind : List ℕ) (n : ℕ) (lone : Option (List ℕ × List ℕ)) (last : List ℕ) → ((i : ℕ) → get_or bytes i 0 < 256) → 2 ≤ length bytes → 8 ≤ length (drop 2 bytes)
-    → version ≡ take 8 (drop 2 bytes) → rest ≡ drop 8 (drop 2 bytes) → n ≡ from_be_bytes w64 version → n < 2 ^ 64 → IsDigest digest → rest ≡ digest ++ last → IsLone lone → get_or bytes 1 0 ≡ kind_of lone → last ≡ lone_bytes lone ++ behind
-    → let x : SlotAt = record { byte = get_or bytes 0 0; version = n; digest = digest; lone = lone } in IsSlot x × (bytes ≡ slot_bytes x ++ behind)
+pub whole_slot : (bytes version rest digest behind : List ℕ) (n : ℕ) (lone : Option (List ℕ × List ℕ)) (last : List ℕ)
+    → ((i : ℕ) → get_or bytes i 0 < 256) → 2 ≤ length bytes → 8 ≤ length (drop 2 bytes)
+    → version ≡ take 8 (drop 2 bytes) → rest ≡ drop 8 (drop 2 bytes) → n ≡ from_be_bytes w64 version → n < 2 ^ 64
+    → IsDigest digest → rest ≡ digest ++ last → IsLone lone → get_or bytes 1 0 ≡ kind_of lone
+    → last ≡ lone_bytes lone ++ behind
+    → let x : SlotAt = record { byte = get_or bytes 0 0; version = n; digest = digest; lone = lone } in
+    IsSlot x × (bytes ≡ slot_bytes x ++ behind)
 whole_slot bytes version rest digest behind n lone last h two long ve re ne fits is at lis kind le =
     let x : SlotAt = record { byte = get_or bytes 0 0; version = n; digest = digest; lone = lone } in
     let eight : length (take 8 (drop 2 bytes)) ≡ 8 = let all = length-take 8 (drop 2 bytes) in omega arith in
-    let number : to_be_bytes w64 n ≡ take 8 (drop 2 bytes) = be_bytes_8 (take 8 (drop 2 bytes)) n eight (byte_in_part 8 2 bytes h) (ne ∙ ap (from_be_bytes w64) ve) in
+    let number : to_be_bytes w64 n ≡ take 8 (drop 2 bytes) = be_bytes_8 (take 8 (drop 2 bytes)) n eight
+    (byte_in_part 8 2 bytes h) (ne ∙ ap (from_be_bytes w64) ve) in
     let tail : drop 2 bytes ≡ to_be_bytes w64 n ++ (digest ++ (lone_bytes lone ++ behind)) =
-    sym (take-append-drop 8 (drop 2 bytes)) ∙ ap (λ t. t ++ drop 8 (drop 2 bytes)) (sym number) ∙ ap (λ t. to_be_bytes w64 n ++ t) (sym re ∙ at ∙ ap (λ t. digest ++ t) le) in (
+    sym (take-append-drop 8 (drop 2 bytes)) ∙ ap (λ t. t ++ drop 8 (drop 2 bytes)) (sym number)
+    ∙ ap (λ t. to_be_bytes w64 n ++ t) (sym re ∙ at ∙ ap (λ t. digest ++ t) le) in (
       record { is_byte = h 0; fits = fits; digest = is; lone = lis },
       two_first bytes two ∙ (λ i. get_or bytes 0 0 ∷ kind i ∷ tail i) ∙ sym (slot_parts x behind),
     )
 
 -- one whose lone key is cut, or of no kind
-pub cut_lone : (bytes version rest digest last : List ℕ) → 8 ≤ length (drop 2 bytes) → version ≡ take 8 (drop 2 bytes) → rest ≡ drop 8 (drop 2 bytes) → IsDigest digest → rest ≡ digest ++ last
-    → ((lone : Option (List ℕ × List ℕ)) (behind : List ℕ) → IsLone lone → get_or bytes 1 0 ≡ kind_of lone → last ≢ lone_bytes lone ++ behind) → (x : SlotAt) (behind : List ℕ) → IsSlot x → bytes ≢ slot_bytes x ++ behind
+pub cut_lone : (bytes version rest digest last : List ℕ) → 8 ≤ length (drop 2 bytes) → version ≡ take 8 (drop 2 bytes)
+    → rest ≡ drop 8 (drop 2 bytes) → IsDigest digest → rest ≡ digest ++ last
+    → ((lone : Option (List ℕ × List ℕ)) (behind : List ℕ) → IsLone lone → get_or bytes 1 0 ≡ kind_of lone
+    → last ≢ lone_bytes lone ++ behind) → (x : SlotAt) (behind : List ℕ) → IsSlot x → bytes ≢ slot_bytes x ++ behind
 cut_lone bytes version rest digest last long ve re is at none x behind slot e =
     let whole = e ∙ slot_parts x behind in
     let kind : get_or bytes 1 0 ≡ kind_of x.lone = ap (λ l. get_or l 1 0) whole in
-    let tail : drop 2 bytes ≡ to_be_bytes w64 x.version ++ (x.digest ++ (lone_bytes x.lone ++ behind)) = ap (drop 2) whole in
+    let tail : drop 2 bytes ≡ to_be_bytes w64 x.version ++ (x.digest ++ (lone_bytes x.lone ++ behind)) =
+    ap (drop 2) whole in
     let size : length (take 8 (drop 2 bytes)) ≡ 8 = let all = length-take 8 (drop 2 bytes) in omega arith in
-    let versions = same_parts (take 8 (drop 2 bytes)) (drop 8 (drop 2 bytes)) (to_be_bytes w64 x.version) (x.digest ++ (lone_bytes x.lone ++ behind)) (size ∙ sym (eight x.version)) (take-append-drop 8 (drop 2 bytes) ∙ tail) in
-    let digests = same_parts digest last x.digest (lone_bytes x.lone ++ behind) (is.has_32 ∙ sym slot.digest.has_32) (sym at ∙ re ∙ versions.1) in
+    let versions = same_parts (take 8 (drop 2 bytes)) (drop 8 (drop 2 bytes)) (to_be_bytes w64 x.version)
+    (x.digest ++ (lone_bytes x.lone ++ behind)) (size ∙ sym (eight x.version)) (take-append-drop 8 (drop 2 bytes)
+    ∙ tail) in
+    let digests = same_parts digest last x.digest (lone_bytes x.lone ++ behind) (is.has_32 ∙ sym slot.digest.has_32)
+    (sym at ∙ re ∙ versions.1) in
     none x.lone behind slot.lone kind digests.1
 
 -- the last of ascending slots
-pub behind_last : (xs : List SlotAt) (last : SlotAt) (byte : ℕ) → Ascends xs → 0 < length xs → ((d : SlotAt) → last ≡ get_or xs (length xs - 1) d) → last.byte < byte → All (λ x. x.byte < byte) xs
+pub behind_last : (xs : List SlotAt) (last : SlotAt) (byte : ℕ) → Ascends xs → 0 < length xs
+    → ((d : SlotAt) → last ≡ get_or xs (length xs - 1) d) → last.byte < byte → All (λ x. x.byte < byte) xs
 behind_last xs last byte h some at low = λ k d lt. elim (cases_lt k (length xs - 1)) [
-  | inl before ↦ (let one = h k (length xs - 1) d before (omega arith) in let same : last.byte ≡ (get_or xs (length xs - 1) d).byte = ap (λ (x : SlotAt). x.byte) (at d) in omega arith)
-  | inr end ↦ (let here : k ≡ length xs - 1 = omega arith in let same : last.byte ≡ (get_or xs (length xs - 1) d).byte = ap (λ (x : SlotAt). x.byte) (at d) in rw here (omega arith))
+  | inl before ↦ (let one = h k (length xs - 1) d before (omega arith) in let same : last.byte
+      ≡ (get_or xs (length xs - 1) d).byte = ap (λ (x : SlotAt). x.byte) (at d) in omega arith)
+  | inr end ↦ (let here : k ≡ length xs - 1 = omega arith in let same : last.byte
+      ≡ (get_or xs (length xs - 1) d).byte = ap (λ (x : SlotAt). x.byte) (at d) in rw here (omega arith))
 ]
 
 -- a slot more is written
-pub written_more : (xs : List SlotAt) (i : ℕ) (x : SlotAt) → i < length xs → x ≡ get_or xs i x → page_bytes (take i xs) ++ slot_bytes x ≡ page_bytes (take (i + 1) xs)
-written_more xs i x lt is = sym (ap page_bytes (take_more xs i x lt ∙ ap (λ y. take i xs ++ y ∷ []) (sym is)) ∙ page_bytes-push (take i xs) x)
+pub written_more : (xs : List SlotAt) (i : ℕ) (x : SlotAt) → i < length xs → x ≡ get_or xs i x
+    → page_bytes (take i xs) ++ slot_bytes x ≡ page_bytes (take (i + 1) xs)
+written_more xs i x lt is = sym (ap page_bytes (take_more xs i x lt ∙ ap (λ y. take i xs ++ y ∷ []) (sym is))
+    ∙ page_bytes-push (take i xs) x)

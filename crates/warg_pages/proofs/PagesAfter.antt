@@ -11,15 +11,21 @@ use Rattle.warg_pages.proofs.OwnWays.{some_version}
 use Rattle.warg_pages.proofs.MoreInsertions.{quiet_page, quiet_version, quiet_stands, last_place-later}
 
 -- where the version is an old one, nothing new is below
-pub nothing_new : (H : List ℕ → List ℕ) (old more : List (List ℕ × List ℕ)) (p : List Bool) → version H (old ++ more) p ≤ length old → last_with (is_below H p) more ≡ None
+pub nothing_new : (H : List ℕ → List ℕ) (old more : List (List ℕ × List ℕ)) (p : List Bool)
+    → version H (old ++ more) p ≤ length old → last_with (is_below H p) more ≡ None
 nothing_new H old more p le = by_last (last_with (is_below H p) more) refl
   where
     by_last : (o : Option (List ℕ × List ℕ)) → last_with (is_below H p) more ≡ o → o ≡ None
     by_last None h = refl
-    by_last (Some e) h = absurd (let later = last_place-later (is_below H p) old more e h in let some = some_version (is_below H p) more e h in omega arith)
+    by_last (Some e) h = absurd (let later = last_place-later (is_below H p) old more e h in
+        let some = some_version (is_below H p) more e h in omega arith)
 
-pub pages_after : (H : List ℕ → List ℕ) (bytes_at after : List ℕ → ℕ → Option (List ℕ)) (old more : List (List ℕ × List ℕ)) (pages : List ChangedPageAt) → AreOwnPages H bytes_at old → AreChangedPages H old more pages
-    → All (λ c. after c.prefix c.version ≡ Some (page_bytes c.page)) pages → ((prefix : List ℕ) (number : ℕ) → number ≤ length old → after prefix number ≡ bytes_at prefix number) → AreOwnPages H after (old ++ more)
+pub pages_after : (H : List ℕ → List ℕ) (bytes_at after : List ℕ → ℕ → Option (List ℕ))
+    (old more : List (List ℕ × List ℕ)) (pages : List ChangedPageAt) → AreOwnPages H bytes_at old
+    → AreChangedPages H old more pages
+    → All (λ c. after c.prefix c.version ≡ Some (page_bytes c.page)) pages
+    → ((prefix : List ℕ) (number : ℕ) → number ≤ length old → after prefix number ≡ bytes_at prefix number)
+    → AreOwnPages H after (old ++ more)
 pages_after H bytes_at after old more pages own changed put kept = λ prefix bytes short there.
     elim (cases_lt (length old) (version H (old ++ more) (bits_of_bytes prefix))) [
       | inl later ↦
@@ -30,5 +36,6 @@ pages_after H bytes_at after old more pages own changed put kept = λ prefix byt
           let none = nothing_new H old more (bits_of_bytes prefix) early in
           let same = quiet_version H old more (bits_of_bytes prefix) none in
           kept prefix (version H (old ++ more) (bits_of_bytes prefix)) early ∙ ap (bytes_at prefix) same
-          ∙ own prefix bytes short (sym (quiet_stands H old more (bits_of_bytes prefix) none) ∙ there) ∙ ap (λ page. Some (page_bytes page)) (sym (quiet_page H old more (bits_of_bytes prefix) none))
+          ∙ own prefix bytes short (sym (quiet_stands H old more (bits_of_bytes prefix) none) ∙ there)
+          ∙ ap (λ page. Some (page_bytes page)) (sym (quiet_page H old more (bits_of_bytes prefix) none))
     ]

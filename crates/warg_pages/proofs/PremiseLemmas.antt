@@ -169,7 +169,8 @@ pub ones_differ : (depth : ℕ) → HaveSameDigests marked depth with_ones [] �
 unfolding digest_at
 ones_differ depth same = let wrong : ones ≡ zeros = same 0 (omega arith) ∙ empty_zeros (slot_height depth) in absurd cc
 
--- A map with one key, whose leaf has ones: at the key's own bits as a prefix no page has a slot, and the root is the leaf.
+-- A map with one key, whose leaf has ones: at the key's own bits as a prefix no page has a slot, and the root is the
+-- leaf.
 abbrev pub lone_key : List (List ℕ × List ℕ)
 lone_key = ([], 1 ∷ []) ∷ []
 

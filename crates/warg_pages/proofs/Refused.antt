@@ -15,7 +15,8 @@ pub if_ok : {X E : Type 0} (r : Result X E) (P Q : X → Type 0) → IfOk r P �
 if_ok (Ok x) P Q h f = f x h
 if_ok (Err e) P Q h f = tt
 
-pub if_ok_both : {X E : Type 0} (r : Result X E) (P Q R : X → Type 0) → IfOk r P → IfOk r Q → ((x : X) → P x → Q x → R x) → IfOk r R
+pub if_ok_both : {X E : Type 0} (r : Result X E) (P Q R : X → Type 0) → IfOk r P → IfOk r Q
+    → ((x : X) → P x → Q x → R x) → IfOk r R
 if_ok_both (Ok x) P Q R h i f = f x h i
 if_ok_both (Err e) P Q R h i f = tt
 
@@ -34,8 +35,12 @@ of_source (Pages e) f h = tt
 of_source (Way w) f h = of_memory w f h
 
 -- as a refusal of another type
-pub way_refused : {X E P Q : Type 0} (r : Result X (ProveError E)) (w : WayError) → IsErrAnd r (λ e. e ≡ Way w) → (P → Q) → IsMemoryUnless P w → IfErr r (IsOfSourceUnless {E = E} Q)
-way_refused {E = E} {Q = Q} r w is f h = err_and r (λ e. e ≡ Way w) (IsOfSourceUnless Q) is (λ e same. let P : ProveError E → Type 0 = IsOfSourceUnless Q in subst P (sym same) (of_memory w f h))
+pub way_refused : {X E P Q : Type 0} (r : Result X (ProveError E)) (w : WayError) → IsErrAnd r (λ e. e ≡ Way w)
+    → (P → Q) → IsMemoryUnless P w → IfErr r (IsOfSourceUnless {E = E} Q)
+way_refused {E = E} {Q = Q} r w is f h = err_and r (λ e. e ≡ Way w) (IsOfSourceUnless Q) is
+    (λ e same. let P : ProveError E → Type 0 = IsOfSourceUnless Q in subst P (sym same) (of_memory w f h))
 
-pub source_refused : {X E P Q : Type 0} (r : Result X (ProveError E)) (given : ProveError E) → IsErrAnd r (λ e. e ≡ given) → (P → Q) → IsOfSourceUnless P given → IfErr r (IsOfSourceUnless {E = E} Q)
-source_refused {E = E} {Q = Q} r given is f h = err_and r (λ e. e ≡ given) (IsOfSourceUnless Q) is (λ e same. let P : ProveError E → Type 0 = IsOfSourceUnless Q in subst P (sym same) (of_source given f h))
+pub source_refused : {X E P Q : Type 0} (r : Result X (ProveError E)) (given : ProveError E)
+    → IsErrAnd r (λ e. e ≡ given) → (P → Q) → IsOfSourceUnless P given → IfErr r (IsOfSourceUnless {E = E} Q)
+source_refused {E = E} {Q = Q} r given is f h = err_and r (λ e. e ≡ given) (IsOfSourceUnless Q) is
+    (λ e same. let P : ProveError E → Type 0 = IsOfSourceUnless Q in subst P (sym same) (of_source given f h))

@@ -12,17 +12,24 @@ digest_among : (List ℕ → List ℕ) → ℕ → List (ℕ × List ℕ) → �
 digest_among H height [] s = empty_root H height
 digest_among H height (x ∷ xs) s = cond (eqb x.0 s) x.1 (digest_among H height xs s)
 
-digests_are : (H : List ℕ → List ℕ) (height s : ℕ) (xs : List SlotAt) → digest_at H height xs s ≡ digest_among H height (map byte_and_digest xs) s
+digests_are : (H : List ℕ → List ℕ) (height s : ℕ) (xs : List SlotAt) → digest_at H height xs s ≡ digest_among H height
+    (map byte_and_digest xs) s
 unfolding digest_at digest_among
 digests_are H height s [] = refl
 digests_are H height s (x ∷ xs) = rw (digests_are H height s xs) refl
 
-pub same_digests : (xs ys : List SlotAt) → map byte_and_digest xs ≡ map byte_and_digest ys → (H : List ℕ → List ℕ) (height s : ℕ) → digest_at H height xs s ≡ digest_at H height ys s
-same_digests xs ys e H height s = digests_are H height s xs ∙ ap (λ l. digest_among H height l s) e ∙ sym (digests_are H height s ys)
+pub same_digests : (xs ys : List SlotAt) → map byte_and_digest xs ≡ map byte_and_digest ys
+    → (H : List ℕ → List ℕ) (height s : ℕ) → digest_at H height xs s ≡ digest_at H height ys s
+same_digests xs ys e H height s = digests_are H height s xs ∙ ap (λ l. digest_among H height l s) e
+    ∙ sym (digests_are H height s ys)
 
-pub one_more_same : (xs ys : List SlotAt) (i : ℕ) (x y : SlotAt) → i < length xs → i < length ys → x ≡ get_or xs i x → y ≡ get_or ys i y → x.byte ≡ y.byte → x.digest ≡ y.digest
-    → map byte_and_digest (take i xs) ≡ map byte_and_digest (take i ys) → map byte_and_digest (take (i + 1) xs) ≡ map byte_and_digest (take (i + 1) ys)
+pub one_more_same : (xs ys : List SlotAt) (i : ℕ) (x y : SlotAt) → i < length xs → i < length ys → x ≡ get_or xs i x
+    → y ≡ get_or ys i y → x.byte ≡ y.byte → x.digest ≡ y.digest
+    → map byte_and_digest (take i xs) ≡ map byte_and_digest (take i ys) → map byte_and_digest (take (i + 1) xs)
+    ≡ map byte_and_digest (take (i + 1) ys)
 one_more_same xs ys i x y lt within is are byte digest e =
-    ap (map byte_and_digest) (take_more xs i x lt ∙ ap (λ z. take i xs ++ z ∷ []) (sym is)) ∙ map-append byte_and_digest (take i xs) (x ∷ [])
+    ap (map byte_and_digest) (take_more xs i x lt ∙ ap (λ z. take i xs ++ z ∷ []) (sym is))
+    ∙ map-append byte_and_digest (take i xs) (x ∷ [])
     ∙ (λ j. e j ++ (byte j, digest j) ∷ [])
-    ∙ sym (ap (map byte_and_digest) (take_more ys i y within ∙ ap (λ z. take i ys ++ z ∷ []) (sym are)) ∙ map-append byte_and_digest (take i ys) (y ∷ []))
+    ∙ sym (ap (map byte_and_digest) (take_more ys i y within ∙ ap (λ z. take i ys ++ z ∷ []) (sym are))
+    ∙ map-append byte_and_digest (take i ys) (y ∷ []))

@@ -33,63 +33,86 @@ Ascends-drop n xs h = λ i j d lt within.
     rw (get_or-drop n xs i d, get_or-drop n xs j d) (h (n + i) (n + j) d (omega arith) (omega arith))
 
 -- the digest at a number to one side of some slots
-at_other : (H : List ℕ → List ℕ) (height : ℕ) (x : SlotAt) (xs : List SlotAt) (s : ℕ) → ¬ (x.byte ≡ s) → digest_at H height (x ∷ xs) s ≡ digest_at H height xs s
+at_other : (H : List ℕ → List ℕ) (height : ℕ) (x : SlotAt) (xs : List SlotAt) (s : ℕ) → ¬ (x.byte ≡ s)
+    → digest_at H height (x ∷ xs) s ≡ digest_at H height xs s
 unfolding digest_at
 at_other H height x xs s n = cond-false _ _ _ (false_from_ne_true _ (λ e. n (eqb-true x.byte s e)))
 
-pub at_right : (H : List ℕ → List ℕ) (height middle : ℕ) (l r : List SlotAt) (s : ℕ) → All (λ x. x.byte < middle) l → middle ≤ s → digest_at H height (l ++ r) s ≡ digest_at H height r s
+pub at_right : (H : List ℕ → List ℕ) (height middle : ℕ) (l r : List SlotAt) (s : ℕ) → All (λ x. x.byte < middle) l
+    → middle ≤ s → digest_at H height (l ++ r) s ≡ digest_at H height r s
 at_right H height middle [] r s h le = refl
 at_right H height middle (x ∷ l) r s h le =
     let head : x.byte < middle = All-head (λ (x : SlotAt). x.byte < middle) x l h in
-    at_other H height x (l ++ r) s (λ e. omega arith) ∙ at_right H height middle l r s (All-tail (λ (x : SlotAt). x.byte < middle) x l h) le
+    at_other H height x (l ++ r) s (λ e. omega arith) ∙ at_right H height middle l r s
+    (All-tail (λ (x : SlotAt). x.byte < middle) x l h) le
 
-pub at_none : (H : List ℕ → List ℕ) (height middle : ℕ) (r : List SlotAt) (s : ℕ) → All (λ x. middle ≤ x.byte) r → s < middle → digest_at H height r s ≡ empty_root H height
+pub at_none : (H : List ℕ → List ℕ) (height middle : ℕ) (r : List SlotAt) (s : ℕ) → All (λ x. middle ≤ x.byte) r
+    → s < middle → digest_at H height r s ≡ empty_root H height
 unfolding digest_at
 at_none H height middle [] s h lt = refl
 at_none H height middle (x ∷ r) s h lt =
     let head : middle ≤ x.byte = All-head (λ (x : SlotAt). middle ≤ x.byte) x r h in
-    at_other H height x r s (λ e. omega arith) ∙ at_none H height middle r s (All-tail (λ (x : SlotAt). middle ≤ x.byte) x r h) lt
+    at_other H height x r s (λ e. omega arith)
+    ∙ at_none H height middle r s (All-tail (λ (x : SlotAt). middle ≤ x.byte) x r h) lt
 
-pub at_left : (H : List ℕ → List ℕ) (height middle : ℕ) (l r : List SlotAt) (s : ℕ) → All (λ x. middle ≤ x.byte) r → s < middle → digest_at H height (l ++ r) s ≡ digest_at H height l s
+pub at_left : (H : List ℕ → List ℕ) (height middle : ℕ) (l r : List SlotAt) (s : ℕ) → All (λ x. middle ≤ x.byte) r
+    → s < middle → digest_at H height (l ++ r) s ≡ digest_at H height l s
 unfolding digest_at
 at_left H height middle [] r s h lt = at_none H height middle r s h lt
 at_left H height middle (x ∷ l) r s h lt = rw (at_left H height middle l r s h lt) refl
 
 -- trees over the same digests, and over none
-pub root_over-same : (H : List ℕ → List ℕ) (f g : ℕ → List ℕ) (first k : ℕ) → ((s : ℕ) → first ≤ s → s < first + 2 ^ k → f s ≡ g s) → root_over H f first k ≡ root_over H g first k
+pub root_over-same : (H : List ℕ → List ℕ) (f g : ℕ → List ℕ) (first k : ℕ)
+    → ((s : ℕ) → first ≤ s → s < first + 2 ^ k → f s ≡ g s) → root_over H f first k ≡ root_over H g first k
 unfolding root_over
 root_over-same H f g first zero h = h first (omega arith) (omega arith)
 root_over-same H f g first (suc k) h =
     let double = pow-suc 2 k in
-    rw (root_over-same H f g first k (λ s le lt. h s le (rw (pow-suc 2 k) (omega arith))), root_over-same H f g (first + 2 ^ k) k (λ s le lt. h s (omega arith) (rw (pow-suc 2 k) (omega arith)))) refl
+    rw (
+      root_over-same H f g first k (λ s le lt. h s le (rw (pow-suc 2 k) (omega arith))),
+      root_over-same H f g (first + 2 ^ k) k (λ s le lt. h s (omega arith) (rw (pow-suc 2 k) (omega arith))),
+    ) refl
 
-root_over-none : (H : List ℕ → List ℕ) (height first k : ℕ) → root_over H (λ s. empty_root H height) first k ≡ empty_root H (k + height)
+root_over-none : (H : List ℕ → List ℕ) (height first k : ℕ) → root_over H (λ s. empty_root H height) first k
+    ≡ empty_root H (k + height)
 unfolding root_over empty_root
 root_over-none H height first zero = let at : zero + height ≡ height = omega arith in rw at refl
 root_over-none H height first (suc k) =
-    let at : suc k + height ≡ suc (k + height) = omega arith in rw (at, root_over-none H height first k, root_over-none H height (first + 2 ^ k) k) refl
+    let at : suc k + height ≡ suc (k + height) = omega arith in
+    rw (at, root_over-none H height first k, root_over-none H height (first + 2 ^ k) k) refl
 
-pub root_over-nil : (H : List ℕ → List ℕ) (height first k : ℕ) → root_over H (digest_at H height []) first k ≡ empty_root H (height + k)
+pub root_over-nil : (H : List ℕ → List ℕ) (height first k : ℕ) → root_over H (digest_at H height []) first k
+    ≡ empty_root H (height + k)
 unfolding digest_at
 root_over-nil H height first k = root_over-none H height first k ∙ ap (empty_root H) (omega arith)
 
 -- a tree over the slots on both sides of its middle
-pub root_over-split : (H : List ℕ → List ℕ) (height first k n : ℕ) (xs : List SlotAt) → All (λ x. x.byte < first + 2 ^ k) (take n xs) → All (λ x. first + 2 ^ k ≤ x.byte) (drop n xs)
-    → root_over H (digest_at H height xs) first (suc k) ≡ branch H (root_over H (digest_at H height (take n xs)) first k) (root_over H (digest_at H height (drop n xs)) (first + 2 ^ k) k)
+pub root_over-split : (H : List ℕ → List ℕ) (height first k n : ℕ) (xs : List SlotAt)
+    → All (λ x. x.byte < first + 2 ^ k) (take n xs) → All (λ x. first + 2 ^ k ≤ x.byte) (drop n xs)
+    → root_over H (digest_at H height xs) first (suc k)
+    ≡ branch H (root_over H (digest_at H height (take n xs)) first k)
+    (root_over H (digest_at H height (drop n xs)) (first + 2 ^ k) k)
 unfolding root_over
 root_over-split H height first k n xs l r =
     let whole : xs ≡ take n xs ++ drop n xs = sym (take-append-drop n xs) in
     rw (
-      root_over-same H (digest_at H height xs) (digest_at H height (take n xs)) first k (λ s le lt. ap (λ ys. digest_at H height ys s) whole ∙ at_left H height (first + 2 ^ k) (take n xs) (drop n xs) s r lt),
-      root_over-same H (digest_at H height xs) (digest_at H height (drop n xs)) (first + 2 ^ k) k (λ s le lt. ap (λ ys. digest_at H height ys s) whole ∙ at_right H height (first + 2 ^ k) (take n xs) (drop n xs) s l le),
+      root_over-same H (digest_at H height xs) (digest_at H height (take n xs)) first k
+          (λ s le lt. ap (λ ys. digest_at H height ys s) whole ∙ at_left H height (first + 2 ^ k) (take n xs)
+          (drop n xs) s r lt),
+      root_over-same H (digest_at H height xs) (digest_at H height (drop n xs)) (first + 2 ^ k) k
+          (λ s le lt. ap (λ ys. digest_at H height ys s) whole ∙ at_right H height (first + 2 ^ k) (take n xs)
+          (drop n xs) s l le),
     ) refl
 
 -- a tree over no slots, and over one
-pub root_over-empty : (H : List ℕ → List ℕ) (height first k : ℕ) (xs : List SlotAt) → length xs ≡ 0 → root_over H (digest_at H height xs) first k ≡ empty_root H (height + k)
+pub root_over-empty : (H : List ℕ → List ℕ) (height first k : ℕ) (xs : List SlotAt) → length xs ≡ 0
+    → root_over H (digest_at H height xs) first k ≡ empty_root H (height + k)
 root_over-empty H height first k [] n = root_over-nil H height first k
 root_over-empty H height first k (x ∷ xs) n = absurd (omega arith)
 
-pub root_over-one : (H : List ℕ → List ℕ) (height first k : ℕ) (xs : List SlotAt) (d : SlotAt) → 0 < length xs → k ≡ 0 → All (λ x. first ≤ x.byte) xs → All (λ x. x.byte < first + 2 ^ k) xs → root_over H (digest_at H height xs) first k ≡ (get_or xs 0 d).digest
+pub root_over-one : (H : List ℕ → List ℕ) (height first k : ℕ) (xs : List SlotAt) (d : SlotAt) → 0 < length xs → k ≡ 0
+    → All (λ x. first ≤ x.byte) xs → All (λ x. x.byte < first + 2 ^ k) xs → root_over H (digest_at H height xs) first k
+    ≡ (get_or xs 0 d).digest
 unfolding root_over digest_at
 root_over-one H height first k [] d n z l r = absurd (omega arith)
 root_over-one H height first k (x ∷ xs) d n z l r =
@@ -99,13 +122,15 @@ root_over-one H height first k (x ∷ xs) d n z l r =
     rw z (cond-true _ _ _ (eq-eqb x.byte first at))
 
 -- what a partition point at a number says of both parts
-pub below_point : (xs : List SlotAt) (n middle : ℕ) → IsPartitionPoint (λ y. ltb y.byte middle ≡ true) (λ y. ltb y.byte middle ≡ false) xs n → All (λ x. x.byte < middle) (take n xs)
+pub below_point : (xs : List SlotAt) (n middle : ℕ) → IsPartitionPoint (λ y. ltb y.byte middle ≡ true)
+    (λ y. ltb y.byte middle ≡ false) xs n → All (λ x. x.byte < middle) (take n xs)
 below_point xs n middle at = λ k d lt.
     let all = length-take n xs in
     let low : k < n = omega arith in
     rw (get_or-take n xs k d low) (ltb-true (get_or xs k d).byte middle (at.0 k d (omega arith) low))
 
-pub above_point : (xs : List SlotAt) (n middle : ℕ) → IsPartitionPoint (λ y. ltb y.byte middle ≡ true) (λ y. ltb y.byte middle ≡ false) xs n → All (λ x. middle ≤ x.byte) (drop n xs)
+pub above_point : (xs : List SlotAt) (n middle : ℕ) → IsPartitionPoint (λ y. ltb y.byte middle ≡ true)
+    (λ y. ltb y.byte middle ≡ false) xs n → All (λ x. middle ≤ x.byte) (drop n xs)
 above_point xs n middle at = λ k d lt.
     let all = length-drop n xs in
     rw (get_or-drop n xs k d) (ltb-false (get_or xs (n + k) d).byte middle (at.1 (n + k) d (omega arith) (omega arith)))
@@ -123,19 +148,26 @@ pub shifted : (k : ℕ) → k < 8 → 1 * 2 ^ k % 2 ^ 64 ≡ 2 ^ k
 shifted k lt = one_shl k 64 (omega arith)
 
 -- a tree of some levels, by both halves
-pub root_over-halves : (H : List ℕ → List ℕ) (height first k n middle : ℕ) (xs l r : List SlotAt) → ¬ (k ≡ 0) → middle ≡ first + 2 ^ (k - 1) → l ≡ take n xs → r ≡ drop n xs
+pub root_over-halves : (H : List ℕ → List ℕ) (height first k n middle : ℕ) (xs l r : List SlotAt) → ¬ (k ≡ 0)
+    → middle ≡ first + 2 ^ (k - 1) → l ≡ take n xs → r ≡ drop n xs
     → All (λ x. x.byte < middle) (take n xs) → All (λ x. middle ≤ x.byte) (drop n xs)
-    → branch H (root_over H (digest_at H height l) first (k - 1)) (root_over H (digest_at H height r) middle (k - 1)) ≡ root_over H (digest_at H height xs) first k
+    → branch H (root_over H (digest_at H height l) first (k - 1)) (root_over H (digest_at H height r) middle (k - 1))
+    ≡ root_over H (digest_at H height xs) first k
 root_over-halves H height first k n middle xs l r some m le re low high =
     let at : k ≡ suc (k - 1) = omega arith in
-    rw (le, re, m) (sym (root_over-split H height first (k - 1) n xs (rw m at low) (rw m at high))) ∙ ap (root_over H (digest_at H height xs) first) (sym at)
+    rw (le, re, m) (sym (root_over-split H height first (k - 1) n xs (rw m at low) (rw m at high)))
+    ∙ ap (root_over H (digest_at H height xs) first) (sym at)
 
 -- a tree over a part of the slots, and over all
-pub root_over-part : (H : List ℕ → List ℕ) (height first k m n : ℕ) (xs : List SlotAt) → All (λ x. x.byte < first) (take m xs) → All (λ x. first + 2 ^ k ≤ x.byte) (drop n (drop m xs))
+pub root_over-part : (H : List ℕ → List ℕ) (height first k m n : ℕ) (xs : List SlotAt)
+    → All (λ x. x.byte < first) (take m xs) → All (λ x. first + 2 ^ k ≤ x.byte) (drop n (drop m xs))
     → root_over H (digest_at H height (take n (drop m xs))) first k ≡ root_over H (digest_at H height xs) first k
-root_over-part H height first k m n xs l r = sym (root_over-same H (digest_at H height xs) (digest_at H height (take n (drop m xs))) first k same)
+root_over-part H height first k m n xs l r =
+    sym (root_over-same H (digest_at H height xs) (digest_at H height (take n (drop m xs))) first k same)
   where
     same : (s : ℕ) → first ≤ s → s < first + 2 ^ k → digest_at H height xs s ≡ digest_at H height (take n (drop m xs)) s
     same s le lt =
-        ap (λ ys. digest_at H height ys s) (sym (take-append-drop m xs)) ∙ at_right H height first (take m xs) (drop m xs) s l le
-        ∙ ap (λ ys. digest_at H height ys s) (sym (take-append-drop n (drop m xs))) ∙ at_left H height (first + 2 ^ k) (take n (drop m xs)) (drop n (drop m xs)) s r lt
+        ap (λ ys. digest_at H height ys s) (sym (take-append-drop m xs)) ∙ at_right H height first (take m xs)
+        (drop m xs) s l le
+        ∙ ap (λ ys. digest_at H height ys s) (sym (take-append-drop n (drop m xs))) ∙ at_left H height (first + 2 ^ k)
+        (take n (drop m xs)) (drop n (drop m xs)) s r lt

@@ -10,7 +10,8 @@ use Rattle.warg_pages.specs.PagePeers.{stands_among}
 abbrev is_among : ℕ → ℕ → SlotAt → Bool
 is_among first end x = leb first x.byte && ltb x.byte end
 
-fails_all : (first end : ℕ) (xs ys : List SlotAt) → All (λ x. x.byte < first) xs → list_any (is_among first end) (xs ++ ys) ≡ list_any (is_among first end) ys
+fails_all : (first end : ℕ) (xs ys : List SlotAt) → All (λ x. x.byte < first) xs
+    → list_any (is_among first end) (xs ++ ys) ≡ list_any (is_among first end) ys
 fails_all first end [] ys h = refl
 fails_all first end (x ∷ xs) ys h =
     let low : x.byte < first = All-head (λ (y : SlotAt). y.byte < first) x xs h in
@@ -28,22 +29,34 @@ fails_above first end (x ∷ xs) h =
     neither true = refl
     neither false = refl
 
-passes_first : (first end : ℕ) (ys zs : List SlotAt) → 0 < length ys → All (λ x. first ≤ x.byte) (ys ++ zs) → All (λ x. x.byte < end) ys → list_any (is_among first end) (ys ++ zs) ≡ true
+passes_first : (first end : ℕ) (ys zs : List SlotAt) → 0 < length ys → All (λ x. first ≤ x.byte) (ys ++ zs)
+    → All (λ x. x.byte < end) ys → list_any (is_among first end) (ys ++ zs) ≡ true
 passes_first first end [] zs some from to = absurd (omega arith)
 passes_first first end (y ∷ ys) zs some from to =
-    rw (le-leb first y.byte (All-head (λ (x : SlotAt). first ≤ x.byte) y (ys ++ zs) from), lt-ltb y.byte end (All-head (λ (x : SlotAt). x.byte < end) y ys to)) refl
+    rw (
+      le-leb first y.byte (All-head (λ (x : SlotAt). first ≤ x.byte) y (ys ++ zs) from),
+      lt-ltb y.byte end (All-head (λ (x : SlotAt). x.byte < end) y ys to),
+    ) refl
 
-pub none_among : (first k m n : ℕ) (xs : List SlotAt) → All (λ x. x.byte < first) (take m xs) → All (λ x. first + 2 ^ k ≤ x.byte) (drop n (drop m xs)) → length (take n (drop m xs)) ≡ 0 → stands_among xs first k ≡ false
+pub none_among : (first k m n : ℕ) (xs : List SlotAt) → All (λ x. x.byte < first) (take m xs)
+    → All (λ x. first + 2 ^ k ≤ x.byte) (drop n (drop m xs)) → length (take n (drop m xs)) ≡ 0 → stands_among xs first k
+    ≡ false
 none_among first k m n xs below above none =
-    ap (list_any (is_among first (first + 2 ^ k))) (sym (take-append-drop m xs)) ∙ fails_all first (first + 2 ^ k) (take m xs) (drop m xs) below
-    ∙ ap (list_any (is_among first (first + 2 ^ k))) (sym (take-append-drop n (drop m xs)) ∙ nothing (take n (drop m xs)) none) ∙ fails_above first (first + 2 ^ k) (drop n (drop m xs)) above
+    ap (list_any (is_among first (first + 2 ^ k))) (sym (take-append-drop m xs)) ∙ fails_all first (first + 2 ^ k)
+    (take m xs) (drop m xs) below
+    ∙ ap (list_any (is_among first (first + 2 ^ k))) (sym (take-append-drop n (drop m xs))
+    ∙ nothing (take n (drop m xs)) none) ∙ fails_above first (first + 2 ^ k) (drop n (drop m xs)) above
   where
     nothing : (ys : List SlotAt) → length ys ≡ 0 → ys ++ drop n (drop m xs) ≡ drop n (drop m xs)
     nothing [] e = refl
     nothing (y ∷ ys) e = absurd (omega arith)
 
-pub some_among : (first k m n : ℕ) (xs : List SlotAt) → All (λ x. first ≤ x.byte) (drop m xs) → All (λ x. x.byte < first + 2 ^ k) (take n (drop m xs)) → 0 < length (take n (drop m xs)) → All (λ x. x.byte < first) (take m xs) → stands_among xs first k ≡ true
+pub some_among : (first k m n : ℕ) (xs : List SlotAt) → All (λ x. first ≤ x.byte) (drop m xs)
+    → All (λ x. x.byte < first + 2 ^ k) (take n (drop m xs)) → 0 < length (take n (drop m xs))
+    → All (λ x. x.byte < first) (take m xs) → stands_among xs first k ≡ true
 some_among first k m n xs from to some below =
-    ap (list_any (is_among first (first + 2 ^ k))) (sym (take-append-drop m xs)) ∙ fails_all first (first + 2 ^ k) (take m xs) (drop m xs) below
+    ap (list_any (is_among first (first + 2 ^ k))) (sym (take-append-drop m xs)) ∙ fails_all first (first + 2 ^ k)
+    (take m xs) (drop m xs) below
     ∙ ap (list_any (is_among first (first + 2 ^ k))) (sym (take-append-drop n (drop m xs)))
-    ∙ passes_first first (first + 2 ^ k) (take n (drop m xs)) (drop n (drop m xs)) some (rw (take-append-drop n (drop m xs)) from) to
+    ∙ passes_first first (first + 2 ^ k) (take n (drop m xs)) (drop n (drop m xs)) some
+    (rw (take-append-drop n (drop m xs)) from) to

@@ -9,31 +9,37 @@ use Rattle.warg_pages.specs.Private.Descents.{value_above}
 use Rattle.warg_pages.proofs.PageRoots.{root-same, root-nothing}
 
 -- over bits in two parts
-pub value_above-append : (H : List ℕ → List ℕ) (n : ℕ) (os more : List (Option (List ℕ))) (x : List ℕ) (bits rest : List Bool) → length os ≡ length bits
-    → value_above H n (os ++ more) x (bits ++ rest) ≡ value_above H (length rest + n) os (value_above H n more x rest) bits
+pub value_above-append : (H : List ℕ → List ℕ) (n : ℕ) (os more : List (Option (List ℕ))) (x : List ℕ)
+    (bits rest : List Bool) → length os ≡ length bits
+    → value_above H n (os ++ more) x (bits ++ rest) ≡ value_above H (length rest + n) os
+    (value_above H n more x rest) bits
 unfolding value_above
 value_above-append H n [] more x [] rest e = refl
 value_above-append H n [] more x (b ∷ bits) rest e = absurd (omega arith)
 value_above-append H n (o ∷ os) more x [] rest e = absurd (omega arith)
 value_above-append H n (o ∷ os) more x (b ∷ bits) rest e =
-    let height : length (bits ++ rest) + n ≡ length bits + (length rest + n) = rw (length-append bits rest) (omega arith) in
+    let height : length (bits ++ rest) + n ≡ length bits + (length rest + n) = rw (length-append bits rest)
+    (omega arith) in
     rw (value_above-append H n os more x bits rest (omega arith), height) refl
 
 -- an empty half more at the bottom says nothing
-pub value_above-None : (H : List ℕ → List ℕ) (n : ℕ) (os : List (Option (List ℕ))) (x : List ℕ) (bits : List Bool) → value_above H n (os ++ None ∷ []) x bits ≡ value_above H n os x bits
+pub value_above-None : (H : List ℕ → List ℕ) (n : ℕ) (os : List (Option (List ℕ))) (x : List ℕ) (bits : List Bool)
+    → value_above H n (os ++ None ∷ []) x bits ≡ value_above H n os x bits
 unfolding value_above
 value_above-None H n os x [] = refl
 value_above-None H n [] x (b ∷ bits) = refl
 value_above-None H n (o ∷ os) x (b ∷ bits) = rw (value_above-None H n os x bits) refl
 
-pub value_above-Nones : (H : List ℕ → List ℕ) (n : ℕ) (x : List ℕ) (m : ℕ) (bits : List Bool) → value_above H n (replicate m None) x bits ≡ value_above H n [] x bits
+pub value_above-Nones : (H : List ℕ → List ℕ) (n : ℕ) (x : List ℕ) (m : ℕ) (bits : List Bool)
+    → value_above H n (replicate m None) x bits ≡ value_above H n [] x bits
 unfolding value_above
 value_above-Nones H n x m [] = refl
 value_above-Nones H n x zero (b ∷ bits) = refl
 value_above-Nones H n x (suc m) (b ∷ bits) = rw (value_above-Nones H n x m bits) refl
 
 -- empty trees above an empty tree
-pub value_above-empty : (H : List ℕ → List ℕ) (n : ℕ) (bits : List Bool) → value_above H n [] (empty_root H n) bits ≡ empty_root H (length bits + n)
+pub value_above-empty : (H : List ℕ → List ℕ) (n : ℕ) (bits : List Bool) → value_above H n [] (empty_root H n) bits
+    ≡ empty_root H (length bits + n)
 unfolding value_above empty_root
 value_above-empty H n [] = let height : n ≡ 0 + n = omega arith in ap (empty_root H) height
 value_above-empty H n (b ∷ bits) =
@@ -45,23 +51,30 @@ value_above-empty H n (b ∷ bits) =
     both false e = refl
 
 -- The peers beside bits of a tree that go down to a height, from the top.
-abbrev pub PeersAbove : (List ℕ → List ℕ) → ℕ → (List Bool → Option (List ℕ)) → List Bool → List (Option (List ℕ)) → Type 0
+abbrev pub PeersAbove : (List ℕ → List ℕ) → ℕ → (List Bool → Option (List ℕ)) → List Bool → List (Option (List ℕ))
+    → Type 0
 PeersAbove H n held [] [] = Unit {0}
 PeersAbove H n held [] (o ∷ os) = ⊥
 PeersAbove H n held (b ∷ bits) [] = ⊥
-PeersAbove H n held (b ∷ bits) (o ∷ os) = IsPeer H None (length bits + n) (λ q. held (not b ∷ q)) o × PeersAbove H n (λ q. held (b ∷ q)) bits os
+PeersAbove H n held (b ∷ bits) (o ∷ os) = IsPeer H None (length bits + n) (λ q. held (not b ∷ q)) o
+    × PeersAbove H n (λ q. held (b ∷ q)) bits os
 
 -- a peer that is written as None where nothing is held has the root of its half
-peer_root : (H : List ℕ → List ℕ) (k : ℕ) (held : List Bool → Option (List ℕ)) (o : Option (List ℕ)) → IsPeer H None k held o → unwrap_or o (empty_root H k) ≡ root_of_levels H k held
-peer_root H k held o (inl none) = ap (λ t. unwrap_or t (empty_root H k)) none.0 ∙ sym (root-same H k held (λ q. None) none.1 ∙ root-nothing H k)
+peer_root : (H : List ℕ → List ℕ) (k : ℕ) (held : List Bool → Option (List ℕ)) (o : Option (List ℕ))
+    → IsPeer H None k held o → unwrap_or o (empty_root H k) ≡ root_of_levels H k held
+peer_root H k held o (inl none) = ap (λ t. unwrap_or t (empty_root H k)) none.0
+    ∙ sym (root-same H k held (λ q. None) none.1 ∙ root-nothing H k)
 peer_root H k held o (inr some) = ap (λ t. unwrap_or t (empty_root H k)) some.0
 
-level_above : (H : List ℕ → List ℕ) (k : ℕ) (held : List Bool → Option (List ℕ)) (b : Bool) (x y : List ℕ) → x ≡ root_of_levels H k (λ q. held (not b ∷ q)) → y ≡ root_of_levels H k (λ q. held (b ∷ q)) → root_of_levels H (suc k) held ≡ H (input_beside b x y)
+level_above : (H : List ℕ → List ℕ) (k : ℕ) (held : List Bool → Option (List ℕ)) (b : Bool) (x y : List ℕ)
+    → x ≡ root_of_levels H k (λ q. held (not b ∷ q)) → y ≡ root_of_levels H k (λ q. held (b ∷ q))
+    → root_of_levels H (suc k) held ≡ H (input_beside b x y)
 unfolding root_of_levels
 level_above H k held true x y e f = rw (e, f) refl
 level_above H k held false x y e f = rw (e, f) refl
 
-pub root_above : (H : List ℕ → List ℕ) (n : ℕ) (held : List Bool → Option (List ℕ)) (bits : List Bool) (os : List (Option (List ℕ))) → PeersAbove H n held bits os
+pub root_above : (H : List ℕ → List ℕ) (n : ℕ) (held : List Bool → Option (List ℕ)) (bits : List Bool)
+    (os : List (Option (List ℕ))) → PeersAbove H n held bits os
     → root_of_levels H (length bits + n) held ≡ value_above H n os (root_of_levels H n (λ q. held (bits ++ q))) bits
 unfolding value_above
 root_above H n held [] [] h = ap (λ k. root_of_levels H k held) (omega arith)
@@ -69,19 +82,26 @@ root_above H n held [] (o ∷ os) h = absurd h
 root_above H n held (b ∷ bits) [] h = absurd h
 root_above H n held (b ∷ bits) (o ∷ os) h =
     let height : suc (length bits) + n ≡ suc (length bits + n) = omega arith in
-    ap (λ k. root_of_levels H k held) height ∙ level_above H (length bits + n) held b _ _ (peer_root H (length bits + n) (λ q. held (not b ∷ q)) o h.0) (sym (root_above H n (λ q. held (b ∷ q)) bits os h.1))
+    ap (λ k. root_of_levels H k held) height ∙ level_above H (length bits + n) held b _ _
+    (peer_root H (length bits + n) (λ q. held (not b ∷ q)) o h.0)
+    (sym (root_above H n (λ q. held (b ∷ q)) bits os h.1))
 
 -- peers of bits in two parts
-pub PeersAbove-append : (H : List ℕ → List ℕ) (n : ℕ) (held : List Bool → Option (List ℕ)) (bits rest : List Bool) (os more : List (Option (List ℕ))) → PeersAbove H (length rest + n) held bits os → PeersAbove H n (λ q. held (bits ++ q)) rest more
+pub PeersAbove-append : (H : List ℕ → List ℕ) (n : ℕ) (held : List Bool → Option (List ℕ)) (bits rest : List Bool)
+    (os more : List (Option (List ℕ))) → PeersAbove H (length rest + n) held bits os
+    → PeersAbove H n (λ q. held (bits ++ q)) rest more
     → PeersAbove H n held (bits ++ rest) (os ++ more)
 PeersAbove-append H n held [] rest [] more h g = g
 PeersAbove-append H n held [] rest (o ∷ os) more h g = absurd h
 PeersAbove-append H n held (b ∷ bits) rest [] more h g = absurd h
 PeersAbove-append H n held (b ∷ bits) rest (o ∷ os) more h g =
-    let height : length bits + (length rest + n) ≡ length (bits ++ rest) + n = rw (length-append bits rest) (omega arith) in
+    let height : length bits + (length rest + n) ≡ length (bits ++ rest) + n = rw (length-append bits rest)
+    (omega arith) in
     (rw height at h.0, PeersAbove-append H n (λ q. held (b ∷ q)) bits rest os more h.1 g)
 
-pub IsPeers-append : (H : List ℕ → List ℕ) (held : List Bool → Option (List ℕ)) (bits rest : List Bool) (os more : List (Option (List ℕ))) → PeersAbove H (length rest) held bits os → IsPeers H (λ k. None) (λ q. held (bits ++ q)) rest more
+pub IsPeers-append : (H : List ℕ → List ℕ) (held : List Bool → Option (List ℕ)) (bits rest : List Bool)
+    (os more : List (Option (List ℕ))) → PeersAbove H (length rest) held bits os
+    → IsPeers H (λ k. None) (λ q. held (bits ++ q)) rest more
     → IsPeers H (λ k. None) held (bits ++ rest) (os ++ more)
 unfolding IsPeers
 IsPeers-append H held [] rest [] more h g = g
@@ -92,12 +112,16 @@ IsPeers-append H held (b ∷ bits) rest (o ∷ os) more h g =
     (rw height at h.0, IsPeers-append H (λ q. held (b ∷ q)) bits rest os more h.1 g)
 
 -- the peers of bits lead from what is held there to the root
-pub alone_root : (H : List ℕ → List ℕ) (held : List Bool → Option (List ℕ)) (bits : List Bool) → ((q : List Bool) → ¬ (q ≡ bits) → held q ≡ None) → root_of_levels H (length bits) held ≡ value_above H 0 [] (unwrap_or (held bits) (empty_root H 0)) bits
+pub alone_root : (H : List ℕ → List ℕ) (held : List Bool → Option (List ℕ)) (bits : List Bool)
+    → ((q : List Bool) → ¬ (q ≡ bits) → held q ≡ None) → root_of_levels H (length bits) held ≡ value_above H 0 []
+    (unwrap_or (held bits) (empty_root H 0)) bits
 unfolding value_above root_of_levels
 alone_root H held [] h = refl
 alone_root H held (b ∷ bits) h =
     let height : length bits + 0 ≡ length bits = omega arith in
-    level_above H (length bits) held b _ _ (ap (empty_root H) height ∙ sym (root-same H (length bits) (λ q. held (not b ∷ q)) (λ q. None) (λ q. h (not b ∷ q) (other b)) ∙ root-nothing H (length bits)))
+    level_above H (length bits) held b _ _
+    (ap (empty_root H) height ∙ sym (root-same H (length bits) (λ q. held (not b ∷ q)) (λ q. None)
+    (λ q. h (not b ∷ q) (other b)) ∙ root-nothing H (length bits)))
     (sym (alone_root H (λ q. held (b ∷ q)) bits (λ q n. h (b ∷ q) (λ e. n (tail e)))))
   where
     other : (c : Bool) {q r : List Bool} → ¬ (not c ∷ q ≡ c ∷ r)
@@ -107,10 +131,13 @@ alone_root H held (b ∷ bits) h =
     tail : {q r : List Bool} → b ∷ q ≡ b ∷ r → q ≡ r
     tail e = cc
 
-pub peers_root : (H : List ℕ → List ℕ) (held : List Bool → Option (List ℕ)) (bits : List Bool) (os : List (Option (List ℕ))) → IsPeers H (λ k. None) held bits os → root_of_levels H (length bits) held ≡ value_above H 0 os (unwrap_or (held bits) (empty_root H 0)) bits
+pub peers_root : (H : List ℕ → List ℕ) (held : List Bool → Option (List ℕ)) (bits : List Bool)
+    (os : List (Option (List ℕ))) → IsPeers H (λ k. None) held bits os → root_of_levels H (length bits) held
+    ≡ value_above H 0 os (unwrap_or (held bits) (empty_root H 0)) bits
 unfolding value_above IsPeers
 peers_root H held bits [] h = alone_root H held bits h
 peers_root H held [] (o ∷ os) h = absurd h
 peers_root H held (b ∷ bits) (o ∷ os) h =
     let height : length bits + 0 ≡ length bits = omega arith in
-    level_above H (length bits) held b _ _ (ap (λ k. unwrap_or o (empty_root H k)) height ∙ peer_root H (length bits) (λ q. held (not b ∷ q)) o h.0) (sym (peers_root H (λ q. held (b ∷ q)) bits os h.1))
+    level_above H (length bits) held b _ _ (ap (λ k. unwrap_or o (empty_root H k)) height
+    ∙ peer_root H (length bits) (λ q. held (not b ∷ q)) o h.0) (sym (peers_root H (λ q. held (b ∷ q)) bits os h.1))

@@ -20,31 +20,42 @@ use Rattle.warg_pages.proofs.ChangesBelow.{last_of-none, put_by, last_change}
 use Rattle.warg_pages.proofs.OwnUpdates.{changes_next}
 
 -- the changes a byte further
-pub next_changes : (H : List ℕ → List ℕ) → GivesHashes H → (prefix : List ℕ) (changes : List ChangeAt) (byte count : ℕ) (more : List (List ℕ × List ℕ)) → length prefix < 32 → byte < 256
-    → AreChangesAt H count more prefix changes → AreChangesAt H count more (prefix ++ byte ∷ []) (filter (goes_to (length prefix) byte) changes)
+pub next_changes : (H : List ℕ → List ℕ) → GivesHashes H → (prefix : List ℕ) (changes : List ChangeAt) (byte count : ℕ)
+    (more : List (List ℕ × List ℕ)) → length prefix < 32 → byte < 256
+    → AreChangesAt H count more prefix changes → AreChangesAt H count more (prefix ++ byte ∷ [])
+    (filter (goes_to (length prefix) byte) changes)
 next_changes H gives prefix changes byte count more short lt are = record {
   are_bytes = All-append IsByte prefix (byte ∷ []) are.are_bytes (All-cons IsByte byte [] lt (All-nil IsByte));
   are_changes = changes_next H gives prefix changes byte count more short lt are.are_changes;
 }
 
-pub none_changes : (H : List ℕ → List ℕ) → GivesHashes H → (prefix : List ℕ) (changes : List ChangeAt) (byte count : ℕ) (more : List (List ℕ × List ℕ)) → length prefix < 32 → byte < 256
-    → AreChangesAt H count more prefix changes → last_with (is_below H (bits_of_bytes (prefix ++ byte ∷ []))) more ≡ None → filter (goes_to (length prefix) byte) changes ≡ []
+pub none_changes : (H : List ℕ → List ℕ) → GivesHashes H → (prefix : List ℕ) (changes : List ChangeAt) (byte count : ℕ)
+    (more : List (List ℕ × List ℕ)) → length prefix < 32 → byte < 256
+    → AreChangesAt H count more prefix changes → last_with (is_below H (bits_of_bytes (prefix ++ byte ∷ []))) more
+    ≡ None → filter (goes_to (length prefix) byte) changes ≡ []
 none_changes H gives prefix changes byte count more short lt are none =
     let next = changes_next H gives prefix changes byte count more short lt are.are_changes in
-    next ∙ last_of-none (changes_below H count more (bits_of_bytes (prefix ++ byte ∷ []))) (last_change H (bits_of_bytes (prefix ++ byte ∷ [])) count more ∙ ap (option_map (put_by H (count + last_place (is_below H (bits_of_bytes (prefix ++ byte ∷ []))) more))) none)
+    next ∙ last_of-none (changes_below H count more (bits_of_bytes (prefix ++ byte ∷ [])))
+    (last_change H (bits_of_bytes (prefix ++ byte ∷ [])) count more
+    ∙ ap (option_map (put_by H (count + last_place (is_below H (bits_of_bytes (prefix ++ byte ∷ []))) more))) none)
 
 -- what a slot names
-pub named_next : (H : List ℕ → List ℕ) (root prefix : List ℕ) (above : List SlotAt) (byte : ℕ) → StoodAt H root prefix above → IsNamedAt H root (prefix ++ byte ∷ []) (slot_digest H (length prefix) (slot_at above byte))
+pub named_next : (H : List ℕ → List ℕ) (root prefix : List ℕ) (above : List SlotAt) (byte : ℕ)
+    → StoodAt H root prefix above → IsNamedAt H root (prefix ++ byte ∷ [])
+    (slot_digest H (length prefix) (slot_at above byte))
 named_next H root prefix above byte stood = λ slots e.
-    below prefix above slots byte stood (ap (λ n. page_digest H n slots) (sym (length-append prefix (byte ∷ []))) ∙ e ∙ as_digest (slot_at above byte) ∙ sym (digest_at-slot H (slot_height (length prefix)) above byte))
+    below prefix above slots byte stood (ap (λ n. page_digest H n slots) (sym (length-append prefix (byte ∷ []))) ∙ e
+    ∙ as_digest (slot_at above byte) ∙ sym (digest_at-slot H (slot_height (length prefix)) above byte))
   where
     as_digest : (o : Option SlotAt) → slot_digest H (length prefix) o ≡ digest_of H (slot_height (length prefix)) o
     as_digest None = refl
     as_digest (Some x) = refl
 
 -- a page that changes what stood
-pub page_stood : (H : List ℕ → List ℕ) → GivesHashes H → (root prefix : List ℕ) (number count : ℕ) (more : List (List ℕ × List ℕ)) (slots fresh : List SlotAt) (changes : List ChangeAt) → length prefix < 32
-    → AreChangesAt H count more prefix changes → StoodAt H root prefix slots → ((s : ℕ) → s < 256 → filter (goes_to (length prefix) s) changes ≡ [] → slot_at fresh s ≡ slot_at slots s)
+pub page_stood : (H : List ℕ → List ℕ) → GivesHashes H → (root prefix : List ℕ) (number count : ℕ)
+    (more : List (List ℕ × List ℕ)) (slots fresh : List SlotAt) (changes : List ChangeAt) → length prefix < 32
+    → AreChangesAt H count more prefix changes → StoodAt H root prefix slots
+    → ((s : ℕ) → s < 256 → filter (goes_to (length prefix) s) changes ≡ [] → slot_at fresh s ≡ slot_at slots s)
     → ChangesWhatStood H root more record { prefix = prefix; version = number; page = fresh }
 page_stood H gives root prefix number count more slots fresh changes short are stood kept = record {
   before = slots;
@@ -53,23 +64,30 @@ page_stood H gives root prefix number count more slots fresh changes short are s
 }
 
 -- one slot more
-pub slot_at-before : (xs : List SlotAt) (o : Option SlotAt) (n s : ℕ) → IfSome o (λ x. x.byte ≡ n) → s < n → slot_at (xs ++ cons_option o []) s ≡ slot_at xs s
+pub slot_at-before : (xs : List SlotAt) (o : Option SlotAt) (n s : ℕ) → IfSome o (λ x. x.byte ≡ n) → s < n
+    → slot_at (xs ++ cons_option o []) s ≡ slot_at xs s
 slot_at-before [] None n s is lt = refl
 slot_at-before [] (Some x) n s is lt = cond-false _ _ _ (ne_eqb x.byte s (λ e. omega arith))
 slot_at-before (x ∷ xs) o n s is lt = ap (λ r. cond (eqb x.byte s) (Some x) r) (slot_at-before xs o n s is lt)
 
-pub slot_at-here : (xs : List SlotAt) (o : Option SlotAt) (n : ℕ) → All (λ x. x.byte < n) xs → IfSome o (λ x. x.byte ≡ n) → slot_at (xs ++ cons_option o []) n ≡ o
+pub slot_at-here : (xs : List SlotAt) (o : Option SlotAt) (n : ℕ) → All (λ x. x.byte < n) xs
+    → IfSome o (λ x. x.byte ≡ n) → slot_at (xs ++ cons_option o []) n ≡ o
 slot_at-here [] None n all is = refl
 slot_at-here [] (Some x) n all is = cond-true _ _ _ (eq-eqb x.byte n is)
 slot_at-here (x ∷ xs) o n all is =
     let low : x.byte < n = All-head (λ (y : SlotAt). y.byte < n) x xs all in
-    cond-false _ _ _ (ne_eqb x.byte n (λ e. omega arith)) ∙ slot_at-here xs o n (All-tail (λ (y : SlotAt). y.byte < n) x xs all) is
+    cond-false _ _ _ (ne_eqb x.byte n (λ e. omega arith))
+    ∙ slot_at-here xs o n (All-tail (λ (y : SlotAt). y.byte < n) x xs all) is
 
-pub kept_more : (slots xs : List SlotAt) (o : Option SlotAt) (n depth : ℕ) (changes : List ChangeAt) → All (λ x. x.byte < n) xs → IfSome o (λ x. x.byte ≡ n) → ((s : ℕ) → s < n → filter (goes_to depth s) changes ≡ [] → slot_at xs s ≡ slot_at slots s)
-    → (filter (goes_to depth n) changes ≡ [] → o ≡ slot_at slots n) → (s : ℕ) → s < n + 1 → filter (goes_to depth s) changes ≡ [] → slot_at (xs ++ cons_option o []) s ≡ slot_at slots s
+pub kept_more : (slots xs : List SlotAt) (o : Option SlotAt) (n depth : ℕ) (changes : List ChangeAt)
+    → All (λ x. x.byte < n) xs → IfSome o (λ x. x.byte ≡ n)
+    → ((s : ℕ) → s < n → filter (goes_to depth s) changes ≡ [] → slot_at xs s ≡ slot_at slots s)
+    → (filter (goes_to depth n) changes ≡ [] → o ≡ slot_at slots n) → (s : ℕ) → s < n + 1
+    → filter (goes_to depth s) changes ≡ [] → slot_at (xs ++ cons_option o []) s ≡ slot_at slots s
 kept_more slots xs o n depth changes all is kept here s lt none = elim (cases_lt s n) [
   | inl low ↦ slot_at-before xs o n s is low ∙ kept s low none
   | inr high ↦
       let same : s ≡ n = omega arith in
-      ap (slot_at (xs ++ cons_option o [])) same ∙ slot_at-here xs o n all is ∙ here (ap (λ m. filter (goes_to depth m) changes) (sym same) ∙ none) ∙ ap (slot_at slots) (sym same)
+      ap (slot_at (xs ++ cons_option o [])) same ∙ slot_at-here xs o n all is
+      ∙ here (ap (λ m. filter (goes_to depth m) changes) (sym same) ∙ none) ∙ ap (slot_at slots) (sym same)
 ]

@@ -20,5 +20,8 @@ pub of_entries : (log : RightEdge) (checkpoint : RootAndLength)
     → ((ds : List (List ℕ)) → StandsFor sha256 log ds → checkpoint.root ≡ root_of sha256 ds)
     → checkpoint.length ≡ log.len → HasEntries log → IsOfEntries checkpoint
 of_entries log checkpoint root count has =
-    let leaves : length (leaves_of sha256 has.0) ≡ log.len = has.1.count in
-    (has.0, sym (length-map has.0 (λ (e : List ℕ). sha256 (0 ∷ e))) ∙ leaves ∙ sym count, sym (root (leaves_of sha256 has.0) has.1))
+    let leaves : length (leaves_of sha256 has.0) ≡ log.len = has.1.count in (
+      has.0,
+      sym (length-map has.0 (λ (e : List ℕ). sha256 (0 ∷ e))) ∙ leaves ∙ sym count,
+      sym (root (leaves_of sha256 has.0) has.1),
+    )

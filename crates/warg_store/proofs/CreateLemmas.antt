@@ -14,7 +14,7 @@ use Rattle.warg_tiles.specs.CheckpointText.{Said}
 use Rattle.warg_store.specs.Files.{File, Files, put}
 use Rattle.warg_store.specs.Names.{checkpoint, state, mark, staged, is_staged, page_name}
 use Rattle.warg_store.specs.Opening.{is_signed, opened_by, committed, finished, published, told, IsStaging, NothingStaged}
-use Rattle.warg_store.specs.Log.{LogOf, CanBeKept, said_of, checkpoint_of, Keeps, HasFiles}
+use Rattle.warg_store.specs.Log.{LogOf, CanBeKept, said_of, checkpoint_of, Keeps, HasFiles, no_entries}
 use Rattle.warg_store.specs.Growing.{Has}
 use Rattle.warg_store.proofs.FileLemmas.{put_here}
 use Rattle.warg_store.proofs.ReadLemmas.{unsigned_is}
@@ -23,18 +23,16 @@ use Rattle.warg_store.proofs.LeadLemmas.{extends_self, own_pages}
 use Rattle.warg_store.proofs.GrowingLemmas.{none_some}
 
 -- a name that is listed nowhere has no file
-pub absent : (s : Files) (names : List (String Global)) (n : List ℕ) → ((m : List ℕ) → IsSome (s m) → Contains (map (λ name. string_bytes name) names) m)
+pub absent : (s : Files) (names : List (String Global)) (n : List ℕ)
+    → ((m : List ℕ) → IsSome (s m) → Contains (map (λ name. string_bytes name) names) m)
     → All (λ name. string_bytes name ≢ n) names → s n ≡ None
 absent s names n listed others = at (s n) refl
   where
     at : (o : Option (List ℕ)) → s n ≡ o → s n ≡ None
     at None e = e
     at (Some bytes) e =
-        absurd (All-contains (λ m. m ≢ n) (map (λ name. string_bytes name) names) n (All-map (λ m. m ≢ n) (λ name. string_bytes name) names others) (listed n (subst IsSome (sym e) refl)) refl)
-
--- the log of no entries
-abbrev pub no_entries : List ℕ → LogOf
-no_entries origin = record { origin = origin; entries = []; lines = []; pages = [] }
+        absurd (All-contains (λ m. m ≢ n) (map (λ name. string_bytes name) names) n
+        (All-map (λ m. m ≢ n) (λ name. string_bytes name) names others) (listed n (subst IsSome (sym e) refl)) refl)
 
 -- it has no tile
 pub no_tile : (t : TileAt) → IsTileOf 0 t → ⊥
@@ -55,10 +53,15 @@ module _ (origin : List ℕ) (named : CanBeKept (no_entries origin)) (s : Files)
   marked = put (mark, text) s
 
   at_own : (n : List ℕ) → is_staged n ≡ false → committed text s n ≡ told text (published marked) n
-  at_own n isnt = ap (λ (o : Option (List ℕ)). opened_by o marked n) (put_here (mark, text) s) ∙ without_at (finished text marked) n isnt
+  at_own n isnt = ap (λ (o : Option (List ℕ)). opened_by o marked n) (put_here (mark, text) s)
+      ∙ without_at (finished text marked) n isnt
 
   no_files : HasFiles (no_entries origin) (committed text s)
-  no_files = record { tile = λ t is. absurd (no_tile t is.exists); bundle = λ t is. absurd (no_tile t is.exists); page = λ f is. no_page origin f is }
+  no_files = record {
+    tile = λ t is. absurd (no_tile t is.exists);
+    bundle = λ t is. absurd (no_tile t is.exists);
+    page = λ f is. no_page origin f is;
+  }
 
   pub created : Keeps (no_entries origin) (no_entries origin) (committed (checkpoint_of (no_entries origin)) s)
   created = record {
@@ -69,7 +72,8 @@ module _ (origin : List ℕ) (named : CanBeKept (no_entries origin)) (s : Files)
       can = named;
       checkpoint = (
         None,
-        at_own checkpoint refl ∙ told_checkpoint text (published marked) ∙ ap (λ o. if is_signed o then o else Some text) (unmarked s text checkpoint refl ∙ none)
+        at_own checkpoint refl ∙ told_checkpoint text (published marked)
+            ∙ ap (λ o. if is_signed o then o else Some text) (unmarked s text checkpoint refl ∙ none)
             ∙ ap (λ b. if b then None else Some text) (sym (unsigned_is None refl)),
       );
       holds = no_files;
@@ -79,15 +83,26 @@ module _ (origin : List ℕ) (named : CanBeKept (no_entries origin)) (s : Files)
   }
 
 -- what the text of no entries says
-pub says_none : (origin : List ℕ) (said : Said) (n : ℕ) (root : List ℕ) → n ≡ 0 → root ≡ sha256 [] → said ≡ record { origin = origin; length = n; root = root; extensions = [] } → said ≡ said_of (no_entries origin)
+pub says_none : (origin : List ℕ) (said : Said) (n : ℕ) (root : List ℕ) → n ≡ 0 → root ≡ sha256 []
+    → said ≡ record { origin = origin; length = n; root = root; extensions = [] } → said ≡ said_of (no_entries origin)
 says_none origin said n root len empty is =
     subst (λ m. said ≡ record { origin = origin; length = m; root = sha256 []; extensions = [] }) len
     (subst (λ r. said ≡ record { origin = origin; length = n; root = r; extensions = [] }) empty is)
 
 -- a new log has no entries
-pub has_none : {F : Type 0} (seen : F → Files) (may_leave : F → Files → Type 0) (origin : List ℕ) (folder : F) (edge : RightEdge) → edge ≡ record { len = 0; taken = 0; digests = []; full = [] } → StandsFor sha256 edge []
-    → Keeps (no_entries origin) (no_entries origin) (seen folder) → NothingStaged (seen folder) → IsStaging (seen folder) (may_leave folder)
-    → Has seen may_leave (no_entries origin) (no_entries origin) (no_entries origin) (record { folder = folder; text = said_of (no_entries origin); is_open = true; edge = edge; bundle = []; held = 0 })
+pub has_none : {F : Type 0} (seen : F → Files) (may_leave : F → Files → Type 0) (origin : List ℕ) (folder : F)
+    (edge : RightEdge) → edge ≡ record { len = 0; taken = 0; digests = []; full = [] } → StandsFor sha256 edge []
+    → Keeps (no_entries origin) (no_entries origin) (seen folder) → NothingStaged (seen folder)
+    → IsStaging (seen folder) (may_leave folder)
+    → Has seen may_leave (no_entries origin) (no_entries origin) (no_entries origin)
+    (record {
+      folder = folder;
+      text = said_of (no_entries origin);
+      is_open = true;
+      edge = edge;
+      bundle = [];
+      held = 0;
+    })
 unfolding bundle_of
 has_none seen may_leave origin folder edge is stands keeps nothing staging =
     let len : edge.len ≡ 0 = ap (λ (e : RightEdge). e.len) is in

@@ -27,8 +27,13 @@ moved_to from to s = elim (one_name to to) [ inl t ↦ rw (t.0) refl | inr f ↦
 
 -- where it was
 pub moved_from : (from to : List ℕ) (s : Files) → to ≢ from → moved from to s from ≡ None
-moved_from from to s differ = elim (one_name to from) [ inl t ↦ absurd (differ t.1) | inr apart ↦ rw (apart.0) (without_here from s) ]
+moved_from from to s differ = elim (one_name to from) [
+  | inl t ↦ absurd (differ t.1)
+  | inr apart ↦ rw (apart.0)
+      (without_here from s)
+]
 
 -- and elsewhere
 pub moved_apart : (from to : List ℕ) (s : Files) (n : List ℕ) → to ≢ n → from ≢ n → moved from to s n ≡ s n
-moved_apart from to s n other another = elim (one_name to n) [ inl t ↦ absurd (other t.1) | inr apart ↦ rw (apart.0) (without_apart from s n another) ]
+moved_apart from to s n other another =
+    elim (one_name to n) [ inl t ↦ absurd (other t.1) | inr apart ↦ rw (apart.0) (without_apart from s n another) ]

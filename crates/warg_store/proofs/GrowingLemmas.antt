@@ -66,10 +66,16 @@ behind : (x y : TileAt) (xs : List TileAt) → Contains xs y → Contains (x ∷
 behind x y xs (k, low, is) = (suc k, omega arith, is)
 
 -- each tile that ends behind the older length has its file
-pub has_file : (older : ℕ) (tiles : Tiles) (t : TileAt) → Contains (map (λ (x : TileAt × List (List ℕ)). x.0) tiles) t → (tile_end t ≤ older → ⊥) → IsNameOf (new_files older tiles) (tile_path t)
+pub has_file : (older : ℕ) (tiles : Tiles) (t : TileAt) → Contains (map (λ (x : TileAt × List (List ℕ)). x.0) tiles) t
+    → (tile_end t ≤ older → ⊥) → IsNameOf (new_files older tiles) (tile_path t)
 has_file older [] t (k, low, is) new = absurd (omega arith)
 has_file older (x ∷ xs) t has new = elim (in_front x.0 t (map (λ (x : TileAt × List (List ℕ)). x.0) xs) has) [
-  | inl here ↦ rw (lt-leb (tile_end x.0) older (elim (cases_lt older (tile_end x.0)) [ inl lt ↦ lt | inr le ↦ absurd (new (subst (λ u. tile_end u ≤ older) here le)) ])) (inl (ap tile_path here))
+  | inl here ↦ rw (lt-leb (tile_end x.0) older
+      (elim (cases_lt older (tile_end x.0)) [
+        | inl lt ↦ lt
+        | inr le ↦ absurd
+            (new (subst (λ u. tile_end u ≤ older) here le))
+      ])) (inl (ap tile_path here))
   | inr rest ↦ elim (cases_Bool (nat_le (tile_end x.0) older)) [
     | inl old ↦ rw old (has_file older xs t rest new)
     | inr some ↦ rw some (inr (has_file older xs t rest new))
@@ -77,25 +83,39 @@ has_file older (x ∷ xs) t has new = elim (in_front x.0 t (map (λ (x : TileAt 
 ]
 
 -- what each new tile's file has, each new file has
-pub each_file : (P : File → Type 0) (older : ℕ) (tiles : Tiles) → AllByRecursion (λ (x : TileAt × List (List ℕ)). (tile_end x.0 ≤ older → ⊥) → P (tile_path x.0, flat_map (λ digest. digest) x.1)) tiles
+pub each_file : (P : File → Type 0) (older : ℕ) (tiles : Tiles)
+    → AllByRecursion (λ (x : TileAt × List (List ℕ)). (tile_end x.0 ≤ older → ⊥)
+    → P (tile_path x.0, flat_map (λ digest. digest) x.1)) tiles
     → AllByRecursion P (new_files older tiles)
 each_file P older [] each = tt
 each_file P older (x ∷ xs) each = elim (cases_Bool (nat_le (tile_end x.0) older)) [
   | inl old ↦ rw old (each_file P older xs each.1)
-  | inr some ↦ rw some (each.0 (λ le. let lt : older < tile_end x.0 = leb-false (tile_end x.0) older some in omega arith), each_file P older xs each.1)
+  | inr some ↦ rw some (
+    each.0 (λ le. let lt : older < tile_end x.0 = leb-false (tile_end x.0) older some in
+        omega arith),
+    each_file P older xs each.1,
+  )
 ]
 
 -- a log's own tiles have its bytes
-pub own_files : (log : LogOf) (R : TileAt → Type 0) (tiles : Tiles) → ((t : TileAt) → Contains (map (λ (x : TileAt × List (List ℕ)). x.0) tiles) t → R t)
-    → AllByRecursion (λ (x : TileAt × List (List ℕ)). IsTileBy (own_digest sha256 (leaves_of sha256 log.entries)) x.0 x.1) tiles
-    → AllByRecursion (λ (x : TileAt × List (List ℕ)). R x.0 × (flat_map (λ digest. digest) x.1 ≡ tile_bytes log x.0)) tiles
+pub own_files : (log : LogOf) (R : TileAt → Type 0) (tiles : Tiles)
+    → ((t : TileAt) → Contains (map (λ (x : TileAt × List (List ℕ)). x.0) tiles) t → R t)
+    → AllByRecursion (λ (x : TileAt × List (List ℕ)). IsTileBy (own_digest sha256 (leaves_of sha256 log.entries)) x.0
+    x.1) tiles
+    → AllByRecursion (λ (x : TileAt × List (List ℕ)). R x.0 × (flat_map (λ digest. digest) x.1 ≡ tile_bytes log x.0))
+    tiles
 own_files log R [] each own = tt
 own_files log R (x ∷ xs) each own = (
-  (each x.0 (zero, omega arith, refl), ap (flat_map (λ digest. digest)) (own_tile sha256 (leaves_of sha256 log.entries) x.1 x.0 own.0)),
+  (
+    each x.0 (zero, omega arith, refl),
+    ap (flat_map (λ digest. digest))
+        (own_tile sha256 (leaves_of sha256 log.entries) x.1 x.0 own.0),
+  ),
   own_files log R xs (λ t has. each t (behind x.0 t (map (λ (y : TileAt × List (List ℕ)). y.0) xs) has)) own.1,
 )
 
-all_tiles : (P Q : TileAt × List (List ℕ) → Type 0) → ((x : TileAt × List (List ℕ)) → P x → Q x) → (xs : Tiles) → AllByRecursion P xs → AllByRecursion Q xs
+all_tiles : (P Q : TileAt × List (List ℕ) → Type 0) → ((x : TileAt × List (List ℕ)) → P x → Q x) → (xs : Tiles)
+    → AllByRecursion P xs → AllByRecursion Q xs
 all_tiles P Q weak [] each = tt
 all_tiles P Q weak (x ∷ xs) each = (weak x each.0, all_tiles P Q weak xs each.1)
 
@@ -107,59 +127,81 @@ others n (f ∷ fs) u each = others n fs (put (staged f.0, f.1) u) each.1
     ∙ put_apart (staged f.0, f.1) u (staged n) (λ e. each.0 (staged_once f.0 n e))
 
 -- Tiles of a log that are staged: R says of each which one it is.
-module _ (log : LogOf) (R : TileAt → Type 0) (low : (t : TileAt) → R t → t.level < 8) (most : (t : TileAt) → R t → t.width ≤ 256) (older : ℕ) (tiles : Tiles)
-    (own : AllByRecursion (λ (x : TileAt × List (List ℕ)). R x.0 × (flat_map (λ digest. digest) x.1 ≡ tile_bytes log x.0)) tiles) (s : Files) where
+module _ (log : LogOf) (R : TileAt → Type 0) (low : (t : TileAt) → R t → t.level < 8) (most : (t : TileAt) → R t
+    → t.width ≤ 256) (older : ℕ) (tiles : Tiles)
+    (own : AllByRecursion (λ (x : TileAt × List (List ℕ)). R x.0
+    × (flat_map (λ digest. digest) x.1 ≡ tile_bytes log x.0)) tiles) (s : Files) where
   abbrev pub after : Files
   after = staged_all (new_files older tiles) s
 
   -- at the path of a tile its bytes are staged, where they were before or it is one of these
-  pub tile_there : (t : TileAt) → t.level < 8 → t.width ≤ 256 → (Contains (map (λ (x : TileAt × List (List ℕ)). x.0) tiles) t × (tile_end t ≤ older → ⊥)) ⊎ (s (staged (tile_path t)) ≡ Some (tile_bytes log t))
+  pub tile_there : (t : TileAt) → t.level < 8 → t.width ≤ 256
+      → (Contains (map (λ (x : TileAt × List (List ℕ)). x.0) tiles) t × (tile_end t ≤ older → ⊥))
+      ⊎ (s (staged (tile_path t)) ≡ Some (tile_bytes log t))
       → after (staged (tile_path t)) ≡ Some (tile_bytes log t)
   tile_there t lt wt from = staged_there (new_files older tiles) s (tile_path t) (tile_bytes log t)
-      (each_file (λ f. f.0 ≡ tile_path t → f.1 ≡ tile_bytes log t) older tiles (all_tiles _ _ (λ x is new path. is.1 ∙ ap (tile_bytes log) (tile_path_once x.0 t (low x.0 is.0) lt (most x.0 is.0) wt path)) tiles own))
+      (each_file (λ f. f.0 ≡ tile_path t → f.1 ≡ tile_bytes log t) older tiles
+      (all_tiles _ _ (λ x is new path. is.1
+      ∙ ap (tile_bytes log) (tile_path_once x.0 t (low x.0 is.0) lt (most x.0 is.0) wt path)) tiles own))
       (⊎_elim (λ here. inl (has_file older tiles t here.0 here.1)) (λ was. inr was) from)
 
   -- at the path of a bundle nothing changes
   pub bundle_there : (t : TileAt) → t.level < 8 → after (staged (entries_path t)) ≡ s (staged (entries_path t))
   bundle_there t lt = others (entries_path t) (new_files older tiles) s
-      (each_file (λ f. f.0 ≡ entries_path t → ⊥) older tiles (all_tiles _ _ (λ x is new path. no_tile_a_bundle x.0 t (low x.0 is.0) path) tiles own))
+      (each_file (λ f. f.0 ≡ entries_path t → ⊥) older tiles
+      (all_tiles _ _ (λ x is new path. no_tile_a_bundle x.0 t (low x.0 is.0) path) tiles own))
 
   -- nor at the name of a page
   pub page_there : (path : List ℕ) → after (staged (page_name path)) ≡ s (staged (page_name path))
   page_there path = others (page_name path) (new_files older tiles) s
-      (each_file (λ f. f.0 ≡ page_name path → ⊥) older tiles (all_tiles _ _ (λ x is new at. no_page_a_tile x.0 path at) tiles own))
+      (each_file (λ f. f.0 ≡ page_name path → ⊥) older tiles
+      (all_tiles _ _ (λ x is new at. no_page_a_tile x.0 path at) tiles own))
 
   -- what is staged was staged, or is one of these
-  pub staged_by : (n : List ℕ) → IsSome (after (staged n)) → IsSome (s (staged n)) ⊎ ((t : TileAt) × R t × (tile_end t ≤ older → ⊥) × (tile_path t ≡ n))
+  pub staged_by : (n : List ℕ) → IsSome (after (staged n)) → IsSome (s (staged n))
+      ⊎ ((t : TileAt) × R t × (tile_end t ≤ older → ⊥) × (tile_path t ≡ n))
   staged_by n some = ⊎_elim (λ was. inl was) (λ by. inr (by.1.0, by.1.1, by.1.2, sym by.1.3 ∙ by.2))
-      (staged_from (λ f. (t : TileAt) × R t × (tile_end t ≤ older → ⊥) × (f.0 ≡ tile_path t)) (new_files older tiles) s n
-      (each_file (λ f. (t : TileAt) × R t × (tile_end t ≤ older → ⊥) × (f.0 ≡ tile_path t)) older tiles (all_tiles _ _ (λ x is new. (x.0, is.0, new, refl)) tiles own)) some)
+      (staged_from (λ f. (t : TileAt) × R t × (tile_end t ≤ older → ⊥) × (f.0 ≡ tile_path t))
+      (new_files older tiles) s n
+      (each_file (λ f. (t : TileAt) × R t × (tile_end t ≤ older → ⊥) × (f.0 ≡ tile_path t)) older tiles
+      (all_tiles _ _ (λ x is new. (x.0, is.0, new, refl)) tiles own)) some)
 
 -- The tile of level 0 over a full bundle.
 abbrev pub bundle_tile : ℕ → TileAt
 bundle_tile number = record { level = 0; number = number; width = 256 }
 
 pub same_tile : (t u : TileAt) → t.level ≡ u.level → t.number ≡ u.number → t.width ≡ u.width → t ≡ u
-same_tile t u level number width = ap (λ l. make l t.number t.width) level ∙ ap (λ n. make u.level n t.width) number ∙ ap (λ w. make u.level u.number w) width
+same_tile t u level number width = ap (λ l. make l t.number t.width) level ∙ ap (λ n. make u.level n t.width) number
+    ∙ ap (λ w. make u.level u.number w) width
   where
     make : ℕ → ℕ → ℕ → TileAt
     make level number width = record { level = level; number = number; width = width }
 
 -- what a tile of level 0 has of a length
-pub ground : (n : ℕ) (t : TileAt) → t.level ≡ 0 → IsTileOf n t → (0 < t.width) × (t.width ≡ min (n - 256 * t.number) 256)
+pub ground : (n : ℕ) (t : TileAt) → t.level ≡ 0 → IsTileOf n t → (0 < t.width)
+    × (t.width ≡ min (n - 256 * t.number) 256)
 ground n t level is =
-    let one : 2 ^ (8 * t.level) ≡ 1 = ap (λ l. 2 ^ (8 * l)) level in
-    (is.some, is.width ∙ ap (λ p. min (n / p - 256 * t.number) 256) one ∙ ap (λ m. min (m - 256 * t.number) 256) (div-one n))
+    let one : 2 ^ (8 * t.level) ≡ 1 = ap (λ l. 2 ^ (8 * l)) level in (
+      is.some,
+      is.width ∙ ap (λ p. min (n / p - 256 * t.number) 256) one ∙ ap (λ m. min (m - 256 * t.number) 256)
+          (div-one n),
+    )
 
 from_ground : (n : ℕ) (t : TileAt) → t.level ≡ 0 → 0 < t.width → t.width ≡ min (n - 256 * t.number) 256 → IsTileOf n t
 from_ground n t level some width =
     let one : 2 ^ (8 * t.level) ≡ 1 = ap (λ l. 2 ^ (8 * l)) level in
-    record { some = some; width = width ∙ sym (ap (λ p. min (n / p - 256 * t.number) 256) one ∙ ap (λ m. min (m - 256 * t.number) 256) (div-one n)) }
+    record {
+      some = some;
+      width = width
+          ∙ sym (ap (λ p. min (n / p - 256 * t.number) 256) one ∙ ap (λ m. min (m - 256 * t.number) 256) (div-one n));
+    }
 
 -- With the tiles and the bundle that the last entry has filled, all full tiles are staged.
-module _ (log : LogOf) (older taken number : ℕ) (tiles : Tiles) (bytes : List ℕ) (s : Files) (before : older ≤ taken) (order : taken ≤ length log.entries) (most : length log.entries ≤ 2 ^ 63)
+module _ (log : LogOf) (older taken number : ℕ) (tiles : Tiles) (bytes : List ℕ) (s : Files) (before : older ≤ taken)
+    (order : taken ≤ length log.entries) (most : length log.entries ≤ 2 ^ 63)
     (last : length log.entries ≡ 256 * number + 256) (block : taken / 256 ≡ number)
-    (own : AreTilesOf sha256 (leaves_of sha256 log.entries) (full_between taken (length log.entries)) tiles) (holds : bytes ≡ bundle_bytes log (bundle_tile number))
+    (own : AreTilesOf sha256 (leaves_of sha256 log.entries) (full_between taken (length log.entries)) tiles)
+    (holds : bytes ≡ bundle_bytes log (bundle_tile number))
     (was : AreFullStaged older taken log s) where
   len : ℕ
   len = length log.entries
@@ -168,12 +210,15 @@ module _ (log : LogOf) (older taken number : ℕ) (tiles : Tiles) (bytes : List 
   IsFilled t = (t.width ≡ 256) × IsTileOf (length log.entries) t × (IsTileOf taken t → ⊥)
 
   filled : (t : TileAt) → Contains (map (λ (x : TileAt × List (List ℕ)). x.0) tiles) t → IsFilled t
-  filled t has = ((full_tiles taken (length log.entries) most).exactly t).0 (subst (λ (l : List TileAt). Contains l t) own.places has)
+  filled t has = ((full_tiles taken (length log.entries) most).exactly t).0
+      (subst (λ (l : List TileAt). Contains l t) own.places has)
 
   is_filled : (t : TileAt) → IsFilled t → Contains (map (λ (x : TileAt × List (List ℕ)). x.0) tiles) t
-  is_filled t is = subst (λ (l : List TileAt). Contains l t) (sym own.places) (((full_tiles taken (length log.entries) most).exactly t).1 is)
+  is_filled t is = subst (λ (l : List TileAt). Contains l t) (sym own.places)
+      (((full_tiles taken (length log.entries) most).exactly t).1 is)
 
-  files : AllByRecursion (λ (x : TileAt × List (List ℕ)). IsFilled x.0 × (flat_map (λ digest. digest) x.1 ≡ tile_bytes log x.0)) tiles
+  files : AllByRecursion (λ (x : TileAt × List (List ℕ)). IsFilled x.0
+      × (flat_map (λ digest. digest) x.1 ≡ tile_bytes log x.0)) tiles
   files = own_files log IsFilled tiles filled own.digests
 
   low : (t : TileAt) → IsFilled t → t.level < 8
@@ -192,54 +237,94 @@ module _ (log : LogOf) (older taken number : ℕ) (tiles : Tiles) (bytes : List 
   bundle_new m low is = let g = ground m (bundle_tile number) refl is in omega (arith, g.1, block)
 
   apart_tile : (t : TileAt) → t.level < 8 → staged (entries_path (bundle_tile number)) ≢ staged (tile_path t)
-  apart_tile t lt e = no_tile_a_bundle t (bundle_tile number) lt (sym (staged_once (entries_path (bundle_tile number)) (tile_path t) e))
+  apart_tile t lt e = no_tile_a_bundle t (bundle_tile number) lt
+      (sym (staged_once (entries_path (bundle_tile number)) (tile_path t) e))
 
   pub full_pages : (path : List ℕ) → now (staged (page_name path)) ≡ s (staged (page_name path))
   full_pages path = put_apart (staged (entries_path (bundle_tile number)), bytes) (staged_all (new_files older tiles) s)
       (staged (page_name path))
-      (λ e. no_page_a_bundle (bundle_tile number) path (staged_once (entries_path (bundle_tile number)) (page_name path) e))
+      (λ e. no_page_a_bundle (bundle_tile number) path
+      (staged_once (entries_path (bundle_tile number)) (page_name path) e))
       ∙ page_there log IsFilled low wide older tiles files s path
 
   pub full_staged : AreFullStaged older (length log.entries) log now
   full_staged = record {
-    tile = λ t lt is. put_apart (staged (entries_path (bundle_tile number)), bytes) (staged_all (new_files older tiles) s) (staged (tile_path t)) (apart_tile t lt)
+    tile = λ t lt is. put_apart (staged (entries_path (bundle_tile number)), bytes)
+        (staged_all (new_files older tiles) s) (staged (tile_path t)) (apart_tile t lt)
         ∙ tile_there log IsFilled low wide older tiles files s t lt (omega (arith, is.full))
         (⊎_elim (λ old. inr (was.tile t lt (record { full = is.full; exists = old; new = is.new })))
-        (λ new. inl (is_filled t (is.full, is.exists, new), new_ends older (length log.entries) t (omega arith) is.exists is.new))
+        (λ new. inl (
+          is_filled t (is.full, is.exists, new),
+          new_ends older (length log.entries) t
+              (omega arith) is.exists is.new,
+        ))
         (is_tile_or taken (length log.entries) t is.exists));
     bundle = λ t level is. elim (one_name (entries_path (bundle_tile number)) (entries_path t)) [
       | inl here ↦
-          let same : bundle_tile number ≡ t = entries_path_once (bundle_tile number) t refl level (omega arith) (omega (arith, is.full)) here.1 in
+          let same : bundle_tile number ≡ t = entries_path_once (bundle_tile number) t refl level (omega arith)
+          (omega (arith, is.full)) here.1 in
           subst (λ (u : TileAt). now (staged (entries_path u)) ≡ Some (bundle_bytes log u)) same
-          (put_here (staged (entries_path (bundle_tile number)), bytes) (staged_all (new_files older tiles) s) ∙ ap (λ (b : List ℕ). Some b) holds)
+          (put_here (staged (entries_path (bundle_tile number)), bytes) (staged_all (new_files older tiles) s)
+          ∙ ap (λ (b : List ℕ). Some b) holds)
       | inr other ↦
-          put_apart (staged (entries_path (bundle_tile number)), bytes) (staged_all (new_files older tiles) s) (staged (entries_path t)) (λ e. other.1 (staged_once (entries_path (bundle_tile number)) (entries_path t) e))
+          put_apart (staged (entries_path (bundle_tile number)), bytes) (staged_all (new_files older tiles) s)
+          (staged (entries_path t)) (λ e. other.1
+          (staged_once (entries_path (bundle_tile number)) (entries_path t) e))
           ∙ bundle_there log IsFilled low wide older tiles files s t (omega (arith, level))
-          ∙ was.bundle t level (record { full = is.full; exists = ⊎_elim (λ old. old) (λ new. absurd (other.1 (ap entries_path (the_last t level is new)))) (is_tile_or taken (length log.entries) t is.exists); new = is.new })
+          ∙ was.bundle t level (record {
+            full = is.full;
+            exists = ⊎_elim (λ old. old) (λ new. absurd (other.1 (ap entries_path (the_last t level is new))))
+                (is_tile_or taken (length log.entries) t is.exists);
+            new = is.new;
+          })
     ];
     nothing_else = λ n served some. elim (one_name (staged (entries_path (bundle_tile number))) (staged n)) [
-      | inl here ↦ inr (bundle_tile number, refl, record { full = refl; exists = bundle_exists; new = bundle_new older before }, staged_once (entries_path (bundle_tile number)) n here.1)
+      | inl here ↦ inr (
+        bundle_tile number,
+        refl,
+        record { full = refl; exists = bundle_exists; new = bundle_new older before },
+        staged_once (entries_path (bundle_tile number)) n here.1,
+      )
       | inr other ↦ ⊎_elim (λ old. was.nothing_else n served old)
-          (λ by. inl (by.0, low by.0 by.1, record { full = by.1.0; exists = by.1.1; new = λ old. by.1.2 (tile_between older taken (length log.entries) by.0 before order old by.1.1) }, by.3))
+          (λ by. inl (
+            by.0,
+            low by.0 by.1,
+            record {
+              full = by.1.0;
+              exists = by.1.1;
+              new = λ old. by.1.2 (tile_between older taken (length log.entries) by.0 before order old by.1.1);
+            },
+            by.3,
+          ))
           (staged_by log IsFilled low wide older tiles files s n
-          (subst IsSome (put_apart (staged (entries_path (bundle_tile number)), bytes) (staged_all (new_files older tiles) s) (staged n) other.1) some))
+          (subst IsSome (put_apart (staged (entries_path (bundle_tile number)), bytes)
+          (staged_all (new_files older tiles) s) (staged n) other.1) some))
     ];
   }
     where
-      the_last : (t : TileAt) → t.level ≡ 0 → IsNewFull older (length log.entries) t → (IsTileOf taken t → ⊥) → bundle_tile number ≡ t
+      the_last : (t : TileAt) → t.level ≡ 0 → IsNewFull older (length log.entries) t → (IsTileOf taken t → ⊥)
+          → bundle_tile number ≡ t
       the_last t level is new =
           let g = ground (length log.entries) t level is.exists in
-          let above : taken < 256 * t.number + 256 = elim (cases_lt taken (256 * t.number + 256)) [ inl lt ↦ lt | inr le ↦ absurd (new (from_ground taken t level is.exists.some (omega (arith, is.full, le)))) ] in
+          let above : taken < 256 * t.number + 256 =
+          elim (cases_lt taken (256 * t.number + 256)) [
+            | inl lt ↦ lt
+            | inr le ↦ absurd
+                (new (from_ground taken t level is.exists.some (omega (arith, is.full, le))))
+          ] in
           same_tile (bundle_tile number) t (sym level) (omega (arith, g.1, is.full, above, last, block)) (sym is.full)
 
 -- what a folder keeps, it keeps beside staged files
-pub keeps_beside : (served old : LogOf) (s t : Files) → ((n : List ℕ) → is_staged n ≡ false → t n ≡ s n) → Keeps served old s → Keeps served old t
+pub keeps_beside : (served old : LogOf) (s t : Files) → ((n : List ℕ) → is_staged n ≡ false → t n ≡ s n)
+    → Keeps served old s → Keeps served old t
 keeps_beside served old s t same keeps = same_kept served old s t
-    (λ n is. same n (served_not_staged n (⊎_elim (λ one. file_served old n one) (λ other. file_served served n other) is)))
+    (λ n is. same n (served_not_staged n
+    (⊎_elim (λ one. file_served old n one) (λ other. file_served served n other) is)))
     (same checkpoint refl) (same state refl) keeps
 
 -- A crash that leaves what a folder keeps, but for staged files, leaves the log.
-pub beside_one_of : (served old next : LogOf) (s c : Files) → Keeps served old s → IsBeside s c → IsOneOf served old next c
+pub beside_one_of : (served old next : LogOf) (s c : Files) → Keeps served old s → IsBeside s c
+    → IsOneOf served old next c
 beside_one_of served old next s c keeps beside =
     let same : (n : List ℕ) → is_staged n ≡ false → opened c n ≡ c n =
     λ n isnt. ap (λ (o : Option (List ℕ)). opened_by o c n) beside.no_mark ∙ ap (λ b. if b then None else c n) isnt in
@@ -252,19 +337,35 @@ beside_one_of served old next s c keeps beside =
       opened = inl (keeps_beside served old s (opened c) (λ n isnt. same n isnt ∙ beside.outside n isnt) keeps);
     }
 
-pub beside_committing : (served old next : LogOf) (s c : Files) → Keeps served old s → IsBeside s c → IsCommitting served old next s c
-beside_committing served old next s c keeps beside = record { one = beside_one_of served old next s c keeps beside; names = λ n is known. beside.outside n (served_not_staged n is) }
+pub beside_committing : (served old next : LogOf) (s c : Files) → Keeps served old s → IsBeside s c
+    → IsCommitting served old next s c
+beside_committing served old next s c keeps beside = record {
+  one = beside_one_of served old next s c keeps beside;
+  names = λ n is known. beside.outside n (served_not_staged n is);
+}
 
 -- and what a commit leaves behind that
-pub committing_then : (served old next : LogOf) (s mid c : Files) → IsBeside s mid → IsCommitting served old next mid c → IsCommitting served old next s c
-committing_then served old next s mid c beside now = record { one = now.one; names = λ n is known. now.names n is known ∙ beside.outside n (served_not_staged n is) }
+pub committing_then : (served old next : LogOf) (s mid c : Files) → IsBeside s mid → IsCommitting served old next mid c
+    → IsCommitting served old next s c
+committing_then served old next s mid c beside now = record {
+  one = now.one;
+  names = λ n is known. now.names n is known
+      ∙ beside.outside n (served_not_staged n is);
+}
 
 -- With what the last entry has filled staged, the log has the same entries.
-module _ {F : Type 0} (seen : F → Files) (may_leave : F → Files → Type 0) (served old next : LogOf) (l m : LogIn F) (tiles : Tiles) (number : ℕ) (held : l.held ≡ 256) (has : Has seen may_leave served old next l)
-    (is_open : m.is_open ≡ l.is_open) (text : m.text ≡ l.text) (edge : m.edge ≡ record l.edge { taken = l.edge.len; full = [] }) (bundle : m.bundle ≡ []) (held_now : m.held ≡ 0)
-    (own : (ds : List (List ℕ)) → StandsFor sha256 l.edge ds → AreTilesOf sha256 ds (full_between l.edge.taken l.edge.len) tiles) (stands : (ds : List (List ℕ)) → StandsFor sha256 l.edge ds → StandsFor sha256 m.edge ds)
+module _ {F : Type 0} (seen : F → Files) (may_leave : F → Files → Type 0) (served old next : LogOf) (l m : LogIn F)
+    (tiles : Tiles) (number : ℕ) (held : l.held ≡ 256) (has : Has seen may_leave served old next l)
+    (is_open : m.is_open ≡ l.is_open) (text : m.text ≡ l.text)
+    (edge : m.edge ≡ record l.edge { taken = l.edge.len; full = [] }) (bundle : m.bundle ≡ [])
+    (held_now : m.held ≡ 0)
+    (own : (ds : List (List ℕ)) → StandsFor sha256 l.edge ds
+    → AreTilesOf sha256 ds (full_between l.edge.taken l.edge.len) tiles) (stands : (ds : List (List ℕ))
+    → StandsFor sha256 l.edge ds → StandsFor sha256 m.edge ds)
     (most : l.edge.len ≤ 2 ^ 63) (here : number ≡ (l.edge.len - 1) / 256)
-    (puts : seen m.folder ≡ put (staged (entries_path (bundle_tile number)), l.bundle) (staged_all (new_files l.text.length tiles) (seen l.folder))) (staging : IsStaging (seen m.folder) (may_leave m.folder)) where
+    (puts : seen m.folder ≡ put (staged (entries_path (bundle_tile number)), l.bundle)
+    (staged_all (new_files l.text.length tiles) (seen l.folder)))
+    (staging : IsStaging (seen m.folder) (may_leave m.folder)) where
   count : length next.entries ≡ l.edge.len
   count = sym (length-map next.entries (λ (e : List ℕ). sha256 (0 ∷ e))) ∙ has.edge.count
 
@@ -288,12 +389,14 @@ module _ {F : Type 0} (seen : F → Files) (may_leave : F → Files → Type 0) 
 
   holds : l.bundle ≡ bundle_bytes next (bundle_tile number)
   unfolding bundle_of
-  holds = has.bundle ∙ sym (ap (λ n. bundle_of (take 256 (drop (256 * n) next.entries))) at_block ∙ ap bundle_of (take_all 256 rest (omega (arith, rest_len))))
+  holds = has.bundle ∙ sym (ap (λ n. bundle_of (take 256 (drop (256 * n) next.entries))) at_block
+      ∙ ap bundle_of (take_all 256 rest (omega (arith, rest_len))))
 
   outside : (n : List ℕ) → is_staged n ≡ false → seen m.folder n ≡ seen l.folder n
   outside n isnt =
       ap (λ (f : Files). f n) puts
-      ∙ put_apart (staged (entries_path (bundle_tile number)), l.bundle) (staged_all (new_files l.text.length tiles) (seen l.folder)) n (λ e. apart (ap is_staged e ∙ isnt))
+      ∙ put_apart (staged (entries_path (bundle_tile number)), l.bundle)
+      (staged_all (new_files l.text.length tiles) (seen l.folder)) n (λ e. apart (ap is_staged e ∙ isnt))
       ∙ staged_outside (new_files l.text.length tiles) (seen l.folder) n isnt
 
   taken_now : m.edge.taken ≡ length next.entries
@@ -304,19 +407,30 @@ module _ {F : Type 0} (seen : F → Files) (may_leave : F → Files → Type 0) 
 
   all_staged : AreFullStaged m.text.length m.edge.taken next (seen m.folder)
   all_staged = subst (λ (s : Files). AreFullStaged m.text.length m.edge.taken next s) (sym puts)
-      (subst (λ k. AreFullStaged k m.edge.taken next (put (staged (entries_path (bundle_tile number)), l.bundle) (staged_all (new_files l.text.length tiles) (seen l.folder)))) (sym kept_filled)
-      (subst (λ n. AreFullStaged l.text.length n next (put (staged (entries_path (bundle_tile number)), l.bundle) (staged_all (new_files l.text.length tiles) (seen l.folder)))) (sym taken_now)
-      (full_staged next l.text.length l.edge.taken number tiles l.bundle (seen l.folder) has.since (omega (arith, has.order, count)) (omega (arith, most, count)) (omega (arith, count, filled_len, at_block)) (sym at_block)
-      (subst (λ n. AreTilesOf sha256 (leaves_of sha256 next.entries) (full_between l.edge.taken n) tiles) (sym count) (own (leaves_of sha256 next.entries) has.edge)) holds has.staged)))
+      (subst (λ k. AreFullStaged k m.edge.taken next
+      (put (staged (entries_path (bundle_tile number)), l.bundle)
+      (staged_all (new_files l.text.length tiles) (seen l.folder)))) (sym kept_filled)
+      (subst (λ n. AreFullStaged l.text.length n next
+      (put (staged (entries_path (bundle_tile number)), l.bundle)
+      (staged_all (new_files l.text.length tiles) (seen l.folder)))) (sym taken_now)
+      (full_staged next l.text.length l.edge.taken number tiles l.bundle (seen l.folder) has.since
+      (omega (arith, has.order, count)) (omega (arith, most, count)) (omega (arith, count, filled_len, at_block))
+      (sym at_block)
+      (subst (λ n. AreTilesOf sha256 (leaves_of sha256 next.entries) (full_between l.edge.taken n) tiles) (sym count)
+      (own (leaves_of sha256 next.entries) has.edge)) holds has.staged)))
 
   empty_now : [] ≡ bundle_of (drop (256 * (m.edge.taken / 256)) next.entries)
   unfolding bundle_of
-  empty_now = sym (ap bundle_of (drop_all (256 * (m.edge.taken / 256)) next.entries (omega (arith, taken_now, count, filled_len))))
+  empty_now = sym (ap bundle_of (drop_all (256 * (m.edge.taken / 256)) next.entries
+      (omega (arith, taken_now, count, filled_len))))
 
   same_pages : (path : List ℕ) → seen m.folder (staged (page_name path)) ≡ seen l.folder (staged (page_name path))
   same_pages path = ap (λ (f : Files). f (staged (page_name path))) puts
-      ∙ full_pages next l.text.length l.edge.taken number tiles l.bundle (seen l.folder) has.since (omega (arith, has.order, count)) (omega (arith, most, count)) (omega (arith, count, filled_len, at_block)) (sym at_block)
-      (subst (λ n. AreTilesOf sha256 (leaves_of sha256 next.entries) (full_between l.edge.taken n) tiles) (sym count) (own (leaves_of sha256 next.entries) has.edge)) holds has.staged path
+      ∙ full_pages next l.text.length l.edge.taken number tiles l.bundle (seen l.folder) has.since
+      (omega (arith, has.order, count)) (omega (arith, most, count)) (omega (arith, count, filled_len, at_block))
+      (sym at_block)
+      (subst (λ n. AreTilesOf sha256 (leaves_of sha256 next.entries) (full_between l.edge.taken n) tiles) (sym count)
+      (own (leaves_of sha256 next.entries) has.edge)) holds has.staged path
 
   pub filled_has : Has seen may_leave served old next m
   filled_has = record {
@@ -337,9 +451,13 @@ module _ {F : Type 0} (seen : F → Files) (may_leave : F → Files → Type 0) 
   }
 
 -- One entry more.
-module _ {F : Type 0} (seen : F → Files) (may_leave : F → Files → Type 0) (served old next : LogOf) (l m : LogIn F) (entry : List ℕ) (short : length entry < 65536) (has : Has seen may_leave served old next l) (room : l.held < 256)
-    (folder : m.folder ≡ l.folder) (is_open : m.is_open ≡ l.is_open) (text : m.text ≡ l.text) (len : m.edge.len ≡ l.edge.len + 1) (taken : m.edge.taken ≡ l.edge.taken)
-    (stands : (ds : List (List ℕ)) → StandsFor sha256 l.edge ds → StandsFor sha256 m.edge (ds ++ sha256 (0 ∷ entry) ∷ [])) (bundle : m.bundle ≡ l.bundle ++ bundle_of (entry ∷ [])) (held : m.held ≡ l.held + 1) where
+module _ {F : Type 0} (seen : F → Files) (may_leave : F → Files → Type 0) (served old next : LogOf) (l m : LogIn F)
+    (entry : List ℕ) (short : length entry < 65536) (has : Has seen may_leave served old next l) (room : l.held < 256)
+    (folder : m.folder ≡ l.folder) (is_open : m.is_open ≡ l.is_open) (text : m.text ≡ l.text)
+    (len : m.edge.len ≡ l.edge.len + 1) (taken : m.edge.taken ≡ l.edge.taken)
+    (stands : (ds : List (List ℕ)) → StandsFor sha256 l.edge ds
+    → StandsFor sha256 m.edge (ds ++ sha256 (0 ∷ entry) ∷ []))
+    (bundle : m.bundle ≡ l.bundle ++ bundle_of (entry ∷ [])) (held : m.held ≡ l.held + 1) where
   abbrev longer : LogOf
   longer = with_entry next entry
 
@@ -366,18 +484,43 @@ module _ {F : Type 0} (seen : F → Files) (may_leave : F → Files → Type 0) 
   unfolding bundle_of
   tail =
       ap (λ n. bundle_of (drop (256 * (n / 256)) longer.entries)) taken
-      ∙ ap bundle_of (drop-append-le (256 * (l.edge.taken / 256)) next.entries (entry ∷ []) (omega (arith, size, has.held)))
+      ∙ ap bundle_of (drop-append-le (256 * (l.edge.taken / 256)) next.entries (entry ∷ [])
+      (omega (arith, size, has.held)))
       ∙ bundle_more (drop (256 * (l.edge.taken / 256)) next.entries) entry
       ∙ ap (λ (b : List ℕ). b ++ (two_bytes (length entry) ++ entry)) (sym has.bundle)
       ∙ ap (λ (e : List ℕ). l.bundle ++ (two_bytes (length entry) ++ e)) (sym (append-nil entry))
 
   more_staged : AreFullStaged l.text.length l.edge.taken longer (seen l.folder)
   more_staged = record {
-    tile = λ t lt is. has.staged.tile t lt is ∙ ap (λ (b : List ℕ). Some b) (sym (tile_kept next longer grown t (record { level = lt; exists = in_next t is.full is.exists })));
-    bundle = λ t level is. has.staged.bundle t level is ∙ ap (λ (b : List ℕ). Some b) (sym (bundle_kept next longer grown t (record { level = level; exists = in_next t is.full is.exists })));
+    tile = λ t lt is. has.staged.tile t lt is
+        ∙ ap (λ (b : List ℕ). Some b) (sym
+        (tile_kept next longer grown t (record { level = lt; exists = in_next t is.full is.exists })));
+    bundle = λ t level is. has.staged.bundle t level is
+        ∙ ap (λ (b : List ℕ). Some b) (sym
+        (bundle_kept next longer grown t (record { level = level; exists = in_next t is.full is.exists })));
     nothing_else = λ n is_there some. ⊎_elim
-        (λ (t, lt, is, path). inl (t, lt, record { full = is.full; exists = full_stays (length next.entries) (length longer.entries) t (omega (arith, size_longer)) is.full is.exists; new = is.new }, path))
-        (λ (t, level, is, path). inr (t, level, record { full = is.full; exists = full_stays (length next.entries) (length longer.entries) t (omega (arith, size_longer)) is.full is.exists; new = is.new }, path))
+        (λ (t, lt, is, path). inl (
+          t,
+          lt,
+          record {
+            full = is.full;
+            exists = full_stays (length next.entries) (length longer.entries) t
+                (omega (arith, size_longer)) is.full is.exists;
+            new = is.new;
+          },
+          path,
+        ))
+        (λ (t, level, is, path). inr (
+          t,
+          level,
+          record {
+            full = is.full;
+            exists = full_stays (length next.entries) (length longer.entries) t
+                (omega (arith, size_longer)) is.full is.exists;
+            new = is.new;
+          },
+          path,
+        ))
         (has.staged.nothing_else n is_there some);
   }
 
@@ -388,13 +531,16 @@ module _ {F : Type 0} (seen : F → Files) (may_leave : F → Files → Type 0) 
     extends = extends_then old next longer has.extends grown;
     short = all_append (λ (e : List ℕ). length e < 65536) next.entries (entry ∷ []) has.short (short, tt);
     text = text ∙ has.text;
-    edge = subst (StandsFor sha256 m.edge) (sym (map-append (λ (e : List ℕ). sha256 (0 ∷ e)) next.entries (entry ∷ []))) (stands (leaves_of sha256 next.entries) has.edge);
+    edge = subst (StandsFor sha256 m.edge) (sym (map-append (λ (e : List ℕ). sha256 (0 ∷ e)) next.entries (entry ∷ [])))
+        (stands (leaves_of sha256 next.entries) has.edge);
     since = omega (arith, kept_added, taken, has.since);
     order = omega (arith, taken, len, has.order);
     held = omega (arith, taken, len, held, has.held);
     most = omega (arith, held, room);
     bundle = bundle ∙ sym tail;
-    staged = subst (λ (f : F). AreFullStaged m.text.length m.edge.taken longer (seen f)) (sym folder) (subst (λ k. AreFullStaged k m.edge.taken longer (seen l.folder)) (sym kept_added) (subst (λ n. AreFullStaged l.text.length n longer (seen l.folder)) (sym taken) more_staged));
+    staged = subst (λ (f : F). AreFullStaged m.text.length m.edge.taken longer (seen f)) (sym folder)
+        (subst (λ k. AreFullStaged k m.edge.taken longer (seen l.folder)) (sym kept_added)
+        (subst (λ n. AreFullStaged l.text.length n longer (seen l.folder)) (sym taken) more_staged));
     pages = subst (λ (f : F). ArePagesStaged served.pages old.pages next.pages (seen f)) (sym folder) has.pages;
     staging = subst (λ (f : F). IsStaging (seen f) (may_leave f)) (sym folder) has.staging;
   }
@@ -404,8 +550,10 @@ same_block : (m n : ℕ) (t : TileAt) → m ≤ n → m / 256 ≡ n / 256 → t.
 same_block m n t order block full is =
     let p = 2 ^ (8 * t.level) in
     let end : tile_end t ≤ n = end_inside n t is in
-    let ends : tile_end t ≡ 256 * ((t.number + 1) * p) = ap (λ w. (256 * t.number + w) * p) full ∙ ap (λ k. k * p) (omega arith) ∙ mul_assoc 256 (t.number + 1) p in
-    let within : (t.number + 1) * p ≤ n / 256 = le-div ((t.number + 1) * p) n 256 (omega arith) (omega (arith, end, ends)) in
+    let ends : tile_end t ≡ 256 * ((t.number + 1) * p) = ap (λ w. (256 * t.number + w) * p) full
+    ∙ ap (λ k. k * p) (omega arith) ∙ mul_assoc 256 (t.number + 1) p in
+    let within : (t.number + 1) * p ≤ n / 256 = le-div ((t.number + 1) * p) n 256 (omega arith)
+    (omega (arith, end, ends)) in
     by_end m n t order is (omega (arith, ends, within, block))
 
 -- the tile over the last bundle, where that isn't full
@@ -413,12 +561,17 @@ abbrev pub last_bundle : ℕ → ℕ → TileAt
 last_bundle number held = record { level = 0; number = number; width = held }
 
 -- With the tiles and the bundle of the log's end staged, all that is new is.
-module _ (served old next : LogOf) (taken held : ℕ) (tiles : Tiles) (bytes : List ℕ) (s final : Files) (before : length old.entries ≤ taken) (order : taken ≤ length next.entries) (grown : length old.entries < length next.entries)
-    (most : length next.entries ≤ 2 ^ 63) (block : taken / 256 ≡ length next.entries / 256) (ends : 256 * (length next.entries / 256) + held ≡ length next.entries)
-    (own : AreTilesOf sha256 (leaves_of sha256 next.entries) (partial_tiles (length next.entries)) tiles) (holds : bytes ≡ bundle_of (drop (256 * (length next.entries / 256)) next.entries))
+module _ (served old next : LogOf) (taken held : ℕ) (tiles : Tiles) (bytes : List ℕ) (s final : Files)
+    (before : length old.entries ≤ taken) (order : taken ≤ length next.entries)
+    (grown : length old.entries < length next.entries)
+    (most : length next.entries ≤ 2 ^ 63) (block : taken / 256 ≡ length next.entries / 256)
+    (ends : 256 * (length next.entries / 256) + held ≡ length next.entries)
+    (own : AreTilesOf sha256 (leaves_of sha256 next.entries) (partial_tiles (length next.entries)) tiles)
+    (holds : bytes ≡ bundle_of (drop (256 * (length next.entries / 256)) next.entries))
     (was : AreFullStaged (length old.entries) taken next s) (pages : ArePagesStaged served.pages old.pages next.pages s)
     (puts : ((held ≡ 0) × (final ≡ staged_all (new_files (length old.entries) tiles) s))
-    ⊎ ((0 < held) × (final ≡ put (staged (entries_path (last_bundle (length next.entries / 256) held)), bytes) (staged_all (new_files (length old.entries) tiles) s)))) where
+    ⊎ ((0 < held) × (final ≡ put (staged (entries_path (last_bundle (length next.entries / 256) held)), bytes)
+    (staged_all (new_files (length old.entries) tiles) s)))) where
   abbrev IsPart : TileAt → Type 0
   IsPart t = IsTileOf (length next.entries) t × (t.width < 256)
 
@@ -426,12 +579,15 @@ module _ (served old next : LogOf) (taken held : ℕ) (tiles : Tiles) (bytes : L
   older = length old.entries
 
   parts : (t : TileAt) → Contains (map (λ (x : TileAt × List (List ℕ)). x.0) tiles) t → IsPart t
-  parts t has = ((partial_of (length next.entries) most).exactly t).0 (subst (λ (l : List TileAt). Contains l t) own.places has)
+  parts t has = ((partial_of (length next.entries) most).exactly t).0
+      (subst (λ (l : List TileAt). Contains l t) own.places has)
 
   is_part : (t : TileAt) → IsPart t → Contains (map (λ (x : TileAt × List (List ℕ)). x.0) tiles) t
-  is_part t is = subst (λ (l : List TileAt). Contains l t) (sym own.places) (((partial_of (length next.entries) most).exactly t).1 is)
+  is_part t is = subst (λ (l : List TileAt). Contains l t) (sym own.places)
+      (((partial_of (length next.entries) most).exactly t).1 is)
 
-  part_files : AllByRecursion (λ (x : TileAt × List (List ℕ)). IsPart x.0 × (flat_map (λ digest. digest) x.1 ≡ tile_bytes next x.0)) tiles
+  part_files : AllByRecursion (λ (x : TileAt × List (List ℕ)). IsPart x.0
+      × (flat_map (λ digest. digest) x.1 ≡ tile_bytes next x.0)) tiles
   part_files = own_files next IsPart tiles parts own.digests
 
   part_low : (t : TileAt) → IsPart t → t.level < 8
@@ -443,20 +599,36 @@ module _ (served old next : LogOf) (taken held : ℕ) (tiles : Tiles) (bytes : L
   abbrev so_far : Files
   so_far = staged_all (new_files older tiles) s
 
-  full_new : (t : TileAt) → t.width ≡ 256 → IsTileOf (length next.entries) t → (IsTileOf older t → ⊥) → IsNewFull older taken t
-  full_new t full is new = record { full = full; exists = same_block taken (length next.entries) t order block full is; new = new }
+  full_new : (t : TileAt) → t.width ≡ 256 → IsTileOf (length next.entries) t → (IsTileOf older t → ⊥)
+      → IsNewFull older taken t
+  full_new t full is new = record {
+    full = full;
+    exists = same_block taken (length next.entries) t order block full is;
+    new = new;
+  }
 
   part_width : (t : TileAt) → IsTileOf (length next.entries) t → t.width ≢ 256 → t.width < 256
-  part_width t is other = elim (cases_lt t.width 256) [ inl lt ↦ lt | inr le ↦ absurd (other (omega (arith, le, is.width))) ]
+  part_width t is other = elim (cases_lt t.width 256) [
+    | inl lt ↦ lt
+    | inr le ↦ absurd
+        (other (omega (arith, le, is.width)))
+  ]
 
-  tile_at : (t : TileAt) → t.level < 8 → IsTileOf (length next.entries) t → (IsTileOf older t → ⊥) → so_far (staged (tile_path t)) ≡ Some (tile_bytes next t)
-  tile_at t lt is new = tile_there next IsPart part_low part_wide older tiles part_files s t lt (omega (arith, is.width)) (elim (cases_eq t.width 256) [
-    | inl full ↦ inr (was.tile t lt (full_new t full is new))
-    | inr other ↦ inl (is_part t (is, part_width t is other), new_ends older (length next.entries) t (omega (arith, grown)) is new)
-  ])
+  tile_at : (t : TileAt) → t.level < 8 → IsTileOf (length next.entries) t → (IsTileOf older t → ⊥)
+      → so_far (staged (tile_path t)) ≡ Some (tile_bytes next t)
+  tile_at t lt is new = tile_there next IsPart part_low part_wide older tiles part_files s t lt
+      (omega (arith, is.width)) (elim (cases_eq t.width 256) [
+        | inl full ↦ inr (was.tile t lt (full_new t full is new))
+        | inr other ↦ inl (
+          is_part t (is, part_width t is other),
+          new_ends older (length next.entries) t
+              (omega (arith, grown)) is new,
+        )
+      ])
 
   -- a bundle that isn't full is the last one
-  the_last_part : (t : TileAt) → t.level ≡ 0 → IsTileOf (length next.entries) t → t.width < 256 → (t ≡ last_bundle (length next.entries / 256) held) × (0 < held)
+  the_last_part : (t : TileAt) → t.level ≡ 0 → IsTileOf (length next.entries) t → t.width < 256
+      → (t ≡ last_bundle (length next.entries / 256) held) × (0 < held)
   the_last_part t level is small =
       let g = ground (length next.entries) t level is in
       let number : t.number ≡ length next.entries / 256 = omega (arith, g.0, g.1, small) in
@@ -464,28 +636,48 @@ module _ (served old next : LogOf) (taken held : ℕ) (tiles : Tiles) (bytes : L
       (same_tile t (last_bundle (length next.entries / 256) held) level number width, omega (arith, g.0, width))
 
   last_part : 0 < held → IsTileOf (length next.entries) (last_bundle (length next.entries / 256) held)
-  last_part some = from_ground (length next.entries) (last_bundle (length next.entries / 256) held) refl some (omega (arith, ends))
+  last_part some = from_ground (length next.entries) (last_bundle (length next.entries / 256) held) refl some
+      (omega (arith, ends))
 
   last_new : 0 < held → IsTileOf older (last_bundle (length next.entries / 256) held) → ⊥
-  last_new some is = let g = ground older (last_bundle (length next.entries / 256) held) refl is in omega (arith, g.0, g.1, ends, grown)
+  last_new some is = let g = ground older (last_bundle (length next.entries / 256) held) refl is in
+      omega (arith, g.0, g.1, ends, grown)
 
   last_bytes : bytes ≡ bundle_bytes next (last_bundle (length next.entries / 256) held)
   unfolding bundle_of
-  last_bytes = holds ∙ sym (ap bundle_of (take_all held (drop (256 * (length next.entries / 256)) next.entries) (omega (arith, length-drop (256 * (length next.entries / 256)) next.entries, ends))))
+  last_bytes = holds ∙ sym (ap bundle_of (take_all held (drop (256 * (length next.entries / 256)) next.entries)
+      (omega (arith, length-drop (256 * (length next.entries / 256)) next.entries, ends))))
 
   small : held < 256
   small = omega (arith, ends)
 
-  bundle_before : (t : TileAt) → t.level ≡ 0 → t.width ≡ 256 → IsTileOf (length next.entries) t → (IsTileOf older t → ⊥) → so_far (staged (entries_path t)) ≡ Some (bundle_bytes next t)
-  bundle_before t level full is new = bundle_there next IsPart part_low part_wide older tiles part_files s t (omega (arith, level)) ∙ was.bundle t level (full_new t full is new)
+  bundle_before : (t : TileAt) → t.level ≡ 0 → t.width ≡ 256 → IsTileOf (length next.entries) t → (IsTileOf older t → ⊥)
+      → so_far (staged (entries_path t)) ≡ Some (bundle_bytes next t)
+  bundle_before t level full is new = bundle_there next IsPart part_low part_wide older tiles part_files s t
+      (omega (arith, level)) ∙ was.bundle t level (full_new t full is new)
 
   nothing_before : (n : List ℕ) → is_tile n ≡ true → IsSome (so_far (staged n)) → IsNewTile old next n
   nothing_before n is_there some = ⊎_elim
       (λ before. ⊎_elim
-      (λ (t, lt, is, path). inl (t, record { level = lt; exists = is.exists }, (λ (was_in : IsTileIn old t). is.new was_in.exists), path))
-      (λ (t, level, is, path). inr (t, record { level = level; exists = is.exists }, (λ (was_in : IsBundleIn old t). is.new was_in.exists), path))
+      (λ (t, lt, is, path). inl (
+        t,
+        record { level = lt; exists = is.exists },
+        (λ (was_in : IsTileIn old t). is.new was_in.exists),
+        path,
+      ))
+      (λ (t, level, is, path). inr (
+        t,
+        record { level = level; exists = is.exists },
+        (λ (was_in : IsBundleIn old t). is.new was_in.exists),
+        path,
+      ))
       (was.nothing_else n is_there before))
-      (λ by. inl (by.0, record { level = part_low by.0 by.1; exists = by.1.0 }, (λ (was_in : IsTileIn old by.0). by.2 (end_inside older by.0 was_in.exists)), by.3))
+      (λ by. inl (
+        by.0,
+        record { level = part_low by.0 by.1; exists = by.1.0 },
+        (λ (was_in : IsTileIn old by.0). by.2 (end_inside older by.0 was_in.exists)),
+        by.3,
+      ))
       (staged_by next IsPart part_low part_wide older tiles part_files s n some)
 
   pages_before : ArePagesStaged served.pages old.pages next.pages so_far
@@ -497,8 +689,10 @@ module _ (served old next : LogOf) (taken held : ℕ) (tiles : Tiles) (bytes : L
   none_left none = record {
     tile = λ t is new. tile_at t is.level is.exists (λ was_in. new (record { level = is.level; exists = was_in }));
     bundle = λ t is new. elim (cases_eq t.width 256) [
-      | inl full ↦ bundle_before t is.level full is.exists (λ was_in. new (record { level = is.level; exists = was_in }))
-      | inr other ↦ let last = the_last_part t is.level is.exists (part_width t is.exists other) in absurd (omega (arith, last.1, none))
+      | inl full ↦ bundle_before t is.level full is.exists
+          (λ was_in. new (record { level = is.level; exists = was_in }))
+      | inr other ↦ let last = the_last_part t is.level is.exists (part_width t is.exists other) in
+          absurd (omega (arith, last.1, none))
     ];
     nothing_else = nothing_before;
     pages = pages_before;
@@ -508,22 +702,33 @@ module _ (served old next : LogOf) (taken held : ℕ) (tiles : Tiles) (bytes : L
   last = last_bundle (length next.entries / 256) held
 
   -- and where one is
-  one_left : 0 < held → AreStagedFor served old next (put (staged (entries_path (last_bundle (length next.entries / 256) held)), bytes) so_far)
+  one_left : 0 < held → AreStagedFor served old next
+      (put (staged (entries_path (last_bundle (length next.entries / 256) held)), bytes) so_far)
   one_left some = record {
-    tile = λ t is new. put_apart (staged (entries_path last), bytes) so_far (staged (tile_path t)) (λ e. no_tile_a_bundle t last is.level (sym (staged_once (entries_path last) (tile_path t) e)))
+    tile = λ t is new. put_apart (staged (entries_path last), bytes) so_far (staged (tile_path t))
+        (λ e. no_tile_a_bundle t last is.level (sym (staged_once (entries_path last) (tile_path t) e)))
         ∙ tile_at t is.level is.exists (λ was_in. new (record { level = is.level; exists = was_in }));
     bundle = λ t is new. elim (cases_eq t.width 256) [
       | inl full ↦ put_apart (staged (entries_path last), bytes) so_far (staged (entries_path t))
-          (λ e. let same = entries_path_once last t refl is.level (omega (arith, small)) (omega (arith, full)) (staged_once (entries_path last) (entries_path t) e) in let w : held ≡ t.width = ap (λ (u : TileAt). u.width) same in omega (arith, w, full, small))
+          (λ e. let same = entries_path_once last t refl is.level (omega (arith, small)) (omega (arith, full))
+          (staged_once (entries_path last) (entries_path t) e) in
+          let w : held ≡ t.width = ap (λ (u : TileAt). u.width) same in omega (arith, w, full, small))
           ∙ bundle_before t is.level full is.exists (λ was_in. new (record { level = is.level; exists = was_in }))
       | inr other ↦
           let same = the_last_part t is.level is.exists (part_width t is.exists other) in
-          subst (λ (u : TileAt). put (staged (entries_path last), bytes) so_far (staged (entries_path u)) ≡ Some (bundle_bytes next u)) (sym same.0)
+          subst (λ (u : TileAt). put (staged (entries_path last), bytes) so_far (staged (entries_path u))
+          ≡ Some (bundle_bytes next u)) (sym same.0)
           (put_here (staged (entries_path last), bytes) so_far ∙ ap (λ (b : List ℕ). Some b) last_bytes)
     ];
     nothing_else = λ n is_there found. elim (one_name (staged (entries_path last)) (staged n)) [
-      | inl here ↦ inr (last, record { level = refl; exists = last_part some }, (λ (was_in : IsBundleIn old last). last_new some was_in.exists), staged_once (entries_path last) n here.1)
-      | inr other ↦ nothing_before n is_there (subst IsSome (put_apart (staged (entries_path last), bytes) so_far (staged n) other.1) found)
+      | inl here ↦ inr (
+        last,
+        record { level = refl; exists = last_part some },
+        (λ (was_in : IsBundleIn old last). last_new some was_in.exists),
+        staged_once (entries_path last) n here.1,
+      )
+      | inr other ↦ nothing_before n is_there
+          (subst IsSome (put_apart (staged (entries_path last), bytes) so_far (staged n) other.1) found)
     ];
     pages = pages_stay served.pages old.pages next.pages so_far (put (staged (entries_path last), bytes) so_far)
         (λ path. put_apart (staged (entries_path last), bytes) so_far (staged (page_name path))
@@ -535,11 +740,15 @@ module _ (served old next : LogOf) (taken held : ℕ) (tiles : Tiles) (bytes : L
       (λ (some, is). subst (AreStagedFor served old next) (sym is) (one_left some)) puts
 
 -- The log's end staged beside what its entries filled.
-module _ {F : Type 0} (seen : F → Files) (may_leave : F → Files → Type 0) (served old next : LogOf) (l m : LogIn F) (tiles : Tiles) (has : Has seen may_leave served old next l) (room : l.held < 256) (new : l.text.length < l.edge.len)
-    (most : l.edge.len ≤ 2 ^ 63) (own : AreTilesOf sha256 (leaves_of sha256 next.entries) (partial_tiles (length next.entries)) tiles)
+module _ {F : Type 0} (seen : F → Files) (may_leave : F → Files → Type 0) (served old next : LogOf) (l m : LogIn F)
+    (tiles : Tiles) (has : Has seen may_leave served old next l) (room : l.held < 256)
+    (new : l.text.length < l.edge.len)
+    (most : l.edge.len ≤ 2 ^ 63) (own : AreTilesOf sha256 (leaves_of sha256 next.entries)
+    (partial_tiles (length next.entries)) tiles)
     (is_open : m.is_open ≡ l.is_open) (edge : m.edge ≡ l.edge) (bundle : m.bundle ≡ l.bundle) (held : m.held ≡ l.held)
     (puts : ((l.held ≡ 0) × (seen m.folder ≡ staged_all (new_files l.text.length tiles) (seen l.folder)))
-    ⊎ ((0 < l.held) × (seen m.folder ≡ put (staged (entries_path (last_bundle (l.edge.len / 256) l.held)), l.bundle) (staged_all (new_files l.text.length tiles) (seen l.folder)))))
+    ⊎ ((0 < l.held) × (seen m.folder ≡ put (staged (entries_path (last_bundle (l.edge.len / 256) l.held)), l.bundle)
+    (staged_all (new_files l.text.length tiles) (seen l.folder)))))
     (staging : IsStaging (seen m.folder) (may_leave m.folder)) where
   size_now : length next.entries ≡ l.edge.len
   size_now = sym (length-map next.entries (λ (e : List ℕ). sha256 (0 ∷ e))) ∙ has.edge.count
@@ -551,11 +760,18 @@ module _ {F : Type 0} (seen : F → Files) (may_leave : F → Files → Type 0) 
   blocks = omega (arith, has.held, room, size_now)
 
   puts_now : ((l.held ≡ 0) × (seen m.folder ≡ staged_all (new_files (length old.entries) tiles) (seen l.folder)))
-      ⊎ ((0 < l.held) × (seen m.folder ≡ put (staged (entries_path (last_bundle (length next.entries / 256) l.held)), l.bundle) (staged_all (new_files (length old.entries) tiles) (seen l.folder))))
+      ⊎ ((0 < l.held) × (seen m.folder ≡ put (
+        staged (entries_path (last_bundle (length next.entries / 256) l.held)),
+        l.bundle,
+      ) (staged_all (new_files (length old.entries) tiles) (seen l.folder))))
   puts_now = subst (λ n. ((l.held ≡ 0) × (seen m.folder ≡ staged_all (new_files n tiles) (seen l.folder)))
-      ⊎ ((0 < l.held) × (seen m.folder ≡ put (staged (entries_path (last_bundle (length next.entries / 256) l.held)), l.bundle) (staged_all (new_files n tiles) (seen l.folder))))) kept_old
+      ⊎ ((0 < l.held) × (seen m.folder ≡ put (
+        staged (entries_path (last_bundle (length next.entries / 256) l.held)),
+        l.bundle,
+      ) (staged_all (new_files n tiles) (seen l.folder))))) kept_old
       (subst (λ n. ((l.held ≡ 0) × (seen m.folder ≡ staged_all (new_files l.text.length tiles) (seen l.folder)))
-      ⊎ ((0 < l.held) × (seen m.folder ≡ put (staged (entries_path (last_bundle (n / 256) l.held)), l.bundle) (staged_all (new_files l.text.length tiles) (seen l.folder))))) (sym size_now) puts)
+      ⊎ ((0 < l.held) × (seen m.folder ≡ put (staged (entries_path (last_bundle (n / 256) l.held)), l.bundle)
+      (staged_all (new_files l.text.length tiles) (seen l.folder))))) (sym size_now) puts)
 
   bundle_now : l.bundle ≡ bundle_of (drop (256 * (length next.entries / 256)) next.entries)
   bundle_now = has.bundle ∙ ap (λ n. bundle_of (drop (256 * n) next.entries)) blocks
@@ -564,7 +780,8 @@ module _ {F : Type 0} (seen : F → Files) (may_leave : F → Files → Type 0) 
   beside_now n isnt = ⊎_elim
       (λ (none, is). ap (λ (f : Files). f n) is ∙ staged_outside (new_files l.text.length tiles) (seen l.folder) n isnt)
       (λ (some, is). ap (λ (f : Files). f n) is
-      ∙ put_apart (staged (entries_path (last_bundle (l.edge.len / 256) l.held)), l.bundle) (staged_all (new_files l.text.length tiles) (seen l.folder)) n (λ e. apart (ap is_staged e ∙ isnt))
+      ∙ put_apart (staged (entries_path (last_bundle (l.edge.len / 256) l.held)), l.bundle)
+      (staged_all (new_files l.text.length tiles) (seen l.folder)) n (λ e. apart (ap is_staged e ∙ isnt))
       ∙ staged_outside (new_files l.text.length tiles) (seen l.folder) n isnt)
       puts
 
@@ -576,9 +793,13 @@ module _ {F : Type 0} (seen : F → Files) (may_leave : F → Files → Type 0) 
     short = has.short;
     edge = subst (λ (e : RightEdge). StandsFor sha256 e (leaves_of sha256 next.entries)) (sym edge) has.edge;
     held = omega (arith, ap (λ (e : RightEdge). e.len) edge, held, has.held, room);
-    bundle = bundle ∙ bundle_now ∙ ap (λ n. bundle_of (drop (256 * (n / 256)) next.entries)) (size_now ∙ sym (ap (λ (e : RightEdge). e.len) edge));
-    staged = end_staged served old next l.edge.taken l.held tiles l.bundle (seen l.folder) (seen m.folder) (omega (arith, has.since, kept_old)) (omega (arith, has.order, size_now)) (omega (arith, new, kept_old, size_now))
-        (omega (arith, most, size_now)) blocks (omega (arith, has.held, room, size_now)) own bundle_now (subst (λ n. AreFullStaged n l.edge.taken next (seen l.folder)) kept_old has.staged) has.pages puts_now;
+    bundle = bundle ∙ bundle_now ∙ ap (λ n. bundle_of (drop (256 * (n / 256)) next.entries))
+        (size_now ∙ sym (ap (λ (e : RightEdge). e.len) edge));
+    staged = end_staged served old next l.edge.taken l.held tiles l.bundle (seen l.folder) (seen m.folder)
+        (omega (arith, has.since, kept_old)) (omega (arith, has.order, size_now))
+        (omega (arith, new, kept_old, size_now))
+        (omega (arith, most, size_now)) blocks (omega (arith, has.held, room, size_now)) own bundle_now
+        (subst (λ n. AreFullStaged n l.edge.taken next (seen l.folder)) kept_old has.staged) has.pages puts_now;
     staging = staging;
   }
 
@@ -587,11 +808,16 @@ none_some None e some = apart (sym some)
 none_some (Some bytes) e some = cc
 
 -- A log whose files a commit has put keeps all of its entries.
-pub all_kept : {F : Type 0} (seen : F → Files) (may_leave : F → Files → Type 0) (served old next log : LogOf) (l m : LogIn F) → HasAll seen may_leave served old next l → Keeps log next (seen m.folder) → NothingStaged (seen m.folder)
-    → IsStaging (seen m.folder) (may_leave m.folder) → m.is_open ≡ l.is_open → m.text ≡ said_of next → m.edge ≡ record l.edge { taken = l.edge.len; full = [] } → m.bundle ≡ l.bundle → m.held ≡ l.held
-    → ((ds : List (List ℕ)) → StandsFor sha256 l.edge ds → StandsFor sha256 m.edge ds) → l.held ≤ 256 → Has seen may_leave log next next m
+pub all_kept : {F : Type 0} (seen : F → Files) (may_leave : F → Files → Type 0) (served old next log : LogOf)
+    (l m : LogIn F) → HasAll seen may_leave served old next l → Keeps log next (seen m.folder)
+    → NothingStaged (seen m.folder)
+    → IsStaging (seen m.folder) (may_leave m.folder) → m.is_open ≡ l.is_open → m.text ≡ said_of next
+    → m.edge ≡ record l.edge { taken = l.edge.len; full = [] } → m.bundle ≡ l.bundle → m.held ≡ l.held
+    → ((ds : List (List ℕ)) → StandsFor sha256 l.edge ds → StandsFor sha256 m.edge ds) → l.held ≤ 256
+    → Has seen may_leave log next next m
 all_kept seen may_leave served old next log l m all keeps nothing staging is_open text edge bundle held stands small =
-    let size : length next.entries ≡ l.edge.len = sym (length-map next.entries (λ (e : List ℕ). sha256 (0 ∷ e))) ∙ all.edge.count in
+    let size : length next.entries ≡ l.edge.len = sym (length-map next.entries (λ (e : List ℕ). sha256 (0 ∷ e)))
+    ∙ all.edge.count in
     let kept : m.text.length ≡ length next.entries = ap (λ (s : Said). s.length) text in
     let taken : m.edge.taken ≡ l.edge.len = ap (λ (e : RightEdge). e.taken) edge in
     let len : m.edge.len ≡ l.edge.len = ap (λ (e : RightEdge). e.len) edge in
@@ -616,7 +842,8 @@ all_kept seen may_leave served old next log l m all keeps nothing staging is_ope
       staging = staging;
     }
   where
-    none : (t : TileAt) → IsTileOf m.edge.taken t → (IsTileOf m.text.length t → ⊥) → m.edge.taken ≡ l.edge.len → length next.entries ≡ l.edge.len → m.text.length ≡ length next.entries → ⊥
+    none : (t : TileAt) → IsTileOf m.edge.taken t → (IsTileOf m.text.length t → ⊥) → m.edge.taken ≡ l.edge.len
+        → length next.entries ≡ l.edge.len → m.text.length ≡ length next.entries → ⊥
     none t is new taken size kept = new (subst (λ n. IsTileOf n t) (taken ∙ sym size ∙ sym kept) is)
 
     none_staged : (n : List ℕ) → seen m.folder (staged n) ≡ None → IsSome (seen m.folder (staged n)) → ⊥
@@ -625,8 +852,15 @@ all_kept seen may_leave served old next log l m all keeps nothing staging is_ope
 -- a log that has no entry more is the same
 pub same_length : (old next : LogOf) → Extends old next → length old.entries ≡ length next.entries → old ≡ next
 same_length old next by same =
-    let more = nil_from_length by.entries.0 (omega (arith, same, ap (λ (es : List (List ℕ)). length es) by.entries.1, length-append old.entries by.entries.0)) in
-    let whole : next.entries ≡ old.entries = by.entries.1 ∙ ap (λ (es : List (List ℕ)). old.entries ++ es) more ∙ append-nil old.entries in
+    let more = nil_from_length by.entries.0
+    (omega (
+      arith,
+      same,
+      ap (λ (es : List (List ℕ)). length es) by.entries.1,
+      length-append old.entries by.entries.0,
+    )) in
+    let whole : next.entries ≡ old.entries = by.entries.1 ∙ ap (λ (es : List (List ℕ)). old.entries ++ es) more
+    ∙ append-nil old.entries in
     let still = by.still (sym same) in
     ap (λ o. make o old.entries old.lines old.pages) (sym by.origin)
     ∙ ap (λ es. make next.origin es old.lines old.pages) (sym whole)
@@ -637,26 +871,38 @@ same_length old next by same =
     make origin entries lines pages = record { origin = origin; entries = entries; lines = lines; pages = pages }
 
 -- Where no call is made, a crash leaves the log.
-module _ {F : Type 0} (seen : F → Files) (may_leave : F → Files → Type 0) (moment : F → ℕ) (left_since : F → ℕ → Files → Type 0) (served old next : LogOf) (l : LogIn F) where
-  pub idle : ((c : Files) → left_since l.folder (moment l.folder) c → may_leave l.folder c) → Has seen may_leave served old next l → LeavesOnly moment left_since l.folder l.folder (IsCommitting served old next (seen l.folder))
-  idle now has = stays moment left_since l.folder (IsCommitting served old next (seen l.folder)) (λ c left. beside_committing served old next (seen l.folder) c has.keeps (has.staging c (now c left)))
+module _ {F : Type 0} (seen : F → Files) (may_leave : F → Files → Type 0) (moment : F → ℕ) (left_since : F → ℕ → Files
+    → Type 0) (served old next : LogOf) (l : LogIn F) where
+  pub idle : ((c : Files) → left_since l.folder (moment l.folder) c → may_leave l.folder c)
+      → Has seen may_leave served old next l → LeavesOnly moment left_since l.folder l.folder
+      (IsCommitting served old next (seen l.folder))
+  idle now has = stays moment left_since l.folder (IsCommitting served old next (seen l.folder))
+      (λ c left. beside_committing served old next (seen l.folder) c has.keeps (has.staging c (now c left)))
 
   -- a log whose folder keeps as many entries keeps them all
-  pub all_there : l.edge.len ≡ l.text.length → Has seen may_leave served old next l → (log : LogOf) × Has seen may_leave log next next l
+  pub all_there : l.edge.len ≡ l.text.length → Has seen may_leave served old next l → (log : LogOf)
+      × Has seen may_leave log next next l
   all_there same has = (
     served,
     subst (λ log. Has seen may_leave served log next l) (same_length old next has.extends
-        (sym (ap (λ (s : Said). s.length) has.text) ∙ sym same ∙ sym has.edge.count ∙ length-map next.entries (λ (e : List ℕ). sha256 (0 ∷ e)))) has,
+        (sym (ap (λ (s : Said). s.length) has.text) ∙ sym same ∙ sym has.edge.count
+        ∙ length-map next.entries (λ (e : List ℕ). sha256 (0 ∷ e)))) has,
   )
 
 -- the checkpoint's text is noted, which says what the log has
-pub noted : {F : Type 0} (seen : F → Files) (may_leave : F → Files → Type 0) (log next : LogOf) (l : LogIn F) (text : Said) → text ≡ said_of next
-    → Has seen may_leave log next next (record l { text = said_of next }) → Has seen may_leave log next next (record l { text = text })
-noted seen may_leave log next l text same has = subst (λ (s : Said). Has seen may_leave log next next (record l { text = s })) (sym same) has
+pub noted : {F : Type 0} (seen : F → Files) (may_leave : F → Files → Type 0) (log next : LogOf) (l : LogIn F)
+    (text : Said) → text ≡ said_of next
+    → Has seen may_leave log next next (record l { text = said_of next })
+    → Has seen may_leave log next next (record l { text = text })
+noted seen may_leave log next l text same has =
+    subst (λ (s : Said). Has seen may_leave log next next (record l { text = s })) (sym same) has
 
 -- the partial tiles of a right edge are those of the log that it stands for
-pub own_parts : (next : LogOf) (edge : RightEdge) (tiles : Tiles) → StandsFor sha256 edge (leaves_of sha256 next.entries)
-    → ((ds : List (List ℕ)) → StandsFor sha256 edge ds → AreTilesOf sha256 ds (partial_tiles edge.len) tiles) → AreTilesOf sha256 (leaves_of sha256 next.entries) (partial_tiles (length next.entries)) tiles
+pub own_parts : (next : LogOf) (edge : RightEdge) (tiles : Tiles)
+    → StandsFor sha256 edge (leaves_of sha256 next.entries)
+    → ((ds : List (List ℕ)) → StandsFor sha256 edge ds → AreTilesOf sha256 ds (partial_tiles edge.len) tiles)
+    → AreTilesOf sha256 (leaves_of sha256 next.entries) (partial_tiles (length next.entries)) tiles
 own_parts next edge tiles stands own =
     subst (λ n. AreTilesOf sha256 (leaves_of sha256 next.entries) (partial_tiles n) tiles)
-    (sym stands.count ∙ length-map next.entries (λ (e : List ℕ). sha256 (0 ∷ e))) (own (leaves_of sha256 next.entries) stands)
+    (sym stands.count ∙ length-map next.entries (λ (e : List ℕ). sha256 (0 ∷ e)))
+    (own (leaves_of sha256 next.entries) stands)

@@ -25,12 +25,16 @@ use Rattle.warg_store.proofs.PathLemmas.{tile_path_once, entries_path_once, no_t
 use Rattle.warg_store.proofs.ServeLemmas.{idle_same, committed_served, opened_idle}
 
 -- a part of a list is that of a longer one
-part_kept : {X : Type 0} (xs more : List X) (a k : ℕ) → a + k ≤ length xs → take k (drop a (xs ++ more)) ≡ take k (drop a xs)
-part_kept xs more a k inside = ap (take k) (drop-append-le a xs more (omega arith)) ∙ take-append-le k (drop a xs) more (omega (arith, length-drop a xs))
+part_kept : {X : Type 0} (xs more : List X) (a k : ℕ) → a + k ≤ length xs → take k (drop a (xs ++ more))
+    ≡ take k (drop a xs)
+part_kept xs more a k inside = ap (take k) (drop-append-le a xs more (omega arith)) ∙ take-append-le k (drop a xs) more
+    (omega (arith, length-drop a xs))
 
-map_range : {X : Type 0} (f g : ℕ → X) (a n : ℕ) → ((i : ℕ) → a ≤ i → i < a + n → f i ≡ g i) → map f (range_with_len a n) ≡ map g (range_with_len a n)
+map_range : {X : Type 0} (f g : ℕ → X) (a n : ℕ) → ((i : ℕ) → a ≤ i → i < a + n → f i ≡ g i)
+    → map f (range_with_len a n) ≡ map g (range_with_len a n)
 map_range f g a zero same = refl
-map_range f g a (suc n) same = let first : f a ≡ g a = same a (omega arith) (omega arith) in let rest = map_range f g (a + 1) n (λ i low high. same i (omega arith) (omega arith)) in cc
+map_range f g a (suc n) same = let first : f a ≡ g a = same a (omega arith) (omega arith) in
+    let rest = map_range f g (a + 1) n (λ i low high. same i (omega arith) (omega arith)) in cc
 
 -- a tile of a length, and of a longer one, is one of each length between
 pub tile_between : (a b c : ℕ) (t : TileAt) → a ≤ b → b ≤ c → IsTileOf a t → IsTileOf c t → IsTileOf b t
@@ -50,32 +54,44 @@ end_inside n t is =
     omega (arith, mul-le-mul_right (2 ^ (8 * t.level)) nodes, div-mul-le_self n (2 ^ (8 * t.level)))
 
 -- the leaves below a tile's node are those of a longer log
-leaves_kept : (ds more : List (List ℕ)) (t : TileAt) (i : ℕ) → tile_end t ≤ length ds → i < t.width → leaves_below (node_in t i) (ds ++ more) ≡ leaves_below (node_in t i) ds
+leaves_kept : (ds more : List (List ℕ)) (t : TileAt) (i : ℕ) → tile_end t ≤ length ds → i < t.width
+    → leaves_below (node_in t i) (ds ++ more) ≡ leaves_below (node_in t i) ds
 leaves_kept ds more t i inside below =
     let at = over_at (8 * t.level) (256 * t.number + i) in
     let height : height_of (node_in t i) ≡ 8 * t.level = at.0 in
     let place : place_of (node_in t i) ≡ 256 * t.number + i = at.1 in
     part_kept ds more (start_of (node_in t i)) (2 ^ height_of (node_in t i))
-    (rw (height, place) (omega (arith, inside, mul-le-mul_right (2 ^ (8 * t.level)) (let le : 256 * t.number + i + 1 ≤ 256 * t.number + t.width = omega arith in le))))
+    (rw (height, place) (omega (
+      arith,
+      inside,
+      mul-le-mul_right (2 ^ (8 * t.level))
+          (let le : 256 * t.number + i + 1 ≤ 256 * t.number + t.width = omega arith in le),
+    )))
 
-digests_kept : (ds more : List (List ℕ)) (t : TileAt) → tile_end t ≤ length ds → tile_digests sha256 (ds ++ more) t ≡ tile_digests sha256 ds t
+digests_kept : (ds more : List (List ℕ)) (t : TileAt) → tile_end t ≤ length ds → tile_digests sha256 (ds ++ more) t
+    ≡ tile_digests sha256 ds t
 digests_kept ds more t inside =
-    map_range (λ i. root_of sha256 (leaves_below (node_in t i) (ds ++ more))) (λ i. root_of sha256 (leaves_below (node_in t i) ds)) 0 t.width
+    map_range (λ i. root_of sha256 (leaves_below (node_in t i) (ds ++ more)))
+    (λ i. root_of sha256 (leaves_below (node_in t i) ds)) 0 t.width
     (λ i low high. ap (root_of sha256) (leaves_kept ds more t i inside (omega arith)))
 
 module _ (old next : LogOf) (extends : Extends old next) where
   -- a tile of the old log has the same bytes in the next one
   pub tile_kept : (t : TileAt) → IsTileIn old t → tile_bytes next t ≡ tile_bytes old t
   tile_kept t is =
-      ap (λ (es : List (List ℕ)). flat_map (λ digest. digest) (tile_digests sha256 (leaves_of sha256 es) t)) extends.entries.1
-      ∙ ap (λ (ds : List (List ℕ)). flat_map (λ digest. digest) (tile_digests sha256 ds t)) (map-append (leaf_digest sha256) old.entries extends.entries.0)
-      ∙ ap (λ (ds : List (List ℕ)). flat_map (λ digest. digest) ds) (digests_kept (leaves_of sha256 old.entries) (leaves_of sha256 extends.entries.0) t
+      ap (λ (es : List (List ℕ)). flat_map (λ digest. digest) (tile_digests sha256 (leaves_of sha256 es) t))
+      extends.entries.1
+      ∙ ap (λ (ds : List (List ℕ)). flat_map (λ digest. digest) (tile_digests sha256 ds t))
+      (map-append (leaf_digest sha256) old.entries extends.entries.0)
+      ∙ ap (λ (ds : List (List ℕ)). flat_map (λ digest. digest) ds)
+      (digests_kept (leaves_of sha256 old.entries) (leaves_of sha256 extends.entries.0) t
       (omega (arith, end_inside (length old.entries) t is.exists, length-map old.entries (leaf_digest sha256))))
 
   pub bundle_kept : (t : TileAt) → IsBundleIn old t → bundle_bytes next t ≡ bundle_bytes old t
   bundle_kept t is =
       let one : 2 ^ (8 * t.level) ≡ 1 = ap (λ l. 2 ^ (8 * l)) is.level in
-      let end : (256 * t.number + t.width) * 2 ^ (8 * t.level) ≤ length old.entries = end_inside (length old.entries) t is.exists in
+      let end : (256 * t.number + t.width) * 2 ^ (8 * t.level) ≤ length old.entries =
+      end_inside (length old.entries) t is.exists in
       let inside : 256 * t.number + t.width ≤ length old.entries = omega (arith, rw one at end) in
       ap (λ (es : List (List ℕ)). bundle_of (take t.width (drop (256 * t.number) es))) extends.entries.1
       ∙ ap bundle_of (part_kept old.entries extends.entries.0 (256 * t.number) t.width inside)
@@ -102,17 +118,25 @@ file_outside : (log : LogOf) (n : List ℕ) → IsFileOf log n → is_own n ≡ 
 file_outside log n is = served_not_own n (file_served log n is)
 
 -- files that are the same at a log's names are the log's
-pub same_files : (log : LogOf) (s c : Files) → ((n : List ℕ) → IsFileOf log n → c n ≡ s n) → HasFiles log s → HasFiles log c
+pub same_files : (log : LogOf) (s c : Files) → ((n : List ℕ) → IsFileOf log n → c n ≡ s n) → HasFiles log s
+    → HasFiles log c
 same_files log s c same has = record {
   tile = λ t is. same (tile_path t) (inl (t, is, refl)) ∙ has.tile t is;
   bundle = λ t is. same (entries_path t) (inr (inl (t, is, refl))) ∙ has.bundle t is;
   page = λ f is. same (page_name f.0) (inr (inr (f, is, refl))) ∙ has.page f is;
 }
 
-pub same_served : (log : LogOf) (s c : Files) → ((n : List ℕ) → IsFileOf log n → c n ≡ s n) → c checkpoint ≡ s checkpoint → Serves log s → Serves log c
-same_served log s c same text serves = record { can = serves.can; checkpoint = (serves.checkpoint.0, text ∙ serves.checkpoint.1); holds = same_files log s c same serves.holds }
+pub same_served : (log : LogOf) (s c : Files) → ((n : List ℕ) → IsFileOf log n → c n ≡ s n)
+    → c checkpoint ≡ s checkpoint → Serves log s → Serves log c
+same_served log s c same text serves =
+    record {
+      can = serves.can;
+      checkpoint = (serves.checkpoint.0, text ∙ serves.checkpoint.1);
+      holds = same_files log s c same serves.holds;
+    }
 
-pub same_kept : (served log : LogOf) (s c : Files) → ((n : List ℕ) → IsFileOf log n ⊎ IsFileOf served n → c n ≡ s n) → c checkpoint ≡ s checkpoint → c state ≡ s state → Keeps served log s → Keeps served log c
+pub same_kept : (served log : LogOf) (s c : Files) → ((n : List ℕ) → IsFileOf log n ⊎ IsFileOf served n → c n ≡ s n)
+    → c checkpoint ≡ s checkpoint → c state ≡ s state → Keeps served log s → Keeps served log c
 same_kept served log s c same text says keeps = record {
   can = keeps.can;
   state = says ∙ keeps.state;
@@ -131,7 +155,12 @@ extends_length a b one = omega (arith, ap length one.entries.1, length-append a.
 pub extends_then : (a b c : LogOf) → Extends a b → Extends b c → Extends a c
 extends_then a b c one two = record {
   origin = two.origin ∙ one.origin;
-  entries = (one.entries.0 ++ two.entries.0, two.entries.1 ∙ ap (λ (l : List (List ℕ)). l ++ two.entries.0) one.entries.1 ∙ append_assoc a.entries one.entries.0 two.entries.0);
+  entries = (
+    one.entries.0 ++ two.entries.0,
+    two.entries.1
+        ∙ ap (λ (l : List (List ℕ)). l ++ two.entries.0) one.entries.1
+        ∙ append_assoc a.entries one.entries.0 two.entries.0,
+  );
   still = λ same.
       let first = one.still (omega (arith, same, extends_length a b one, extends_length b c two)) in
       let second = two.still (omega (arith, same, extends_length a b one, extends_length b c two)) in
@@ -139,7 +168,8 @@ extends_then a b c one two = record {
 }
 
 -- Pages that are staged beside those of one log are staged beside those of another in its place.
-pub pages_beside : (served other old next : List File) (s t : Files) → ((path : List ℕ) → HasPage other path → HasPage old path)
+pub pages_beside : (served other old next : List File) (s t : Files)
+    → ((path : List ℕ) → HasPage other path → HasPage old path)
     → ((path : List ℕ) → t (staged (page_name path)) ≡ s (staged (page_name path)))
     → ArePagesStaged served old next s → ArePagesStaged other old next t
 pages_beside served other old next s t within same are = record {
@@ -165,7 +195,8 @@ own_pages served old s none = record {
   nothing_else = λ path some. absurd (apart (sym (subst IsSome (none path) some)));
 }
 
-module _ (served old next : LogOf) (begins : Extends served old) (extends : Extends old next) (files : Files) (are_staged : AreStagedFor served old next files) where
+module _ (served old next : LogOf) (begins : Extends served old) (extends : Extends old next) (files : Files)
+    (are_staged : AreStagedFor served old next files) where
   -- what is staged is a file that the next log has and the old one hasn't
   new_by : (n : List ℕ) → is_served n ≡ true → IsSome (files (staged n)) → IsNewName old next n
   new_by n is some = elim (served_kind n is) [
@@ -175,37 +206,50 @@ module _ (served old next : LogOf) (begins : Extends served old) (extends : Exte
   ]
 
   -- nothing is staged at the name of a file that the old log has, or one that it continues
-  none_by : (n : List ℕ) → is_served n ≡ true → (IsNewName old next n → ⊥) → (o : Option (List ℕ)) → files (staged n) ≡ o → o ≡ None
+  none_by : (n : List ℕ) → is_served n ≡ true → (IsNewName old next n → ⊥) → (o : Option (List ℕ))
+      → files (staged n) ≡ o → o ≡ None
   none_by n is old_name None e = refl
   none_by n is old_name (Some bytes) e = absurd (old_name (new_by n is (subst IsSome (sym e) refl)))
 
   -- no page of the served log is new
-  no_new_page : (f g : File) → Contains next.pages g → f.0 ≡ g.0 → Contains served.pages f → (HasPage old.pages g.0 → ⊥) → ⊥
+  no_new_page : (f g : File) → Contains next.pages g → f.0 ≡ g.0 → Contains served.pages f → (HasPage old.pages g.0 → ⊥)
+      → ⊥
   no_new_page f g is same was new = ⊎_elim
       (λ own. new (g.1, own))
       (λ fresh. fresh.1 (f.1, subst (λ path. Contains served.pages (path, f.1)) same was))
       (are_staged.pages.page g is)
 
   tile_old : (t : TileAt) → IsTileIn served t → IsTileIn next t → IsTileIn old t
-  tile_old t is new = record { level = is.level; exists = tile_between _ _ _ t (extends_length served old begins) (extends_length old next extends) is.exists new.exists }
+  tile_old t is new = record {
+    level = is.level;
+    exists = tile_between _ _ _ t (extends_length served old begins)
+        (extends_length old next extends) is.exists new.exists;
+  }
 
   bundle_old : (t : TileAt) → IsBundleIn served t → IsBundleIn next t → IsBundleIn old t
-  bundle_old t is new = record { level = is.level; exists = tile_between _ _ _ t (extends_length served old begins) (extends_length old next extends) is.exists new.exists }
+  bundle_old t is new = record {
+    level = is.level;
+    exists = tile_between _ _ _ t (extends_length served old begins)
+        (extends_length old next extends) is.exists new.exists;
+  }
 
   pub not_new : (n : List ℕ) → IsFileOf served n → IsNewName old next n → ⊥
   not_new n (inl is) (inl (inl new)) =
-      let same : new.0 ≡ is.0 = tile_path_once new.0 is.0 new.1.level is.1.level (width_at_most _ new.0 new.1.exists) (width_at_most _ is.0 is.1.exists) (new.3 ∙ sym is.2) in
+      let same : new.0 ≡ is.0 = tile_path_once new.0 is.0 new.1.level is.1.level (width_at_most _ new.0 new.1.exists)
+      (width_at_most _ is.0 is.1.exists) (new.3 ∙ sym is.2) in
       new.2 (subst (IsTileIn old) (sym same) (tile_old is.0 is.1 (subst (IsTileIn next) same new.1)))
   not_new n (inl is) (inl (inr new)) = no_tile_a_bundle is.0 new.0 is.1.level (is.2 ∙ sym new.3)
   not_new n (inl is) (inr new) = no_page_a_tile is.0 new.0.0 (is.2 ∙ sym new.3)
   not_new n (inr (inl is)) (inl (inl new)) = no_tile_a_bundle new.0 is.0 new.1.level (new.3 ∙ sym is.2)
   not_new n (inr (inl is)) (inl (inr new)) =
-      let same : new.0 ≡ is.0 = entries_path_once new.0 is.0 new.1.level is.1.level (width_at_most _ new.0 new.1.exists) (width_at_most _ is.0 is.1.exists) (new.3 ∙ sym is.2) in
+      let same : new.0 ≡ is.0 = entries_path_once new.0 is.0 new.1.level is.1.level (width_at_most _ new.0 new.1.exists)
+      (width_at_most _ is.0 is.1.exists) (new.3 ∙ sym is.2) in
       new.2 (subst (IsBundleIn old) (sym same) (bundle_old is.0 is.1 (subst (IsBundleIn next) same new.1)))
   not_new n (inr (inl is)) (inr new) = no_page_a_bundle is.0 new.0.0 (is.2 ∙ sym new.3)
   not_new n (inr (inr is)) (inl (inl new)) = no_page_a_tile new.0 is.0.0 (new.3 ∙ sym is.2)
   not_new n (inr (inr is)) (inl (inr new)) = no_page_a_bundle new.0 is.0.0 (new.3 ∙ sym is.2)
-  not_new n (inr (inr is)) (inr new) = no_new_page is.0 new.0 new.1 (page_once is.0.0 new.0.0 (is.2 ∙ sym new.3)) is.1 new.2
+  not_new n (inr (inr is)) (inr new) = no_new_page is.0 new.0 new.1 (page_once is.0.0 new.0.0 (is.2 ∙ sym new.3)) is.1
+      new.2
 
   pub stays : (text n : List ℕ) → IsFileOf served n → committed text files n ≡ files n
   stays text n is =
@@ -213,34 +257,47 @@ module _ (served old next : LogOf) (begins : Extends served old) (extends : Exte
       let none : files (staged n) ≡ None = none_by n served_name (not_new n is) (files (staged n)) refl in
       committed_served files text n served_name ∙ ap (λ (o : Option (List ℕ)). option_or o (files n)) none
 
-module _ (served old next : LogOf) (extends : Extends old next) (files : Files) (are_staged : AreStagedFor served old next files) where
+module _ (served old next : LogOf) (extends : Extends old next) (files : Files)
+    (are_staged : AreStagedFor served old next files) where
   -- they are staged beside the old log's, too
   staged_for_old : AreStagedFor old old next files
   staged_for_old = record {
     tile = are_staged.tile;
     bundle = are_staged.bundle;
     nothing_else = are_staged.nothing_else;
-    pages = pages_beside served.pages old.pages old.pages next.pages files files (λ path has. has) (λ path. refl) are_staged.pages;
+    pages = pages_beside served.pages old.pages old.pages next.pages files files (λ path has. has)
+        (λ path. refl) are_staged.pages;
   }
 
-  new_at : (text n bytes : List ℕ) → is_served n ≡ true → files (staged n) ≡ Some bytes → committed text files n ≡ Some bytes
-  new_at text n bytes is there = committed_served files text n is ∙ ap (λ (o : Option (List ℕ)). option_or o (files n)) there
+  new_at : (text n bytes : List ℕ) → is_served n ≡ true → files (staged n) ≡ Some bytes → committed text files n
+      ≡ Some bytes
+  new_at text n bytes is there = committed_served files text n is
+      ∙ ap (λ (o : Option (List ℕ)). option_or o (files n)) there
 
   -- once committed, the next log's files are there
   pub next_files : (text : List ℕ) → HasFiles old files → HasFiles next (committed text files)
   next_files text has = record {
     tile = λ t is. ⊎_elim
-        (λ was. stays old old next (extends_self old) extends files staged_for_old text (tile_path t) (inl (t, was, refl)) ∙ has.tile t was ∙ ap (λ (b : List ℕ). Some b) (sym (tile_kept old next extends t was)))
-        (λ new. new_at text (tile_path t) (tile_bytes next t) refl (are_staged.tile t is new)) (tile_was old next extends t is);
+        (λ was. stays old old next (extends_self old) extends files staged_for_old text (tile_path t)
+        (inl (t, was, refl)) ∙ has.tile t was
+        ∙ ap (λ (b : List ℕ). Some b) (sym (tile_kept old next extends t was)))
+        (λ new. new_at text (tile_path t) (tile_bytes next t) refl (are_staged.tile t is new))
+        (tile_was old next extends t is);
     bundle = λ t is. ⊎_elim
-        (λ was. stays old old next (extends_self old) extends files staged_for_old text (entries_path t) (inr (inl (t, was, refl))) ∙ has.bundle t was ∙ ap (λ (b : List ℕ). Some b) (sym (bundle_kept old next extends t was)))
-        (λ new. new_at text (entries_path t) (bundle_bytes next t) refl (are_staged.bundle t is new)) (bundle_was old next extends t is);
+        (λ was. stays old old next (extends_self old) extends files staged_for_old text (entries_path t)
+        (inr (inl (t, was, refl))) ∙ has.bundle t was
+        ∙ ap (λ (b : List ℕ). Some b) (sym (bundle_kept old next extends t was)))
+        (λ new. new_at text (entries_path t) (bundle_bytes next t) refl (are_staged.bundle t is new))
+        (bundle_was old next extends t is);
     page = λ f is. ⊎_elim
-        (λ was. stays old old next (extends_self old) extends files staged_for_old text (page_name f.0) (inr (inr (f, was, refl))) ∙ has.page f was)
+        (λ was. stays old old next (extends_self old) extends files staged_for_old text (page_name f.0)
+        (inr (inr (f, was, refl))) ∙ has.page f was)
         (λ new. new_at text (page_name f.0) f.1 refl new.2) (are_staged.pages.page f is);
   }
 
-module _ (served old next : LogOf) (files : Files) (keeps : Keeps served old files) (extends : Extends old next) (are_staged : AreStagedFor served old next files) (text : List ℕ) (says : text ≡ checkpoint_of next) (named : CanBeKept next) where
+module _ (served old next : LogOf) (files : Files) (keeps : Keeps served old files) (extends : Extends old next)
+    (are_staged : AreStagedFor served old next files) (text : List ℕ) (says : text ≡ checkpoint_of next)
+    (named : CanBeKept next) where
   committed_checkpoint : committed text files checkpoint ≡ checkpoint_after text (files checkpoint)
   committed_checkpoint = refl
 
@@ -263,13 +320,18 @@ module _ (served old next : LogOf) (files : Files) (keeps : Keeps served old fil
     can = named;
     state = ap (λ (b : List ℕ). Some b) says;
     holds = next_files served old next extends files are_staged text keeps.holds;
-    serves = record { can = named; checkpoint = (None, rw isnt (ap (λ (b : List ℕ). Some b) says)); holds = next_files served old next extends files are_staged text keeps.holds };
+    serves = record {
+      can = named;
+      checkpoint = (None, rw isnt (ap (λ (b : List ℕ). Some b) says));
+      holds = next_files served old next extends files are_staged text keeps.holds;
+    };
     begins = extends_self next;
     newest = λ unsigned. refl;
   }
 
   pub next_keeps : (log : LogOf) × Keeps log next (committed text files)
-  next_keeps = elim (cases_Bool (is_signed (files checkpoint))) [ inl is ↦ (served, signed_keeps is) | inr isnt ↦ (next, unsigned_keeps isnt) ]
+  next_keeps = elim (cases_Bool (is_signed (files checkpoint)))
+      [ inl is ↦ (served, signed_keeps is) | inr isnt ↦ (next, unsigned_keeps isnt) ]
 
   module _ (idle : files mark ≡ None) (c : Files) (was : IsBetween files (committed text files) c) where
     -- a file of the served log is the same, opened and not
@@ -288,11 +350,14 @@ module _ (served old next : LogOf) (files : Files) (keeps : Keeps served old fil
       stay = λ n is. same_opened n is ∙ sym (same_now n is);
     }
 
-    as_next : is_signed (files checkpoint) ≡ false → ((n : List ℕ) → is_own n ≡ false → c n ≡ committed text files n) → IsServed next c
+    as_next : is_signed (files checkpoint) ≡ false → ((n : List ℕ) → is_own n ≡ false → c n ≡ committed text files n)
+        → IsServed next c
     as_next isnt all = record {
-      serves = same_served next (committed text files) c (λ n is. all n (file_outside next n is)) (all checkpoint refl) (unsigned_keeps isnt).serves;
+      serves = same_served next (committed text files) c (λ n is. all n (file_outside next n is)) (all checkpoint refl)
+          (unsigned_keeps isnt).serves;
       stay = λ n is. ⊎_elim
-          (λ (e, same). ap (λ (f : Files). f n) e ∙ idle_same files n idle (file_outside next n is) ∙ sym (same n (file_outside next n is)))
+          (λ (e, same). ap (λ (f : Files). f n) e ∙ idle_same files n idle (file_outside next n is)
+          ∙ sym (same n (file_outside next n is)))
           (λ e. ap (λ (f : Files). f n) e ∙ sym (all n (file_outside next n is)))
           was.stands_for;
     }
@@ -315,13 +380,16 @@ module _ (served old next : LogOf) (files : Files) (keeps : Keeps served old fil
       where
         opened_idle_keeps : Keeps served old (opened files)
         opened_idle_keeps = same_kept served old files (opened files)
-            (λ n is. idle_same files n idle (⊎_elim (λ one. file_outside old n one) (λ other. file_outside served n other) is))
+            (λ n is. idle_same files n idle
+            (⊎_elim (λ one. file_outside old n one) (λ other. file_outside served n other) is))
             (idle_same files checkpoint idle refl) (opened_idle files state idle refl) keeps
 
     pub between_committing : IsCommitting served old next files c
     between_committing = record {
       one = between_one_of;
       names = λ n is known.
-          let none : files (staged n) ≡ None = none_by served old next keeps.begins extends files are_staged n is known (files (staged n)) refl in
-          ⊎_elim (λ e. e) (λ e. e ∙ committed_served files text n is ∙ ap (λ (o : Option (List ℕ)). option_or o (files n)) none) (was.each n (served_not_own n is));
+          let none : files (staged n) ≡ None = none_by served old next keeps.begins extends files are_staged n is known
+          (files (staged n)) refl in
+          ⊎_elim (λ e. e) (λ e. e ∙ committed_served files text n is
+          ∙ ap (λ (o : Option (List ℕ)). option_or o (files n)) none) (was.each n (served_not_own n is));
     }

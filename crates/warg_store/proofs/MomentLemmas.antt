@@ -5,46 +5,59 @@ use Rattle.warg_store.specs.Moments.{Within, Elapses, LeavesOnly}
 
 module _ {D : Type 0} (moment : D → ℕ) (left_since : D → ℕ → Files → Type 0) (may_leave : D → Files → Type 0) where
   -- one call more
-  pub goes_on : (old mid new : D) (P : Files → Type 0) → LeavesOnly moment left_since old mid P → Elapses moment left_since may_leave mid new
+  pub goes_on : (old mid new : D) (P : Files → Type 0) → LeavesOnly moment left_since old mid P
+      → Elapses moment left_since may_leave mid new
       → ((c : Files) → may_leave new c → P c) → LeavesOnly moment left_since old new P
   goes_on old mid new P so_far time here = record {
     later = omega (arith, so_far.later, time.later);
     each = λ c left. ⊎_elim (so_far.each c) (here c) (time.nothing_else (moment old) c so_far.later left);
-    before = λ t c le left. ⊎_elim (so_far.before t c le) (λ now. inr (here c now)) (time.nothing_else t c (omega (arith, le, so_far.later)) left);
+    before = λ t c le left. ⊎_elim (so_far.before t c le) (λ now. inr (here c now))
+        (time.nothing_else t c (omega (arith, le, so_far.later)) left);
   }
 
   -- the first call
-  pub begins : (old new : D) (P : Files → Type 0) → ((c : Files) → left_since old (moment old) c → may_leave old c) → Elapses moment left_since may_leave old new
-      → ((c : Files) → may_leave old c → P c) → ((c : Files) → may_leave new c → P c) → LeavesOnly moment left_since old new P
+  pub begins : (old new : D) (P : Files → Type 0) → ((c : Files) → left_since old (moment old) c → may_leave old c)
+      → Elapses moment left_since may_leave old new
+      → ((c : Files) → may_leave old c → P c) → ((c : Files) → may_leave new c → P c)
+      → LeavesOnly moment left_since old new P
   begins old new P only time first here = record {
     later = time.later;
-    each = λ c left. ⊎_elim (λ was. first c (only c was)) (here c) (time.nothing_else (moment old) c (omega arith) left);
+    each = λ c left. ⊎_elim (λ was. first c (only c was)) (here c)
+        (time.nothing_else (moment old) c (omega arith) left);
     before = λ t c le left. ⊎_elim (λ was. inl was) (λ now. inr (here c now)) (time.nothing_else t c le left);
   }
 
   -- two calls that only read
-  pub read_twice : (old mid new : D) (P : Files → Type 0) → ((c : Files) → left_since old (moment old) c → may_leave old c) → Elapses moment left_since may_leave old mid → Elapses moment left_since may_leave mid new
-      → Within (may_leave old) (may_leave mid) → Within (may_leave mid) (may_leave new) → ((c : Files) → may_leave old c → P c) → LeavesOnly moment left_since old new P × ((c : Files) → may_leave new c → P c)
+  pub read_twice : (old mid new : D) (P : Files → Type 0)
+      → ((c : Files) → left_since old (moment old) c → may_leave old c) → Elapses moment left_since may_leave old mid
+      → Elapses moment left_since may_leave mid new
+      → Within (may_leave old) (may_leave mid) → Within (may_leave mid) (may_leave new)
+      → ((c : Files) → may_leave old c → P c) → LeavesOnly moment left_since old new P
+      × ((c : Files) → may_leave new c → P c)
   read_twice old mid new P only first second one two before =
       let after : (c : Files) → may_leave new c → P c = λ c left. before c (one c (two c left)) in
       (goes_on old mid new P (begins old mid P only first before (λ c left. before c (one c left))) second after, after)
 
 module _ {D : Type 0} (moment : D → ℕ) (left_since : D → ℕ → Files → Type 0) where
   -- no call
-  pub stays : (old : D) (P : Files → Type 0) → ((c : Files) → left_since old (moment old) c → P c) → LeavesOnly moment left_since old old P
+  pub stays : (old : D) (P : Files → Type 0) → ((c : Files) → left_since old (moment old) c → P c)
+      → LeavesOnly moment left_since old old P
   stays old P first = record { later = omega arith; each = first; before = λ t c le left. inl left }
 
   -- two runs, the second after the first
-  pub then : (old mid new : D) (P Q R : Files → Type 0) → LeavesOnly moment left_since old mid P → LeavesOnly moment left_since mid new Q
+  pub then : (old mid new : D) (P Q R : Files → Type 0) → LeavesOnly moment left_since old mid P
+      → LeavesOnly moment left_since mid new Q
       → ((c : Files) → P c → R c) → ((c : Files) → Q c → R c) → LeavesOnly moment left_since old new R
   then old mid new P Q R one two first second = record {
     later = omega (arith, one.later, two.later);
     each = λ c left. ⊎_elim (λ was. first c (one.each c was)) (second c) (two.before (moment old) c one.later left);
-    before = λ t c le left. ⊎_elim (λ was. ⊎_elim (λ e. inl e) (λ p. inr (first c p)) (one.before t c le was)) (λ q. inr (second c q)) (two.before t c (omega (arith, le, one.later)) left);
+    before = λ t c le left. ⊎_elim (λ was. ⊎_elim (λ e. inl e) (λ p. inr (first c p)) (one.before t c le was))
+        (λ q. inr (second c q)) (two.before t c (omega (arith, le, one.later)) left);
   }
 
   -- a weaker fact
-  pub weaker : (old new : D) (P R : Files → Type 0) → LeavesOnly moment left_since old new P → ((c : Files) → P c → R c) → LeavesOnly moment left_since old new R
+  pub weaker : (old new : D) (P R : Files → Type 0) → LeavesOnly moment left_since old new P → ((c : Files) → P c → R c)
+      → LeavesOnly moment left_since old new R
   weaker old new P R run weak = record {
     later = run.later;
     each = λ c left. weak c (run.each c left);

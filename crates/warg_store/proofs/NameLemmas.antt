@@ -10,7 +10,11 @@ use Rattle.warg_store.specs.Names.{checkpoint, state, mark, staged, is_staged, i
 
 -- two names are one, or not
 pub one_name : (a b : List ℕ) → ((pointwise nat_eq a b ≡ true) × (a ≡ b)) ⊎ ((pointwise nat_eq a b ≡ false) × (a ≢ b))
-one_name a b = elim (cases_Bool (pointwise nat_eq a b)) [ inl t ↦ inl (t, (bytes_decides a b).0 t) | inr f ↦ inr (f, not_from_Decides _ (bytes_decides a b) f) ]
+one_name a b = elim (cases_Bool (pointwise nat_eq a b)) [
+  | inl t ↦ inl (t, (bytes_decides a b).0 t)
+  | inr f ↦ inr
+      (f, not_from_Decides _ (bytes_decides a b) f)
+]
 
 pub apart : true ≡ false → ⊥
 apart e = cc
@@ -33,7 +37,11 @@ pub own_if_staged : (n : List ℕ) → is_staged n ≡ true → is_own n ≡ tru
 own_if_staged n is = ap is_own (front_of n (codes ".log/staged/") is)
 
 pub not_staged : (n : List ℕ) → is_own n ≡ false → is_staged n ≡ false
-not_staged n out = elim (cases_Bool (is_staged n)) [ inl is ↦ absurd (apart (sym (own_if_staged n is) ∙ out)) | inr isnt ↦ isnt ]
+not_staged n out = elim (cases_Bool (is_staged n)) [
+  | inl is ↦ absurd (apart (sym (own_if_staged n is) ∙ out))
+  | inr
+      isnt ↦ isnt
+]
 
 -- a served name is none of the log's own
 pub served_not_own : (n : List ℕ) → is_served n ≡ true → is_own n ≡ false
@@ -53,7 +61,8 @@ served_not_state n is e = apart (sym is ∙ ap is_served (sym e))
 
 -- the text of a commit isn't one of its files
 pub mark_not_staged_file : (n : List ℕ) → is_served n ≡ true → staged n ≢ mark
-mark_not_staged_file n is e = apart (sym is ∙ ap is_served (append_cancel_left (codes ".log/staged/") n (codes "state") e))
+mark_not_staged_file n is e = apart
+    (sym is ∙ ap is_served (append_cancel_left (codes ".log/staged/") n (codes "state") e))
 
 -- a name that is served isn't a staged one
 pub served_apart_staged : (m n : List ℕ) → is_served m ≡ true → m ≢ staged n

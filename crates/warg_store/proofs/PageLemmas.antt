@@ -74,9 +74,11 @@ module _ (path bytes : List ℕ) (s : Files) where
   }
 
 -- the log with the page has all else as before
-pub page_has : {F : Type 0} (seen : F → Files) (may_leave : F → Files → Type 0) (served old next : LogOf) (l m : LogIn F)
+pub page_has : {F : Type 0} (seen : F → Files) (may_leave : F → Files → Type 0) (served old next : LogOf)
+    (l m : LogIn F)
     (path bytes : List ℕ) → IsFresh served old next path → m ≡ record l { folder = m.folder }
-    → seen m.folder ≡ put (staged (page_name path), bytes) (seen l.folder) → IsStaging (seen m.folder) (may_leave m.folder)
+    → seen m.folder ≡ put (staged (page_name path), bytes) (seen l.folder)
+    → IsStaging (seen m.folder) (may_leave m.folder)
     → Has seen may_leave served old next l → Has seen may_leave served old (with_page next (path, bytes)) m
 page_has {F = F} seen may_leave served old next l m path bytes fresh same is staging has =
     subst (Has seen may_leave served old (with_page next (path, bytes))) (sym same) (record {
@@ -100,6 +102,7 @@ page_has {F = F} seen may_leave served old next l m path bytes fresh same is sta
       staged = subst (λ (f : Files). AreFullStaged l.text.length l.edge.taken (with_page next (path, bytes)) f) (sym is)
           (tiles_stay path bytes (seen l.folder) l.text.length l.edge.taken next has.staged);
       pages = subst (λ (f : Files). ArePagesStaged served.pages old.pages ((path, bytes) ∷ next.pages) f) (sym is)
-          (pages_grow path bytes (seen l.folder) served.pages old.pages next.pages fresh.not_served fresh.not_kept fresh.not_next has.pages);
+          (pages_grow path bytes (seen l.folder) served.pages old.pages next.pages fresh.not_served fresh.not_kept
+          fresh.not_next has.pages);
       staging = staging;
     })

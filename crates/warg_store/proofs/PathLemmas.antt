@@ -20,16 +20,23 @@ value_on n (byte ∷ bytes) = cond (is_ascii_digit byte) (value_on (10 * n + (by
 
 value_on-append : (n : ℕ) (xs ys : List ℕ) → value_on n (xs ++ ys) ≡ value_on (value_on n xs) ys
 value_on-append n [] ys = refl
-value_on-append n (byte ∷ xs) ys = elim (is_ascii_digit byte) as (λ b. cond b (value_on (10 * n + (byte - 48)) (xs ++ ys)) (value_on n (xs ++ ys)) ≡ value_on (cond b (value_on (10 * n + (byte - 48)) xs) (value_on n xs)) ys) [
-  | true ↦ value_on-append (10 * n + (byte - 48)) xs ys
-  | false ↦ value_on-append n xs ys
-]
+value_on-append n (byte ∷ xs) ys = elim (is_ascii_digit byte) as
+    (λ b. cond b (value_on (10 * n + (byte - 48)) (xs ++ ys)) (value_on n (xs ++ ys))
+    ≡ value_on (cond b (value_on (10 * n + (byte - 48)) xs) (value_on n xs)) ys) [
+      | true ↦ value_on-append (10 * n + (byte - 48)) xs ys
+      | false ↦ value_on-append n xs ys
+    ]
 
 digit_is : (d : ℕ) → d < 10 → is_ascii_digit (48 + d) ≡ true
 digit_is d small = search rules
 
-value_on-three : (n d : ℕ) (rest : List ℕ) → d < 1000 → value_on n (three_digits d ++ rest) ≡ value_on (1000 * n + d) rest
-value_on-three n d rest small = rw (digit_is (d / 100) (omega arith), digit_is (d / 10 % 10) (omega arith), digit_is (d % 10) (omega arith)) (ap (λ m. value_on m rest) (omega arith))
+value_on-three : (n d : ℕ) (rest : List ℕ) → d < 1000 → value_on n (three_digits d ++ rest)
+    ≡ value_on (1000 * n + d) rest
+value_on-three n d rest small = rw (
+  digit_is (d / 100) (omega arith),
+  digit_is (d / 10 % 10) (omega arith),
+  digit_is (d % 10) (omega arith),
+) (ap (λ m. value_on m rest) (omega arith))
 
 groups_value : (steps n : ℕ) → n ≤ steps → value_on 0 (groups_within steps n) ≡ n
 unfolding groups_within
@@ -37,13 +44,17 @@ groups_value zero n low = omega arith
 groups_value (suc steps) n low = elim (cases_lt 0 n) [
   | inl some ↦
       let front = groups_within steps (n / 1000) in
-      rw (ne_eqb n 0 (λ e. omega arith)) (value_on-append 0 front (group_of (n % 1000)) ∙ value_on-three (value_on 0 front) (n % 1000) (47 ∷ []) (omega arith) ∙ omega (arith, groups_value steps (n / 1000) (omega arith)))
+      rw (ne_eqb n 0 (λ e. omega arith)) (value_on-append 0 front (group_of (n % 1000))
+      ∙ value_on-three (value_on 0 front) (n % 1000) (47 ∷ []) (omega arith)
+      ∙ omega (arith, groups_value steps (n / 1000) (omega arith)))
   | inr none ↦ rw (eq-eqb n 0 (omega arith)) (omega arith)
 ]
 
 path_value : (n : ℕ) → value_on 0 (number_path n) ≡ n
 path_value n =
-    value_on-append 0 (groups_of (n / 1000)) (three_digits (n % 1000)) ∙ value_on-three (value_on 0 (groups_of (n / 1000))) (n % 1000) [] (omega arith) ∙ omega (arith, groups_value (n / 1000) (n / 1000) (omega arith))
+    value_on-append 0 (groups_of (n / 1000)) (three_digits (n % 1000))
+    ∙ value_on-three (value_on 0 (groups_of (n / 1000))) (n % 1000) [] (omega arith)
+    ∙ omega (arith, groups_value (n / 1000) (n / 1000) (omega arith))
 
 number_path_once : (m n : ℕ) → number_path m ≡ number_path n → m ≡ n
 number_path_once m n e = sym (path_value m) ∙ ap (value_on 0) e ∙ path_value n
@@ -57,7 +68,8 @@ without_append c [] ys xw yw = yw
 without_append c (x ∷ xs) ys xw yw = (xw.0, without_append c xs ys xw.1 yw)
 
 -- what stands before the first c and behind it
-cut_once : (c : ℕ) (xs ys us vs : List ℕ) → Without c xs → Without c us → xs ++ (c ∷ ys) ≡ us ++ (c ∷ vs) → (xs ≡ us) × (ys ≡ vs)
+cut_once : (c : ℕ) (xs ys us vs : List ℕ) → Without c xs → Without c us → xs ++ (c ∷ ys) ≡ us ++ (c ∷ vs) → (xs ≡ us)
+    × (ys ≡ vs)
 cut_once c [] ys [] vs xw uw e = (refl, cc)
 cut_once c [] ys (u ∷ us) vs xw uw e = absurd (uw.0 cc)
 cut_once c (x ∷ xs) ys [] vs xw uw e = absurd (xw.0 cc)
@@ -79,14 +91,19 @@ dotless_three n = ((λ e. omega (arith, e)), ((λ e. omega (arith, e)), ((λ e. 
 dotless_groups : (steps n : ℕ) → Without 46 (groups_within steps n)
 unfolding groups_within
 dotless_groups zero n = tt
-dotless_groups (suc steps) n = elim (n == 0) as (λ b. Without 46 (cond b [] (groups_within steps (n / 1000) ++ group_of (n % 1000)))) [
-  | true ↦ tt
-  | false ↦ without_append 46 (groups_within steps (n / 1000)) (group_of (n % 1000)) (dotless_groups steps (n / 1000))
-      ((λ e. omega (arith, e)), without_append 46 (three_digits (n % 1000)) (47 ∷ []) (dotless_three (n % 1000)) ((λ e. omega (arith, e)), tt))
-]
+dotless_groups (suc steps) n =
+    elim (n == 0) as (λ b. Without 46 (cond b [] (groups_within steps (n / 1000) ++ group_of (n % 1000)))) [
+      | true ↦ tt
+      | false ↦ without_append 46 (groups_within steps (n / 1000)) (group_of (n % 1000)) (dotless_groups steps (n / 1000)) (
+        (λ e. omega (arith, e)),
+        without_append 46 (three_digits (n % 1000)) (47 ∷ []) (dotless_three (n % 1000))
+            ((λ e. omega (arith, e)), tt),
+      )
+    ]
 
 dotless_path : (n : ℕ) → Without 46 (number_path n)
-dotless_path n = without_append 46 (groups_of (n / 1000)) (three_digits (n % 1000)) (dotless_groups (n / 1000) (n / 1000)) (dotless_three (n % 1000))
+dotless_path n = without_append 46 (groups_of (n / 1000)) (three_digits (n % 1000))
+    (dotless_groups (n / 1000) (n / 1000)) (dotless_three (n % 1000))
 
 full_place : (n : ℕ) → place_path n 256 ≡ number_path n
 full_place n = append-nil (number_path n)
@@ -98,14 +115,24 @@ partial_place n width other = rw (ne_eqb width 256 other) refl
 place_once : (m v n w : ℕ) → v ≤ 256 → w ≤ 256 → place_path m v ≡ place_path n w → (m ≡ n) × (v ≡ w)
 place_once m v n w vs ws e = elim (cases_eq v 256) [
   | inl v_full ↦ elim (cases_eq w 256) [
-    | inl w_full ↦ (number_path_once m n (sym (ap (place_path m) v_full ∙ full_place m) ∙ e ∙ ap (place_path n) w_full ∙ full_place n), v_full ∙ sym w_full)
-    | inr w_part ↦ absurd (never_cut 46 (number_path m) (number_path n) (112 ∷ (47 ∷ decimal w)) (dotless_path m) (sym (ap (place_path m) v_full ∙ full_place m) ∙ e ∙ partial_place n w w_part))
+    | inl w_full ↦ (
+      number_path_once m n (sym (ap (place_path m) v_full ∙ full_place m) ∙ e ∙ ap (place_path n) w_full
+          ∙ full_place n),
+      v_full ∙ sym w_full,
+    )
+    | inr w_part ↦ absurd (never_cut 46 (number_path m) (number_path n) (112 ∷ (47 ∷ decimal w)) (dotless_path m)
+        (sym (ap (place_path m) v_full ∙ full_place m) ∙ e ∙ partial_place n w w_part))
   ]
   | inr v_part ↦ elim (cases_eq w 256) [
-    | inl w_full ↦ absurd (never_cut 46 (number_path n) (number_path m) (112 ∷ (47 ∷ decimal v)) (dotless_path n) (sym (ap (place_path n) w_full ∙ full_place n) ∙ sym e ∙ partial_place m v v_part))
+    | inl w_full ↦ absurd (never_cut 46 (number_path n) (number_path m) (112 ∷ (47 ∷ decimal v)) (dotless_path n)
+        (sym (ap (place_path n) w_full ∙ full_place n) ∙ sym e ∙ partial_place m v v_part))
     | inr w_part ↦
-        let parts = cut_once 46 (number_path m) (112 ∷ (47 ∷ decimal v)) (number_path n) (112 ∷ (47 ∷ decimal w)) (dotless_path m) (dotless_path n) (sym (partial_place m v v_part) ∙ e ∙ partial_place n w w_part) in
-        (number_path_once m n parts.0, decimal_injective v w (omega arith) (omega arith) (append_cancel_left (112 ∷ (47 ∷ [])) (decimal v) (decimal w) parts.1))
+        let parts = cut_once 46 (number_path m) (112 ∷ (47 ∷ decimal v)) (number_path n) (112 ∷ (47 ∷ decimal w))
+        (dotless_path m) (dotless_path n) (sym (partial_place m v v_part) ∙ e ∙ partial_place n w w_part) in (
+          number_path_once m n parts.0,
+          decimal_injective v w (omega arith) (omega arith)
+              (append_cancel_left (112 ∷ (47 ∷ [])) (decimal v) (decimal w) parts.1),
+        )
   ]
 ]
 
@@ -118,28 +145,37 @@ from_index c (x ∷ xs) each = (each 0 (omega arith), from_index c xs (λ i belo
 
 -- a number in decimal has digits alone
 decimal_without : (n c : ℕ) → n < 2 ^ 64 → (48 < c + 1 → c < 58 → ⊥) → Without c (decimal n)
-decimal_without n c small out = from_index c (decimal n) (λ i below. not_in_digits own (decimal n) c (digits_decimal own n small) (λ r. out (omega arith) (omega arith)) i below)
+decimal_without n c small out = from_index c (decimal n)
+    (λ i below. not_in_digits own (decimal n) c (digits_decimal own n small) (λ r. out (omega arith) (omega arith)) i
+    below)
 
 abbrev tile_at : ℕ → ℕ → ℕ → TileAt
 tile_at level number width = record { level = level; number = number; width = width }
 
 same_tile : (t u : TileAt) → t.level ≡ u.level → t.number ≡ u.number → t.width ≡ u.width → t ≡ u
-same_tile t u level number width = ap (λ l. tile_at l t.number t.width) level ∙ ap (λ n. tile_at u.level n t.width) number ∙ ap (λ w. tile_at u.level u.number w) width
+same_tile t u level number width = ap (λ l. tile_at l t.number t.width) level
+    ∙ ap (λ n. tile_at u.level n t.width) number ∙ ap (λ w. tile_at u.level u.number w) width
 
 -- different tiles have different paths
-pub tile_path_once : (t u : TileAt) → t.level < 8 → u.level < 8 → t.width ≤ 256 → u.width ≤ 256 → tile_path t ≡ tile_path u → t ≡ u
+pub tile_path_once : (t u : TileAt) → t.level < 8 → u.level < 8 → t.width ≤ 256 → u.width ≤ 256
+    → tile_path t ≡ tile_path u → t ≡ u
 tile_path_once t u tl ul tw uw e =
-    let parts = cut_once 47 (decimal t.level) (place_path t.number t.width) (decimal u.level) (place_path u.number u.width)
-    (decimal_without t.level 47 (omega arith) (λ a b. omega arith)) (decimal_without u.level 47 (omega arith) (λ a b. omega arith))
-    (append_cancel_left (codes "tile/") (decimal t.level ++ (47 ∷ place_path t.number t.width)) (decimal u.level ++ (47 ∷ place_path u.number u.width)) e) in
+    let parts = cut_once 47 (decimal t.level) (place_path t.number t.width) (decimal u.level)
+    (place_path u.number u.width)
+    (decimal_without t.level 47 (omega arith) (λ a b. omega arith))
+    (decimal_without u.level 47 (omega arith) (λ a b. omega arith))
+    (append_cancel_left (codes "tile/") (decimal t.level ++ (47 ∷ place_path t.number t.width))
+    (decimal u.level ++ (47 ∷ place_path u.number u.width)) e) in
     let level : t.level ≡ u.level = decimal_injective t.level u.level (omega arith) (omega arith) parts.0 in
     let place = place_once t.number t.width u.number u.width tw uw parts.1 in
     same_tile t u level place.0 place.1
 
 -- and so have bundles
-pub entries_path_once : (t u : TileAt) → t.level ≡ 0 → u.level ≡ 0 → t.width ≤ 256 → u.width ≤ 256 → entries_path t ≡ entries_path u → t ≡ u
+pub entries_path_once : (t u : TileAt) → t.level ≡ 0 → u.level ≡ 0 → t.width ≤ 256 → u.width ≤ 256
+    → entries_path t ≡ entries_path u → t ≡ u
 entries_path_once t u tl ul tw uw e =
-    let place = place_once t.number t.width u.number u.width tw uw (append_cancel_left (codes "tile/entries/") (place_path t.number t.width) (place_path u.number u.width) e) in
+    let place = place_once t.number t.width u.number u.width tw uw
+    (append_cancel_left (codes "tile/entries/") (place_path t.number t.width) (place_path u.number u.width) e) in
     same_tile t u (tl ∙ sym ul) place.0 place.1
 
 begins_otherwise : (xs ys zs : List ℕ) → Without 101 xs → xs ++ (47 ∷ ys) ≡ 101 ∷ zs → ⊥
@@ -156,5 +192,7 @@ no_page_a_bundle t path e = apart (sym (ap is_page e))
 -- no tile has a bundle's path
 pub no_tile_a_bundle : (t u : TileAt) → t.level < 8 → tile_path t ≡ entries_path u → ⊥
 no_tile_a_bundle t u tl e =
-    begins_otherwise (decimal t.level) (place_path t.number t.width) _ (decimal_without t.level 101 (omega arith) (λ a b. omega arith))
-    (append_cancel_left (codes "tile/") (decimal t.level ++ (47 ∷ place_path t.number t.width)) (codes "entries/" ++ place_path u.number u.width) e)
+    begins_otherwise (decimal t.level) (place_path t.number t.width) _
+    (decimal_without t.level 101 (omega arith) (λ a b. omega arith))
+    (append_cancel_left (codes "tile/") (decimal t.level ++ (47 ∷ place_path t.number t.width))
+    (codes "entries/" ++ place_path u.number u.width) e)

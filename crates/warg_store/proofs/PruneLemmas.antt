@@ -33,28 +33,36 @@ module _ (kept served : ℕ) (s : Files) where
   begun c beside = record { outside = λ n isnt. inl (beside.outside n isnt); no_mark = beside.no_mark }
 
   -- one file that goes
-  pub pruned_one : (d : Files) (name : List ℕ) → IsSpare kept served s name → IsPruning kept served s d → IsPruning kept served s (without name d)
+  pub pruned_one : (d : Files) (name : List ℕ) → IsSpare kept served s name → IsPruning kept served s d
+      → IsPruning kept served s (without name d)
   pruned_one d name spare was = record {
     outside = λ n isnt. elim (one_name name n) [
-      | inl here ↦ inr (ap (λ m. without name d m) (sym here.1) ∙ without_here name d, subst (IsSpare kept served s) here.1 spare)
+      | inl here ↦ inr (
+        ap (λ m. without name d m) (sym here.1) ∙ without_here name d,
+        subst (IsSpare kept served s) here.1 spare,
+      )
       | inr other ↦ elim (was.outside n isnt) [
         | inl same ↦ inl (without_apart name d n other.1 ∙ same)
         | inr gone ↦ inr (without_apart name d n other.1 ∙ gone.0, gone.1)
       ]
     ];
-    no_mark = without_apart name d mark (λ e. apart (sym (path_served name spare.full spare.tile spare.paths).0 ∙ ap is_served e)) ∙ was.no_mark;
+    no_mark = without_apart name d mark
+        (λ e. apart (sym (path_served name spare.full spare.tile spare.paths).0 ∙ ap is_served e)) ∙ was.no_mark;
   }
 
   -- what is there now was there
-  pub was_there : (now : Files) (full : List ℕ) → is_served full ≡ true → IsPruning kept served s now → IsSome (now full) → IsSome (s full)
+  pub was_there : (now : Files) (full : List ℕ) → is_served full ≡ true → IsPruning kept served s now
+      → IsSome (now full) → IsSome (s full)
   was_there now full is was some = elim (was.outside full (served_not_staged full is)) [
     | inl same ↦ subst IsSome same some
     | inr gone ↦ absurd (none_some (now full) gone.0 some)
   ]
 
   -- a spare file that was removed, or wasn't yet
-  pub gone_one : (now from c : Files) (name full : List ℕ) (tile : TileAt) → HasFull name tile full → (tile.width < 256) × IsTileOf kept (full_of tile) × (IsTileOf served tile → ⊥) → IsSome (now full)
-      → IsPruning kept served s now → IsPruning kept served s from → Either (without name) from c → IsPruning kept served s c
+  pub gone_one : (now from c : Files) (name full : List ℕ) (tile : TileAt) → HasFull name tile full → (tile.width < 256)
+      × IsTileOf kept (full_of tile) × (IsTileOf served tile → ⊥) → IsSome (now full)
+      → IsPruning kept served s now → IsPruning kept served s from → Either (without name) from c
+      → IsPruning kept served s c
   gone_one now from c name full tile paths spare there seen before removed =
       let is : IsSpare kept served s name = record {
         tile = tile;
@@ -69,10 +77,13 @@ module _ (kept served : ℕ) (s : Files) where
 
 -- What a folder keeps, and what it serves, stays.
 module _ (served old : LogOf) (s : Files) (keeps : Keeps served old s) where
-  full_wins : (t u : TileAt) → t ≡ u → t.width < 256 → IsTileOf (length old.entries) (full_of t) → IsTileOf (length old.entries) u → ⊥
-  full_wins t u same part full is = let own : IsTileOf (length old.entries) t = subst (IsTileOf (length old.entries)) (sym same) is in omega (arith, own.width, full.width, part)
+  full_wins : (t u : TileAt) → t ≡ u → t.width < 256 → IsTileOf (length old.entries) (full_of t)
+      → IsTileOf (length old.entries) u → ⊥
+  full_wins t u same part full is = let own : IsTileOf (length old.entries) t = subst (IsTileOf (length old.entries))
+      (sym same) is in omega (arith, own.width, full.width, part)
 
-  tile_needed : (t u : TileAt) → t ≡ u → t.width < 256 → IsTileOf (length old.entries) (full_of t) → (IsTileOf (length served.entries) t → ⊥)
+  tile_needed : (t u : TileAt) → t ≡ u → t.width < 256 → IsTileOf (length old.entries) (full_of t)
+      → (IsTileOf (length served.entries) t → ⊥)
       → IsTileOf (length old.entries) u ⊎ IsTileOf (length served.entries) u → ⊥
   tile_needed t u same part full unserved (inl is) = full_wins t u same part full is
   tile_needed t u same part full unserved (inr is) = unserved (subst (IsTileOf (length served.entries)) (sym same) is)
@@ -109,11 +120,21 @@ module _ (served old : LogOf) (s : Files) (keeps : Keeps served old s) where
 
   not_spare : (n : List ℕ) → IsFileOf old n ⊎ IsFileOf served n
       → IsSpare (length old.entries) (length served.entries) s n → ⊥
-  not_spare n (inl (inl f)) = needed_not_spare n (f.0, width_at_most _ f.0 f.1.exists, inl f.1.exists, inl (f.1.level, f.2))
+  not_spare n (inl (inl f)) = needed_not_spare n (
+    f.0,
+    width_at_most _ f.0 f.1.exists,
+    inl f.1.exists,
+    inl (f.1.level, f.2),
+  )
   not_spare n (inl (inr (inl f))) =
       needed_not_spare n (f.0, width_at_most _ f.0 f.1.exists, inl f.1.exists, inr (f.1.level, f.2))
   not_spare n (inl (inr (inr f))) = page_not_spare n f.0.0 f.2
-  not_spare n (inr (inl f)) = needed_not_spare n (f.0, width_at_most _ f.0 f.1.exists, inr f.1.exists, inl (f.1.level, f.2))
+  not_spare n (inr (inl f)) = needed_not_spare n (
+    f.0,
+    width_at_most _ f.0 f.1.exists,
+    inr f.1.exists,
+    inl (f.1.level, f.2),
+  )
   not_spare n (inr (inr (inl f))) =
       needed_not_spare n (f.0, width_at_most _ f.0 f.1.exists, inr f.1.exists, inr (f.1.level, f.2))
   not_spare n (inr (inr (inr f))) = page_not_spare n f.0.0 f.2
@@ -121,10 +142,13 @@ module _ (served old : LogOf) (s : Files) (keeps : Keeps served old s) where
   module _ (c : Files) (was : IsPruning (length old.entries) (length served.entries) s c) where
     stays_at : (n : List ℕ) → IsFileOf old n ⊎ IsFileOf served n → c n ≡ s n
     stays_at n file = ⊎_elim (λ e. e) (λ gone. absurd (not_spare n file gone.1))
-        (was.outside n (served_not_staged n (⊎_elim (λ one. file_served old n one) (λ other. file_served served n other) file)))
+        (was.outside n (served_not_staged n
+        (⊎_elim (λ one. file_served old n one) (λ other. file_served served n other) file)))
 
     stays_own : (n : List ℕ) → is_staged n ≡ false → is_served n ≡ false → c n ≡ s n
-    stays_own n isnt unserved = ⊎_elim (λ e. e) (λ gone. absurd (apart (sym (path_served n gone.1.full gone.1.tile gone.1.paths).0 ∙ unserved))) (was.outside n isnt)
+    stays_own n isnt unserved = ⊎_elim (λ e. e)
+        (λ gone. absurd (apart (sym (path_served n gone.1.full gone.1.tile gone.1.paths).0 ∙ unserved)))
+        (was.outside n isnt)
 
     pub pruned_keeps : Keeps served old c
     pruned_keeps = same_kept served old s c stays_at (stays_own checkpoint refl refl) (stays_own state refl refl) keeps
@@ -139,7 +163,8 @@ module _ (served old : LogOf) (s : Files) (keeps : Keeps served old s) where
           });
           state = inl (record { can = keeps.can; text = stays_own state refl refl ∙ keeps.state });
           opened = inl (same_kept served old c (opened c)
-              (λ n is. same n (served_not_staged n (⊎_elim (λ one. file_served old n one) (λ other. file_served served n other) is)))
+              (λ n is. same n (served_not_staged n
+              (⊎_elim (λ one. file_served old n one) (λ other. file_served served n other) is)))
               (same checkpoint refl) (same state refl) pruned_keeps);
         }
 
@@ -148,8 +173,10 @@ pub served_pruned : (kept served : ℕ) (s c : Files) → IsPruning kept served 
 served_pruned kept served s c was n is = was.outside n (served_not_staged n is)
 
 -- a log whose folder was pruned
-pub prune_has : {F : Type 0} (seen : F → Files) (may_leave : F → Files → Type 0) (served old next : LogOf) (l : LogIn F) (folder : F) → Has seen may_leave served old next l
-    → IsPruning (length old.entries) (length served.entries) (seen l.folder) (seen folder) → ((n : List ℕ) → is_staged n ≡ true → seen folder n ≡ seen l.folder n) → Only (seen folder) (may_leave folder)
+pub prune_has : {F : Type 0} (seen : F → Files) (may_leave : F → Files → Type 0) (served old next : LogOf) (l : LogIn F)
+    (folder : F) → Has seen may_leave served old next l
+    → IsPruning (length old.entries) (length served.entries) (seen l.folder) (seen folder)
+    → ((n : List ℕ) → is_staged n ≡ true → seen folder n ≡ seen l.folder n) → Only (seen folder) (may_leave folder)
     → Has seen may_leave served old next (record l { folder = folder })
 prune_has seen may_leave served old next l folder has was same only = record {
   is_open = has.is_open;
@@ -163,9 +190,12 @@ prune_has seen may_leave served old next l folder has was same only = record {
   held = has.held;
   most = has.most;
   bundle = has.bundle;
-  staged = full_staged_same l.text.length l.edge.taken next (seen l.folder) (seen folder) (λ n. same (staged n) refl) has.staged;
-  pages = pages_stay served.pages old.pages next.pages (seen l.folder) (seen folder) (λ path. same (staged (page_name path)) refl) has.pages;
-  staging = λ c left. subst (λ (f : Files). IsBeside (seen folder) f) (sym (only c left)) (record { outside = λ n isnt. refl; no_mark = was.no_mark });
+  staged = full_staged_same l.text.length l.edge.taken next (seen l.folder) (seen folder)
+      (λ n. same (staged n) refl) has.staged;
+  pages = pages_stay served.pages old.pages next.pages (seen l.folder) (seen folder)
+      (λ path. same (staged (page_name path)) refl) has.pages;
+  staging = λ c left. subst (λ (f : Files). IsBeside (seen folder) f) (sym (only c left))
+      (record { outside = λ n isnt. refl; no_mark = was.no_mark });
 }
 
 -- a file of which something was read is there

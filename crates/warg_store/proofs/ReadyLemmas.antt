@@ -17,9 +17,15 @@ pub opened_mark : (s : Files) → opened s mark ≡ None
 opened_mark s = opened_mark_by s (s mark)
 
 ready_one : (t : Files) (may : Files → Type 0) → t mark ≡ None → Only t may → IsStaging t may
-ready_one t may none only c left = (record { outside = λ n isnt. ap (λ (f : Files). f n) (only c left); no_mark = ap (λ (f : Files). f mark) (only c left) ∙ none })
+ready_one t may none only c left =
+    (record {
+      outside = λ n isnt. ap (λ (f : Files). f n) (only c left);
+      no_mark = ap (λ (f : Files). f mark)
+          (only c left) ∙ none;
+    })
 
-pub ready : {T E : Type 0} (r : Result T E) (s t : Files) (may : Files → Type 0) → s mark ≡ None → OnOk r (t ≡ s) → OnOk r (Only t may) → OnOk r (IsStaging t may)
+pub ready : {T E : Type 0} (r : Result T E) (s t : Files) (may : Files → Type 0) → s mark ≡ None → OnOk r (t ≡ s)
+    → OnOk r (Only t may) → OnOk r (IsStaging t may)
 ready (Ok v) s t may none is only = ready_one t may (ap (λ (f : Files). f mark) is ∙ none) only
 ready (Err e) s t may none is only = is
 
@@ -34,10 +40,13 @@ opened_empty s n is = opened_by_none s (s mark) n is
 pub without_empty : (s : Files) → NothingStaged (without_staged s)
 without_empty s n is = rw is refl
 
-pub empty_by : {T E : Type 0} (r : Result T E) (s t : Files) → NothingStaged s → OnOk r (t ≡ s) → OnOk r (NothingStaged t)
+pub empty_by : {T E : Type 0} (r : Result T E) (s t : Files) → NothingStaged s → OnOk r (t ≡ s)
+    → OnOk r (NothingStaged t)
 empty_by (Ok v) s t none is = λ n staged. ap (λ (f : Files). f n) is ∙ none n staged
 empty_by (Err e) s t none is = is
 
 -- a call that changes nothing keeps a folder ready
-pub staging_kept : (s t : Files) (may may_now : Files → Type 0) → t ≡ s → Within may may_now → IsStaging s may → IsStaging t may_now
-staging_kept s t may may_now same within was c left = subst (λ (f : Files). IsBeside f c) (sym same) (was c (within c left))
+pub staging_kept : (s t : Files) (may may_now : Files → Type 0) → t ≡ s → Within may may_now → IsStaging s may
+    → IsStaging t may_now
+staging_kept s t may may_now same within was c left = subst (λ (f : Files). IsBeside f c) (sym same)
+    (was c (within c left))

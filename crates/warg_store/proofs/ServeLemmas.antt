@@ -16,12 +16,15 @@ pub opened_idle : (s : Files) (n : List ℕ) → s mark ≡ None → is_staged n
 opened_idle s n none isnt = ap (λ (o : Option (List ℕ)). opened_by o s n) none ∙ without_at s n isnt
 
 -- what stands at a served name once the folder has been opened
-opened_name : (s : Files) (n : List ℕ) (o : Option (List ℕ)) → s mark ≡ o → is_served n ≡ true → (opened s n ≡ s n) ⊎ (opened s n ≡ option_or (s (staged n)) (s n))
+opened_name : (s : Files) (n : List ℕ) (o : Option (List ℕ)) → s mark ≡ o → is_served n ≡ true → (opened s n ≡ s n)
+    ⊎ (opened s n ≡ option_or (s (staged n)) (s n))
 opened_name s n None stands is = inl (idle_same s n stands (served_not_own n is))
 opened_name s n (Some text) stands is = inr (opened_served s text n stands is)
 
 -- what stands at a served name once a commit stands
-pub committed_served : (s : Files) (text n : List ℕ) → is_served n ≡ true → committed text s n ≡ option_or (s (staged n)) (s n)
+pub committed_served : (s : Files) (text n : List ℕ) → is_served n ≡ true → committed text s n
+    ≡ option_or (s (staged n)) (s n)
 committed_served s text n is =
-    opened_served (put (mark, text) s) text n refl is ∙ ap (λ (o : Option (List ℕ)). option_or o (put (mark, text) s n)) (put_apart (mark, text) s (staged n) (λ here. mark_not_staged_file n is (sym here)))
+    opened_served (put (mark, text) s) text n refl is ∙ ap (λ (o : Option (List ℕ)). option_or o (put (mark, text) s n))
+    (put_apart (mark, text) s (staged n) (λ here. mark_not_staged_file n is (sym here)))
     ∙ ap (λ (o : Option (List ℕ)). option_or (s (staged n)) o) (unmarked s text n (served_not_own n is))

@@ -18,23 +18,32 @@ use Rattle.warg_store.proofs.OpenLemmas.{text_parts}
 
 -- A note over a text.
 
-pub note_from : (text note rest : List ℕ) → pointwise nat_eq (take (length text) note) text ≡ true → rest ≡ drop (length text) note → 1 < length rest → get_or rest 0 0 ≡ 10 → IsNoteOf text note
+pub note_from : (text note rest : List ℕ) → pointwise nat_eq (take (length text) note) text ≡ true
+    → rest ≡ drop (length text) note → 1 < length rest → get_or rest 0 0 ≡ 10 → IsNoteOf text note
 note_from text note rest begins is more newline = of rest more newline
-    (sym (take-append-drop (length text) note) ∙ ap (λ (l : List ℕ). l ++ drop (length text) note) ((bytes_decides (take (length text) note) text).0 begins) ∙ ap (λ (l : List ℕ). text ++ l) (sym is))
+    (sym (take-append-drop (length text) note) ∙ ap (λ (l : List ℕ). l ++ drop (length text) note)
+    ((bytes_decides (take (length text) note) text).0 begins) ∙ ap (λ (l : List ℕ). text ++ l) (sym is))
   where
     of : (r : List ℕ) → 1 < length r → get_or r 0 0 ≡ 10 → note ≡ text ++ r → IsNoteOf text note
     of [] some first e = absurd (omega arith)
     of (a ∷ []) some first e = absurd (omega arith)
     of (a ∷ b ∷ bytes) some first e = (b, bytes, e ∙ ap (λ x. text ++ (x ∷ b ∷ bytes)) first)
 
-pub note_back : (text note : List ℕ) → IsNoteOf text note → (pointwise nat_eq (take (length text) note) text ≡ true) × (1 < length (drop (length text) note)) × (get_or (drop (length text) note) 0 0 ≡ 10)
+pub note_back : (text note : List ℕ) → IsNoteOf text note → (pointwise nat_eq (take (length text) note) text ≡ true)
+    × (1 < length (drop (length text) note)) × (get_or (drop (length text) note) 0 0 ≡ 10)
 note_back text note (first, behind, is) =
-    let front : take (length text) note ≡ text = ap (take (length text)) is ∙ take_at text (10 ∷ first ∷ behind) (length text) refl in
-    let rest : drop (length text) note ≡ 10 ∷ first ∷ behind = ap (drop (length text)) is ∙ drop_at text (10 ∷ first ∷ behind) (length text) refl in
-    ((bytes_decides (take (length text) note) text).1 front, omega (arith, ap (λ (l : List ℕ). length l) rest), ap (λ (l : List ℕ). get_or l 0 0) rest)
+    let front : take (length text) note ≡ text = ap (take (length text)) is ∙ take_at text (10 ∷ first ∷ behind)
+    (length text) refl in
+    let rest : drop (length text) note ≡ 10 ∷ first ∷ behind = ap (drop (length text)) is
+    ∙ drop_at text (10 ∷ first ∷ behind) (length text) refl in (
+      (bytes_decides (take (length text) note) text).1 front,
+      omega (arith, ap (λ (l : List ℕ). length l) rest),
+      ap (λ (l : List ℕ). get_or l 0 0) rest,
+    )
 
 -- what is staged, where the staged files are the same
-pub full_staged_same : (older taken : ℕ) (log : LogOf) (s t : Files) → ((n : List ℕ) → t (staged n) ≡ s (staged n)) → AreFullStaged older taken log s → AreFullStaged older taken log t
+pub full_staged_same : (older taken : ℕ) (log : LogOf) (s t : Files) → ((n : List ℕ) → t (staged n) ≡ s (staged n))
+    → AreFullStaged older taken log s → AreFullStaged older taken log t
 full_staged_same older taken log s t same was = record {
   tile = λ u low is. same (tile_path u) ∙ was.tile u low is;
   bundle = λ u level is. same (entries_path u) ∙ was.bundle u level is;
@@ -49,16 +58,22 @@ module _ (note : List ℕ) (s : Files) where
   not_own n is e = apart (sym is ∙ ap is_own (sym e))
 
   -- a folder that keeps a log serves it once its note is the checkpoint
-  pub sign_keeps : (served old : LogOf) → IsNoteOf (checkpoint_of old) note → Keeps served old s → Keeps old old (put (checkpoint, note) s)
+  pub sign_keeps : (served old : LogOf) → IsNoteOf (checkpoint_of old) note → Keeps served old s
+      → Keeps old old (put (checkpoint, note) s)
   sign_keeps served old is keeps =
-      let same : (n : List ℕ) → IsFileOf old n → put (checkpoint, note) s n ≡ s n = λ n file. other n (served_not_checkpoint n (file_served old n file)) in
+      let same : (n : List ℕ) → IsFileOf old n → put (checkpoint, note) s n ≡ s n =
+      λ n file. other n (served_not_checkpoint n (file_served old n file)) in
       record {
         can = keeps.can;
         state = other state (not_own state refl) ∙ keeps.state;
         holds = same_files old s (put (checkpoint, note) s) same keeps.holds;
         serves = record {
           can = keeps.can;
-          checkpoint = (Some (is.0 ∷ is.1), put_here (checkpoint, note) s ∙ ap (λ (b : List ℕ). Some b) (is.2 ∙ sym (text_parts (said_of old) (Some (is.0 ∷ is.1)))));
+          checkpoint = (
+            Some (is.0 ∷ is.1),
+            put_here (checkpoint, note) s
+                ∙ ap (λ (b : List ℕ). Some b) (is.2 ∙ sym (text_parts (said_of old) (Some (is.0 ∷ is.1)))),
+          );
           holds = same_files old s (put (checkpoint, note) s) same keeps.holds;
         };
         begins = extends_self old;
@@ -78,20 +93,24 @@ module _ (note : List ℕ) (s : Files) where
         | inr differ ↦ rw (differ.0) (was.outside n isnt)
       ]
 
-  pub sign_staging : (may now : Files → Type 0) → Follows (λ d c. c ≡ put (checkpoint, note) d) may now → IsStaging s may → IsStaging (put (checkpoint, note) s) now
+  pub sign_staging : (may now : Files → Type 0) → Follows (λ d c. c ≡ put (checkpoint, note) d) may now
+      → IsStaging s may → IsStaging (put (checkpoint, note) s) now
   sign_staging may now follows was c left =
       let from = follows c left in
       subst (λ (f : Files). IsBeside (put (checkpoint, note) s) f) (sym from.2) (beside_put from.0 (was from.0 from.1))
 
   -- at each moment the folder serves the log that it served, or the one that it keeps
-  pub sign_moment : (served old : LogOf) (may now : Files → Type 0) → IsNoteOf (checkpoint_of old) note → Keeps served old s → Follows (Either (put (checkpoint, note))) may now → IsStaging s may
+  pub sign_moment : (served old : LogOf) (may now : Files → Type 0) → IsNoteOf (checkpoint_of old) note
+      → Keeps served old s → Follows (Either (put (checkpoint, note))) may now → IsStaging s may
       → (c : Files) → now c → IsOneOf served old old c
   sign_moment served old may now is keeps follows was c left =
       let from = follows c left in
       elim (from.2) [
-        | inl same ↦ beside_one_of served old old s c keeps (subst (λ (f : Files). IsBeside s f) (sym same) (was from.0 from.1))
+        | inl same ↦ beside_one_of served old old s c keeps
+            (subst (λ (f : Files). IsBeside s f) (sym same) (was from.0 from.1))
         | inr signed ↦ later (beside_one_of old old old (put (checkpoint, note) s) c (sign_keeps served old is keeps)
-            (subst (λ (f : Files). IsBeside (put (checkpoint, note) s) f) (sym signed) (beside_put from.0 (was from.0 from.1))))
+            (subst (λ (f : Files). IsBeside (put (checkpoint, note) s) f) (sym signed)
+            (beside_put from.0 (was from.0 from.1))))
       ]
     where
       later : IsOneOf old old old c → IsOneOf served old old c
@@ -102,13 +121,19 @@ module _ (note : List ℕ) (s : Files) where
       }
 
 -- where no call is made, it serves what it served
-pub unsigned : {F : Type 0} (seen : F → Files) (may_leave : F → Files → Type 0) (moment : F → ℕ) (left_since : F → ℕ → Files → Type 0) (served old next : LogOf) (l : LogIn F)
-    → ((c : Files) → left_since l.folder (moment l.folder) c → may_leave l.folder c) → Has seen may_leave served old next l → LeavesOnly moment left_since l.folder l.folder (IsOneOf served old old)
-unsigned seen may_leave moment left_since served old next l now has = stays moment left_since l.folder (IsOneOf served old old) (λ c left. beside_one_of served old old (seen l.folder) c has.keeps (has.staging c (now c left)))
+pub unsigned : {F : Type 0} (seen : F → Files) (may_leave : F → Files → Type 0) (moment : F → ℕ)
+    (left_since : F → ℕ → Files → Type 0) (served old next : LogOf) (l : LogIn F)
+    → ((c : Files) → left_since l.folder (moment l.folder) c → may_leave l.folder c)
+    → Has seen may_leave served old next l → LeavesOnly moment left_since l.folder l.folder (IsOneOf served old old)
+unsigned seen may_leave moment left_since served old next l now has = stays moment left_since l.folder
+    (IsOneOf served old old) (λ c left. beside_one_of served old old (seen l.folder) c has.keeps
+    (has.staging c (now c left)))
 
 -- a log whose note is served
-pub sign_has : {F : Type 0} (seen : F → Files) (may_leave : F → Files → Type 0) (served old next : LogOf) (l : LogIn F) (folder : F) (note : List ℕ) → IsNoteOf (checkpoint_of old) note
-    → seen folder ≡ put (checkpoint, note) (seen l.folder) → Follows (λ d c. c ≡ put (checkpoint, note) d) (may_leave l.folder) (may_leave folder) → Has seen may_leave served old next l
+pub sign_has : {F : Type 0} (seen : F → Files) (may_leave : F → Files → Type 0) (served old next : LogOf) (l : LogIn F)
+    (folder : F) (note : List ℕ) → IsNoteOf (checkpoint_of old) note
+    → seen folder ≡ put (checkpoint, note) (seen l.folder) → Follows (λ d c. c ≡ put (checkpoint, note) d)
+    (may_leave l.folder) (may_leave folder) → Has seen may_leave served old next l
     → Has seen may_leave old old next (record l { folder = folder })
 sign_has seen may_leave served old next l folder note is put_is follows has = record {
   is_open = has.is_open;
@@ -124,8 +149,11 @@ sign_has seen may_leave served old next l folder note is put_is follows has = re
   bundle = has.bundle;
   pages = pages_beside served.pages old.pages old.pages next.pages (seen l.folder) (seen folder) (λ path has. has)
       (λ path. ap (λ (f : Files). f (staged (page_name path))) put_is
-      ∙ put_apart (checkpoint, note) (seen l.folder) (staged (page_name path)) (λ e. apart (ap is_own (sym e)))) has.pages;
+      ∙ put_apart (checkpoint, note) (seen l.folder) (staged (page_name path)) (λ e. apart (ap is_own (sym e))))
+      has.pages;
   staged = subst (λ (f : Files). AreFullStaged l.text.length l.edge.taken next f) (sym put_is)
-      (full_staged_same l.text.length l.edge.taken next (seen l.folder) (put (checkpoint, note) (seen l.folder)) (λ n. put_apart (checkpoint, note) (seen l.folder) (staged n) (λ e. apart (ap is_own (sym e)))) has.staged);
-  staging = subst (λ (f : Files). IsStaging f (may_leave folder)) (sym put_is) (sign_staging note (seen l.folder) (may_leave l.folder) (may_leave folder) follows has.staging);
+      (full_staged_same l.text.length l.edge.taken next (seen l.folder) (put (checkpoint, note) (seen l.folder))
+      (λ n. put_apart (checkpoint, note) (seen l.folder) (staged n) (λ e. apart (ap is_own (sym e)))) has.staged);
+  staging = subst (λ (f : Files). IsStaging f (may_leave folder)) (sym put_is)
+      (sign_staging note (seen l.folder) (may_leave l.folder) (may_leave folder) follows has.staging);
 }

@@ -21,50 +21,66 @@ new_files-append : (older : ℕ) (xs ys : Tiles) → new_files older (xs ++ ys) 
 new_files-append older [] ys = refl
 new_files-append older (t ∷ ts) ys = elim (cases_Bool (nat_le (tile_end t.0) older)) [
   | inl old ↦ rw old (new_files-append older ts ys)
-  | inr new ↦ rw new (ap (λ (fs : List File). (tile_path t.0, flat_map (λ digest. digest) t.1) ∷ fs) (new_files-append older ts ys))
+  | inr new ↦ rw new (ap (λ (fs : List File). (tile_path t.0, flat_map (λ digest. digest) t.1) ∷ fs)
+      (new_files-append older ts ys))
 ]
 
 -- one tile more
-pub one_more : (X : Type 0) (tile : X → TileAt × List (List ℕ)) (older : ℕ) (xs : List X) (i : ℕ) (x : X) → i < length xs → x ≡ get_or xs i x → (s now new : Files)
-    → now ≡ staged_all (new_files older (map tile (take i xs))) s → new ≡ staged_all (new_files older (tile x ∷ [])) now → new ≡ staged_all (new_files older (map tile (take (i + 1) xs))) s
+pub one_more : (X : Type 0) (tile : X → TileAt × List (List ℕ)) (older : ℕ) (xs : List X) (i : ℕ) (x : X)
+    → i < length xs → x ≡ get_or xs i x → (s now new : Files)
+    → now ≡ staged_all (new_files older (map tile (take i xs))) s → new ≡ staged_all (new_files older (tile x ∷ [])) now
+    → new ≡ staged_all (new_files older (map tile (take (i + 1) xs))) s
 one_more X tile older xs i x below is s now new so_far more =
-    let all : map tile (take (i + 1) xs) ≡ map tile (take i xs) ++ tile x ∷ [] = ap (map tile) (take_more xs i x below ∙ ap (λ (y : X). take i xs ++ y ∷ []) (sym is)) ∙ map-append tile (take i xs) (x ∷ []) in
+    let all : map tile (take (i + 1) xs) ≡ map tile (take i xs) ++ tile x ∷ [] =
+    ap (map tile) (take_more xs i x below ∙ ap (λ (y : X). take i xs ++ y ∷ []) (sym is))
+    ∙ map-append tile (take i xs) (x ∷ []) in
     more ∙ ap (staged_all (new_files older (tile x ∷ []))) so_far
-    ∙ sym (ap (λ (fs : List File). staged_all fs s) (ap (new_files older) all ∙ new_files-append older (map tile (take i xs)) (tile x ∷ []))
+    ∙ sym (ap (λ (fs : List File). staged_all fs s)
+    (ap (new_files older) all ∙ new_files-append older (map tile (take i xs)) (tile x ∷ []))
     ∙ staged_all-append (new_files older (map tile (take i xs))) (new_files older (tile x ∷ [])) s)
 
 -- a tile that the older log has isn't staged, and one that it hasn't is
-pub old_tile : (older : ℕ) (t : TileAt × List (List ℕ)) (s : Files) → tile_end t.0 ≤ older → s ≡ staged_all (new_files older (t ∷ [])) s
+pub old_tile : (older : ℕ) (t : TileAt × List (List ℕ)) (s : Files) → tile_end t.0 ≤ older
+    → s ≡ staged_all (new_files older (t ∷ [])) s
 old_tile older t s old = rw (le-leb (tile_end t.0) older old) refl
 
-pub new_tile : (older : ℕ) (t : TileAt × List (List ℕ)) (s : Files) → (tile_end t.0 ≤ older → ⊥) → put (staged (tile_path t.0), flat_map (λ digest. digest) t.1) s ≡ staged_all (new_files older (t ∷ [])) s
-new_tile older t s new = rw (lt-leb (tile_end t.0) older (elim (cases_lt older (tile_end t.0)) [ inl lt ↦ lt | inr le ↦ absurd (new le) ])) refl
+pub new_tile : (older : ℕ) (t : TileAt × List (List ℕ)) (s : Files) → (tile_end t.0 ≤ older → ⊥)
+    → put (staged (tile_path t.0), flat_map (λ digest. digest) t.1) s ≡ staged_all (new_files older (t ∷ [])) s
+new_tile older t s new = rw (lt-leb (tile_end t.0) older
+    (elim (cases_lt older (tile_end t.0)) [ inl lt ↦ lt | inr le ↦ absurd (new le) ])) refl
 
 -- nothing but staged names changes
 pub staged_outside : (fs : List File) (s : Files) (n : List ℕ) → is_staged n ≡ false → staged_all fs s n ≡ s n
 staged_outside [] s n isnt = refl
-staged_outside (f ∷ fs) s n isnt = staged_outside fs (put (staged f.0, f.1) s) n isnt ∙ put_apart (staged f.0, f.1) s n (λ e. apart (ap is_staged e ∙ isnt))
+staged_outside (f ∷ fs) s n isnt = staged_outside fs (put (staged f.0, f.1) s) n isnt ∙ put_apart (staged f.0, f.1) s n
+    (λ e. apart (ap is_staged e ∙ isnt))
 
 -- a file that is among them stands where it is staged
-pub staged_there : (fs : List File) (s : Files) (n b : List ℕ) → AllByRecursion (λ f. f.0 ≡ n → f.1 ≡ b) fs → IsNameOf fs n ⊎ (s (staged n) ≡ Some b) → staged_all fs s (staged n) ≡ Some b
+pub staged_there : (fs : List File) (s : Files) (n b : List ℕ) → AllByRecursion (λ f. f.0 ≡ n → f.1 ≡ b) fs
+    → IsNameOf fs n ⊎ (s (staged n) ≡ Some b) → staged_all fs s (staged n) ≡ Some b
 staged_there [] s n b same at = ⊎_elim (λ none. absurd none) (λ e. e) at
 staged_there (f ∷ fs) s n b same at = staged_there fs (put (staged f.0, f.1) s) n b same.1 (elim (one_name f.0 n) [
-  | inl here ↦ inr (subst (λ (m : List ℕ). put (staged f.0, f.1) s (staged m) ≡ Some b) here.1 (put_here (staged f.0, f.1) s ∙ ap (λ (c : List ℕ). Some c) (same.0 here.1)))
-  | inr other ↦ ⊎_elim (⊎_elim (λ e. absurd (other.1 e)) (λ rest. inl rest)) (λ e. inr (put_apart (staged f.0, f.1) s (staged n) (λ e. other.1 (staged_once f.0 n e)) ∙ e)) at
+  | inl here ↦ inr (subst (λ (m : List ℕ). put (staged f.0, f.1) s (staged m) ≡ Some b) here.1
+      (put_here (staged f.0, f.1) s ∙ ap (λ (c : List ℕ). Some c) (same.0 here.1)))
+  | inr other ↦ ⊎_elim (⊎_elim (λ e. absurd (other.1 e)) (λ rest. inl rest))
+      (λ e. inr (put_apart (staged f.0, f.1) s (staged n) (λ e. other.1 (staged_once f.0 n e)) ∙ e)) at
 ])
 
 -- what is staged is one of them, or was staged before
-pub staged_from : (P : File → Type 0) (fs : List File) (s : Files) (n : List ℕ) → AllByRecursion P fs → IsSome (staged_all fs s (staged n)) → IsSome (s (staged n)) ⊎ ((f : File) × P f × (f.0 ≡ n))
+pub staged_from : (P : File → Type 0) (fs : List File) (s : Files) (n : List ℕ) → AllByRecursion P fs
+    → IsSome (staged_all fs s (staged n)) → IsSome (s (staged n)) ⊎ ((f : File) × P f × (f.0 ≡ n))
 staged_from P [] s n each some = inl some
 staged_from P (f ∷ fs) s n each some = elim (staged_from P fs (put (staged f.0, f.1) s) n each.1 some) [
   | inl here ↦ elim (one_name f.0 n) [
     | inl same ↦ inr (f, each.0, same.1)
-    | inr other ↦ inl (subst IsSome (put_apart (staged f.0, f.1) s (staged n) (λ e. other.1 (staged_once f.0 n e))) here)
+    | inr other ↦ inl (subst IsSome (put_apart (staged f.0, f.1) s (staged n) (λ e. other.1 (staged_once f.0 n e)))
+        here)
   ]
   | inr later ↦ inr later
 ]
 
-pub all_weaker : (P Q : File → Type 0) → ((f : File) → P f → Q f) → (fs : List File) → AllByRecursion P fs → AllByRecursion Q fs
+pub all_weaker : (P Q : File → Type 0) → ((f : File) → P f → Q f) → (fs : List File) → AllByRecursion P fs
+    → AllByRecursion Q fs
 all_weaker P Q weak [] each = tt
 all_weaker P Q weak (f ∷ fs) each = (weak f each.0, all_weaker P Q weak fs each.1)
 

@@ -47,7 +47,8 @@ no_fault_more beyond (refused.RolledBack found newest) none = none
 no_fault_more beyond (refused.OutOfRange bound) none = absurd none
 no_fault_more beyond (refused.Folder cause) none = none
 
-pub err_no_fault : {T : Type 0} (beyond : Type 0) (e : LogError) (r : Result T LogError) → IsErrAnd r (λ f. f ≡ e) → IsNoFault ⊥ e → IfErr r (IsNoFault beyond)
+pub err_no_fault : {T : Type 0} (beyond : Type 0) (e : LogError) (r : Result T LogError) → IsErrAnd r (λ f. f ≡ e)
+    → IsNoFault ⊥ e → IfErr r (IsNoFault beyond)
 err_no_fault beyond e r is none = err_same (IsNoFault beyond) e r is (no_fault_more beyond e none)
 
 -- two checkpoints of one root and one length are equal
@@ -55,7 +56,8 @@ pub same_checkpoint : (r s : List ℕ) (m n : ℕ) → r ≡ s → m ≡ n → (
 same_checkpoint r s m n root length = rw ((bytes_decides r s).1 root, eq-eqb m n length) refl
 
 -- what a slice has at a place within it
-pub got : {X : Type 0} (r : Option (Bor X)) (x : X) → IsSome r → unwrap_or (option_map (λ (y : Bor X). y.now) r) x ≡ x → option_copied r ≡ Some x
+pub got : {X : Type 0} (r : Option (Bor X)) (x : X) → IsSome r → unwrap_or (option_map (λ (y : Bor X). y.now) r) x ≡ x
+    → option_copied r ≡ Some x
 got (Some y) x some is = ap (λ z. Some z) is
 got None x some is = absurd (cc)
 
@@ -70,52 +72,68 @@ tiles_none wanted given is = subst (λ (g : List TileAt). tiles_fault wanted g �
     same [] = refl
     same (t ∷ ts) = rw (tile_none t) (same ts)
 
-pub places_of : {X : Type 0} (tile_of : X → TileAt) (digests_of : X → List (List ℕ)) (xs : List X) → map (λ (t : TileAt × List (List ℕ)). t.0) (map (λ x. (tile_of x, digests_of x)) xs) ≡ map tile_of xs
+pub places_of : {X : Type 0} (tile_of : X → TileAt) (digests_of : X → List (List ℕ)) (xs : List X)
+    → map (λ (t : TileAt × List (List ℕ)). t.0) (map (λ x. (tile_of x, digests_of x)) xs) ≡ map tile_of xs
 places_of tile_of digests_of [] = refl
 places_of tile_of digests_of (x ∷ xs) = ap (λ (ts : List TileAt). tile_of x ∷ ts) (places_of tile_of digests_of xs)
 
 -- an edge that isn't refused for its tiles is for memory
-pub only_memory : {X : Type 0} (error : OpenError) → (◌≡◌ {A = Result X OpenError} (Err error) (Err open_error.Count) → ⊥) → (◌≡◌ {A = Result X OpenError} (Err error) (Err open_error.Place) → ⊥) → (◌≡◌ {A = Result X OpenError} (Err error) (Err open_error.Width) → ⊥) → error ≡ open_error.Memory
+pub only_memory : {X : Type 0} (error : OpenError) → (◌≡◌ {A = Result X OpenError} (Err error) (Err open_error.Count)
+    → ⊥) → (◌≡◌ {A = Result X OpenError} (Err error) (Err open_error.Place) → ⊥)
+    → (◌≡◌ {A = Result X OpenError} (Err error) (Err open_error.Width) → ⊥) → error ≡ open_error.Memory
 only_memory open_error.Count count place width = absurd (count refl)
 only_memory open_error.Place count place width = absurd (place refl)
 only_memory open_error.Width count place width = absurd (width refl)
 only_memory open_error.Memory count place width = refl
 
 -- a bundle of the log has as many entries as it is wide
-pub bundle_count : (log : LogOf) (t : TileAt) (es : List (List ℕ)) → IsBundleIn log t → bundle_of es ≡ bundle_bytes log t → length es ≡ t.width
+pub bundle_count : (log : LogOf) (t : TileAt) (es : List (List ℕ)) → IsBundleIn log t
+    → bundle_of es ≡ bundle_bytes log t → length es ≡ t.width
 bundle_count log t es is same =
     let behind = drop (256 * t.number) log.entries in
     let one : 2 ^ (8 * t.level) ≡ 1 = ap (λ l. 2 ^ (8 * l)) is.level in
-    let end : (256 * t.number + t.width) * 2 ^ (8 * t.level) ≤ length log.entries = end_inside (length log.entries) t is.exists in
+    let end : (256 * t.number + t.width) * 2 ^ (8 * t.level) ≤ length log.entries =
+    end_inside (length log.entries) t is.exists in
     let inside : 256 * t.number + t.width ≤ length log.entries = omega (arith, rw one at end) in
-    ap length (bundle_same es (take t.width behind) same) ∙ length-take-le t.width behind (omega (arith, length-drop (256 * t.number) log.entries, inside))
+    ap length (bundle_same es (take t.width behind) same) ∙ length-take-le t.width behind
+    (omega (arith, length-drop (256 * t.number) log.entries, inside))
 
 -- a text that says something has no fault, but that memory is refused
-pub text_no_fault : (said : Said) (behind : Option (List ℕ)) (bytes : List ℕ) (error : CheckpointTextError) → CanBeSaid said → bytes ≡ text_before said behind → IsFirstFault bytes error → error ≡ text.Memory
+pub text_no_fault : (said : Said) (behind : Option (List ℕ)) (bytes : List ℕ) (error : CheckpointTextError)
+    → CanBeSaid said → bytes ≡ text_before said behind → IsFirstFault bytes error → error ≡ text.Memory
 text_no_fault said behind bytes text.Origin can is fault = absurd (fault (said.origin, _, can.origin, is))
-text_no_fault said behind bytes text.Length can is fault = absurd (fault.1 (said.origin, said.length, _, can.origin, can.length, is))
-text_no_fault said behind bytes text.Root can is fault = absurd (fault.1 (said.origin, said.length, said.root, _, can.origin, can.length, can.root, is))
+text_no_fault said behind bytes text.Length can is fault =
+    absurd (fault.1 (said.origin, said.length, _, can.origin, can.length, is))
+text_no_fault said behind bytes text.Root can is fault =
+    absurd (fault.1 (said.origin, said.length, said.root, _, can.origin, can.length, can.root, is))
 text_no_fault said behind bytes text.Extension can is fault = absurd (fault.1 (said, behind, can, is))
 text_no_fault said behind bytes text.Memory can is fault = refl
 
 -- a log that continues another and has no more entries is that one
 pub extends_same : (first log : LogOf) → Extends first log → length log.entries ≤ length first.entries → log ≡ first
-extends_same first log extends short = sym (same_length first log extends (omega (arith, short, extends_length first log extends)))
+extends_same first log extends short =
+    sym (same_length first log extends (omega (arith, short, extends_length first log extends)))
 
 -- a folder's log is served whole unless the checkpoint is signed
-pub short_signed : (first log : LogOf) (files : Files) → Keeps first log files → length first.entries < length log.entries → is_signed (files checkpoint) ≡ false → ⊥
-short_signed first log files keeps less unsigned = omega (arith, less, ap (λ (l : LogOf). length l.entries) (keeps.newest unsigned))
+pub short_signed : (first log : LogOf) (files : Files) → Keeps first log files
+    → length first.entries < length log.entries → is_signed (files checkpoint) ≡ false → ⊥
+short_signed first log files keeps less unsigned =
+    omega (arith, less, ap (λ (l : LogOf). length l.entries) (keeps.newest unsigned))
 
-pub served_most : (first log : LogOf) (files : Files) → Keeps first log files → length first.entries ≤ length log.entries
+pub served_most : (first log : LogOf) (files : Files) → Keeps first log files
+    → length first.entries ≤ length log.entries
 served_most first log files keeps = extends_length first log keeps.begins
 
 -- the text of a commit that stands is that of the log once the folder has been opened
-pub mark_fits : (served log : LogOf) (files : Files) (text : List ℕ) → files mark ≡ Some text → HasLog served log (opened files) → length text ≤ 2 ^ 20
+pub mark_fits : (served log : LogOf) (files : Files) (text : List ℕ) → files mark ≡ Some text
+    → HasLog served log (opened files) → length text ≤ 2 ^ 20
 mark_fits served log files text stands has = by_state has (ap (λ (o : Option (List ℕ)). opened_by o files state) stands)
   where
     by_state : HasLog served log (opened files) → opened files state ≡ Some text → length text ≤ 2 ^ 20
-    by_state (inl keeps) is = let both : Some text ≡ Some (checkpoint_of log) = sym is ∙ keeps.state in let same : text ≡ checkpoint_of log = cc in omega (arith, ap length same, keeps.can.text)
-    by_state (inr (same, none, serves)) is = absurd (let both : ◌≡◌ {A = Option (List ℕ)} (Some text) None = sym is ∙ none in cc)
+    by_state (inl keeps) is = let both : Some text ≡ Some (checkpoint_of log) = sym is ∙ keeps.state in
+        let same : text ≡ checkpoint_of log = cc in omega (arith, ap length same, keeps.can.text)
+    by_state (inr (same, none, serves)) is = absurd (let both : ◌≡◌ {A = Option (List ℕ)} (Some text) None = sym is
+        ∙ none in cc)
 
 -- who has a log serves one
 pub has_serves : (served log : LogOf) (files : Files) → HasLog served log files → Serves served files
@@ -123,14 +141,16 @@ has_serves served log files (inl keeps) = keeps.serves
 has_serves served log files (inr (same, none, serves)) = subst (λ (l : LogOf). Serves l files) (sym same) serves
 
 -- what is served is older than the log, or the log
-pub served_is : (first log : LogOf) (files : Files) → Keeps first log files → (length first.entries < length log.entries) ⊎ (log ≡ first)
+pub served_is : (first log : LogOf) (files : Files) → Keeps first log files
+    → (length first.entries < length log.entries) ⊎ (log ≡ first)
 served_is first log files keeps = elim (cases_lt (length first.entries) (length log.entries)) [
   | inl older ↦ inl older
   | inr whole ↦ inr (extends_same first log keeps.begins whole)
 ]
 
 -- a checkpoint is known by its root and its length
-pub same_said : (c : RootAndLength) (said : Said) → c.root ≡ said.root → c.length ≡ said.length → c ≡ checkpoint_said said
+pub same_said : (c : RootAndLength) (said : Said) → c.root ≡ said.root → c.length ≡ said.length
+    → c ≡ checkpoint_said said
 same_said c said root length = λ i. record { root = root i; length = length i }
 
 -- What stands at each moment of a commit: one of the logs is served, and the state is one's.

@@ -21,6 +21,10 @@ pub record LogOf : Type 0 where
   pub lines : List (List ℕ)
   pub pages : List File
 
+-- The log of no entries with this origin.
+abbrev pub no_entries : List ℕ → LogOf
+no_entries origin = record { origin = origin; entries = []; lines = []; pages = [] }
+
 -- What the log's checkpoint says.
 abbrev pub said_of : LogOf → Said
 said_of log = record {

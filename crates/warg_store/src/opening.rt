@@ -6,7 +6,7 @@ ghost use Rattle.warg_tiles.specs.CheckpointText.{Said, CanBeSaid, text_before};
 ghost use Rattle.warg_store.specs.Files.{SameBut};
 ghost use Rattle.warg_store.specs.Moments.{Only, Within, Elapses, LeavesOnly, HasCause, HasCauseOf, HasLostCause};
 ghost use Rattle.warg_store.specs.Growing.{IsReady, Has};
-ghost use Rattle.warg_store.specs.Log.{LogOf, CanBeKept, Serves, Keeps, HasLog, IsOneOf, said_of};
+ghost use Rattle.warg_store.specs.Log.{LogOf, CanBeKept, no_entries, Serves, Keeps, HasLog, IsOneOf, said_of};
 ghost use Rattle.warg_store.specs.Names.{checkpoint, state, mark};
 ghost use Rattle.warg_store.specs.Opening.{IsStaging, CanBeServed, AgreesWith, IsTakenOver, IsOpening, opened};
 ghost use Rattle.warg_store.specs.Refusals.{IsNoFault, IsNoFailure};
@@ -65,10 +65,10 @@ impl<F: Folder + Drop> LogFolder<F> {
     pub fn create(alloc: Global, mut folder: F, origin: &[u8]) -> Result<LogFolder<F>, CreateError>
         ensures ready { F.IsFaithful → IfOk result (IsReady F.seen F.may_leave) }
         ensures empty { IfOk result (λ log. (log.edge.len ≡ 0) × (log.text.origin ≡ origin.now)) }
-        ensures has { F.IsFaithful → IfOk result (λ log. let none : LogOf = record { origin = origin.now; entries = []; lines = []; pages = [] } in
+        ensures has { F.IsFaithful → IfOk result (λ log. let none = no_entries origin.now in
             Has F.seen F.may_leave none none none log) }
         ensures origin { result ≡ Err CreateError.Origin → (65535 < length origin.now)
-            ⊎ (CanBeKept (record { origin = origin.now; entries = [] }) → ⊥) }
+            ⊎ (CanBeKept (no_entries origin.now) → ⊥) }
         ensures cause { HasLostCause F.faults (CreateError.Folder FolderError.Failed) F.IsFaithful folder result }
     {
         if origin.len() > 65_535 {

@@ -9,43 +9,68 @@ use Rattle.warg_witness.specs.declared.divergence.Divergence.{Divergence}
 use Rattle.warg_witness.specs.declared.divergence.Divergence.TheVariants.{Target, Branch}
 
 -- where two evaluations part, what stands in one place stands in another
-pub parts_placed : {D : Type 0} (H : List ℕ → List ℕ) {P Q : List ℕ → List ℕ → Type 0} {A B : Type 0} (p : Divergence D) → ((l r : List ℕ) → P l r → Q l r) → (A → B) → Parts H P A p → Parts H Q B p
+pub parts_placed : {D : Type 0} (H : List ℕ → List ℕ) {P Q : List ℕ → List ℕ → Type 0} {A B : Type 0} (p : Divergence D)
+    → ((l r : List ℕ) → P l r → Q l r) → (A → B) → Parts H P A p → Parts H Q B p
 parts_placed H Target placed meet is = meet is
 parts_placed H (Branch branches) placed meet is = record { collides = is.collides; placed = placed _ _ is.placed }
 
 -- they show their branches' inputs, or those that are given
-pub shown : {D : Type 0} {H : List ℕ → List ℕ} {P Q : List ℕ → List ℕ → Type 0} {A : Type 0} (p : Divergence D) → ((l r : List ℕ) → P l r → Q l r) → (first second : List ℕ) → (A → Shows H Q (first, second))
+pub shown : {D : Type 0} {H : List ℕ → List ℕ} {P Q : List ℕ → List ℕ → Type 0} {A : Type 0} (p : Divergence D)
+    → ((l r : List ℕ) → P l r → Q l r) → (first second : List ℕ) → (A → Shows H Q (first, second))
     → Parts H P A p → Shows H Q (inputs_of p first second)
 shown Target placed first second meet is = meet is
 shown (Branch branches) placed first second meet is = record { collides = is.collides; placed = placed _ _ is.placed }
 
 -- two branches are one where their digests are: those of one side have one length
-pub beside_parts : (b : Bool) {x u y v : List ℕ} → length x ≡ length y → input_beside b u x ≡ input_beside b v y → (x ≡ y) × (u ≡ v)
-beside_parts true {x} {u} {y} {v} sizes same = let parts = branch_parts u x v y (omega (arith, sizes, length-append u x, length-append v y, ap length same)) same in (parts.1, parts.0)
+pub beside_parts : (b : Bool) {x u y v : List ℕ} → length x ≡ length y → input_beside b u x ≡ input_beside b v y
+    → (x ≡ y) × (u ≡ v)
+beside_parts true {x} {u} {y} {v} sizes same = let parts = branch_parts u x v y
+    (omega (arith, sizes, length-append u x, length-append v y, ap length same)) same in (parts.1, parts.0)
 beside_parts false sizes same = branch_parts _ _ _ _ sizes same
 
 -- a step up, by which of the digests are the same
 pub diverges_up : {D : Type 0} (b : Bool) {x u y v : List ℕ} {p q : Divergence D} → length x ≡ length y
-    → ((x ≡ y) × (u ≡ v) × (q ≡ p)) ⊎ ((x ≡ y → u ≡ v → ⊥) × (q ≡ Branch (record { right = b; first = x; first_beside = u; second = y; second_beside = v }))) → DivergesUp b x u y v p q
-diverges_up b sizes ends = elim ends [ inl same ↦ inl same | inr other ↦ inr (λ e. let parts = beside_parts b sizes e in other.0 parts.0 parts.1, other.1) ]
+    → ((x ≡ y) × (u ≡ v) × (q ≡ p))
+    ⊎ ((x ≡ y → u ≡ v → ⊥) × (q ≡ Branch
+    (record { right = b; first = x; first_beside = u; second = y; second_beside = v }))) → DivergesUp b x u y v p q
+diverges_up b sizes ends = elim ends [
+  | inl same ↦ inl same
+  | inr other ↦ inr (
+    λ e. let parts = beside_parts b sizes e in
+        other.0 parts.0 parts.1,
+    other.1,
+  )
+]
 
 -- a step from digests of one length, whatever stands beside them
-pub up_somewhere : {D : Type 0} {H : List ℕ → List ℕ} (b : Bool) {x u y v : List ℕ} (p : Divergence D) → length x ≡ length y
+pub up_somewhere : {D : Type 0} {H : List ℕ → List ℕ} (b : Bool) {x u y v : List ℕ} (p : Divergence D)
+    → length x ≡ length y
     → (q : Divergence D) × IsUp H b x u y v p (H (input_beside b u x)) (H (input_beside b v y)) q
 up_somewhere b {x} {u} {y} {v} p sizes = elim (same_or_not (input_beside b u x) (input_beside b v y)) [
-  | inl same ↦ let parts = beside_parts b sizes same in (p, record { first_is = refl; second_is = refl; diverges = inl (parts.0, parts.1, refl) })
+  | inl same ↦ let parts = beside_parts b sizes same in
+      (p, record { first_is = refl; second_is = refl; diverges = inl (parts.0, parts.1, refl) })
   | inr differ ↦ (_, record { first_is = refl; second_is = refl; diverges = inr (differ, refl) })
 ]
 
--- where two evaluations come to one digest they part below, from one digest and with one beside it, or at the branches here
-pub up_parts : {D : Type 0} {H : List ℕ → List ℕ} {b : Bool} {x u y v d e : List ℕ} {p q : Divergence D} (P : List ℕ → List ℕ → Type 0) (A : Type 0) → IsUp H b x u y v p d e q
+-- where two evaluations come to one digest they part below, from one digest and with one beside it, or at the branches
+-- here
+pub up_parts : {D : Type 0} {H : List ℕ → List ℕ} {b : Bool} {x u y v d e : List ℕ} {p q : Divergence D}
+    (P : List ℕ → List ℕ → Type 0) (A : Type 0) → IsUp H b x u y v p d e q
     → (x ≡ y → u ≡ v → Parts H P A p) → P (input_beside b u x) (input_beside b v y) → d ≡ e → Parts H P A q
 up_parts P A up below here one = elim up.diverges [
   | inl same ↦ rw same.2 (below same.0 same.1)
-  | inr other ↦ rw other.1 (record { collides = record { differ = other.0; same = sym up.first_is ∙ one ∙ up.second_is }; placed = here })
+  | inr other ↦ rw other.1 (record {
+    collides = record {
+      differ = other.0;
+      same = sym up.first_is ∙ one
+          ∙ up.second_is;
+    };
+    placed = here;
+  })
 ]
 
 -- a branch that is there has both its parts
-pub both_there : (H : List ℕ → List ℕ) (left right : Option (List ℕ)) (d : List ℕ) → joined H left right ≡ Some d → (l : List ℕ) × (r : List ℕ) × (left ≡ Some l) × (right ≡ Some r)
+pub both_there : (H : List ℕ → List ℕ) (left right : Option (List ℕ)) (d : List ℕ) → joined H left right ≡ Some d
+    → (l : List ℕ) × (r : List ℕ) × (left ≡ Some l) × (right ≡ Some r)
 both_there H (Some l) (Some r) d is = (l, r, refl, refl)
 both_there H _ _ d is = absurd (cc)

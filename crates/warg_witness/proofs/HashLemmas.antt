@@ -11,7 +11,8 @@ entries_count bytes entries = length-map entries bytes
 pub ruleset meets = (bytes_decides, entries_count)
 
 -- what is there isn't nothing
-pub found_none : {T E : Type 0} {found : Option T} {it : T} → ◌≡◌ {A = Result (Option T) E} (Ok found) (Ok None) → found ≡ Some it → ⊥
+pub found_none : {T E : Type 0} {found : Option T} {it : T} → ◌≡◌ {A = Result (Option T) E} (Ok found) (Ok None)
+    → found ≡ Some it → ⊥
 found_none none is = cc
 
 pub none_some : {T : Type 0} {found : Option T} {it : T} → None ≡ found → found ≡ Some it → ⊥

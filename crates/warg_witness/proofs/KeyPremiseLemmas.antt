@@ -21,10 +21,14 @@ use Rattle.warg_witness.specs.UpdateClaims.{IsUpdated}
 use Rattle.warg_witness.proofs.KeyLemmas.{plain_leaf_is, inserted_push}
 
 -- The plain input at each prefix is that of the evaluation of what stands beside the key, from its last value.
-pub own_input : (H : List ℕ → List ℕ) (peers : List (Option (List ℕ))) (insertions : List (List ℕ × List ℕ)) (bits prefix rest : List Bool) → bits ≡ prefix ++ rest
-    → IsBeside H peers (get (map_of H insertions)) bits → path_input H peers (value_in (last_under H bits insertions)) rest ≡ plain_input_at H insertions prefix (length rest)
+pub own_input : (H : List ℕ → List ℕ) (peers : List (Option (List ℕ))) (insertions : List (List ℕ × List ℕ))
+    (bits prefix rest : List Bool) → bits ≡ prefix ++ rest
+    → IsBeside H peers (get (map_of H insertions)) bits
+    → path_input H peers (value_in (last_under H bits insertions)) rest ≡ plain_input_at H insertions prefix
+    (length rest)
 own_input H peers insertions bits prefix [] is beside = rw (is, append-nil) refl
-own_input H peers insertions bits prefix (b ∷ below) is beside = rw (plain_leaf_is H insertions bits, is) (beside_input H (map_of H insertions) prefix below b peers (rw is at beside))
+own_input H peers insertions bits prefix (b ∷ below) is beside = rw (plain_leaf_is H insertions bits, is)
+    (beside_input H (map_of H insertions) prefix below b peers (rw is at beside))
 
 -- The empty map holds nothing, so beside each key stand empty trees.
 none_held : (H : List ℕ → List ℕ) (q : List Bool) → get (map_of H []) q ≡ None
@@ -39,7 +43,10 @@ unfolding IsPeers
 absent H key = record {
   absent = ap is_some (none_held H (key_bits H key));
   peers_from_top = λ q _. none_held H q;
-  count = record { above = λ q held _. absurd (not_held H q held); reached = inl (refl, λ q held. absurd (not_held H q held)) };
+  count = record {
+    above = λ q held _. absurd (not_held H q held);
+    reached = inl (refl, λ q held. absurd (not_held H q held));
+  };
 }
 
 none_proved : (H : List ℕ → List ℕ) (key : List ℕ) → ProvesEmpty H (map_of H []) (key_bits H key) []
@@ -68,7 +75,8 @@ none_at (suc n) (suc k) = none_at n k
 abbrev pub with_bottom : List ℕ → List (Option (List ℕ))
 with_bottom digest = Some digest ∷ replicate 255 nothing
 
-pub above_bottom : (H : List ℕ → List ℕ) (digest : List ℕ) (k : ℕ) → peer_of H (with_bottom digest) (suc k) ≡ empty_root H (suc k)
+pub above_bottom : (H : List ℕ → List ℕ) (digest : List ℕ) (k : ℕ) → peer_of H (with_bottom digest) (suc k)
+    ≡ empty_root H (suc k)
 above_bottom H digest k = let rest : suc k - 0 ≡ suc k = omega arith in rw (rest, none_at 255 k) (either_way _)
 
 -- Empty trees have zeros.
@@ -118,24 +126,31 @@ ones_differ : ones ≡ zeros → ⊥
 ones_differ is = absurd cc
 
 -- What is left of a key's bits is no longer than they are.
-few_left : (H : List ℕ → List ℕ) (key : List ℕ) (prefix rest : List Bool) → key_bits H key ≡ prefix ++ rest → length rest ≤ 256
+few_left : (H : List ℕ → List ℕ) (key : List ℕ) (prefix rest : List Bool) → key_bits H key ≡ prefix ++ rest
+    → length rest ≤ 256
 few_left H key prefix rest is = omega (arith, all_bits H key, ap length is, length-append prefix rest)
 
 -- The empty map's own evaluation meets the claim that a key has no bytes, and nothing collides.
 pub own_met : (H : List ℕ → List ℕ) (key : List ℕ) → IsKeyMet H [] key [] []
 unfolding empty_root
 own_met H key =
-    let leads : proof_value H [] (unwrap_or (get (map_of H []) (key_bits H key)) (leaf_digest H [])) (key_bits H key) ≡ sparse_root H 256 (map_of H []) = beside_root H (map_of H []) (key_bits H key) [] (all_bits H key) (empty_beside H key) in
+    let leads : proof_value H [] (unwrap_or (get (map_of H []) (key_bits H key)) (leaf_digest H [])) (key_bits H key)
+    ≡ sparse_root H 256 (map_of H []) = beside_root H (map_of H []) (key_bits H key) [] (all_bits H key)
+    (empty_beside H key) in
     rw (none_held H (key_bits H key)) at leads
 
-plain_is : (H : List ℕ → List ℕ) (key : List ℕ) (prefix rest : List Bool) → key_bits H key ≡ prefix ++ rest → path_input H [] [] rest ≡ plain_input_at H [] prefix (length rest)
+plain_is : (H : List ℕ → List ℕ) (key : List ℕ) (prefix rest : List Bool) → key_bits H key ≡ prefix ++ rest
+    → path_input H [] [] rest ≡ plain_input_at H [] prefix (length rest)
 unfolding last_with
 plain_is H key prefix rest is = own_input H [] [] (key_bits H key) prefix rest is (empty_beside H key)
 
-own_apart : (H : List ℕ → List ℕ) (key first second : List ℕ) → IsPlacedAtPrefix H [] [] key [] first second → Collides H (first, second) → ⊥
+own_apart : (H : List ℕ → List ℕ) (key first second : List ℕ) → IsPlacedAtPrefix H [] [] key [] first second
+    → Collides H (first, second) → ⊥
 own_apart H key first second at c = c.differ (at.evaluation ∙ plain_is H key at.prefix at.rest at.bits ∙ sym at.plain)
 
-pub absence_untruth_is_needed : (H : List ℕ → List ℕ) → ¬ ((peers : List (Option (List ℕ))) (key : List ℕ) (insertions : List (List ℕ × List ℕ)) → IsAbsenceMet H peers key insertions → SomeCollision H (IsKeyPlaced H peers [] key insertions))
+pub absence_untruth_is_needed : (H : List ℕ → List ℕ)
+    → ¬ ((peers : List (Option (List ℕ))) (key : List ℕ) (insertions : List (List ℕ × List ℕ))
+    → IsAbsenceMet H peers key insertions → SomeCollision H (IsKeyPlaced H peers [] key insertions))
 unfolding empty_root
 absence_untruth_is_needed H law =
     let c = law [] [] [] (own_met H []) in
@@ -144,35 +159,46 @@ absence_untruth_is_needed H law =
       | inr keys ↦ omega (arith, keys.inserted.1)
     ]
 
-pub key_untruth_is_needed : (H : List ℕ → List ℕ) → ¬ ((peers : List (Option (List ℕ))) (key value : List ℕ) (insertions : List (List ℕ × List ℕ)) → IsKeyMet H peers key value insertions → SomeCollision H (IsKeyPlaced H peers value key insertions))
+pub key_untruth_is_needed : (H : List ℕ → List ℕ)
+    → ¬ ((peers : List (Option (List ℕ))) (key value : List ℕ) (insertions : List (List ℕ × List ℕ))
+    → IsKeyMet H peers key value insertions → SomeCollision H (IsKeyPlaced H peers value key insertions))
 unfolding empty_root
 key_untruth_is_needed H law = absence_untruth_is_needed H (λ peers key insertions. law peers key [] insertions)
 
-pub update_untruth_is_needed : (H : List ℕ → List ℕ) → ¬ ((peers : List (Option (List ℕ))) (key old_value new_value : List ℕ) (insertions : List (List ℕ × List ℕ)) → IsKeyMet H peers key old_value insertions → SomeCollision H (IsPlacedAtPrefix H peers old_value key insertions))
-update_untruth_is_needed H law = let c = law [] [] [] [] [] (own_met H []) in own_apart H [] c.first c.second c.placed c.collide
+pub update_untruth_is_needed : (H : List ℕ → List ℕ)
+    → ¬ ((peers : List (Option (List ℕ))) (key old_value new_value : List ℕ) (insertions : List (List ℕ × List ℕ))
+    → IsKeyMet H peers key old_value insertions → SomeCollision H (IsPlacedAtPrefix H peers old_value key insertions))
+update_untruth_is_needed H law = let c = law [] [] [] [] [] (own_met H []) in
+    own_apart H [] c.first c.second c.placed c.collide
 
 -- An evaluation that has ones everywhere is apart from the empty map's.
 module _ (peers : List (Option (List ℕ))) (marks : (k : ℕ) → k < 256 → IsMark (peer_of marked peers k)) where
-  ones_apart : (key first second : List ℕ) → IsPlacedAtPrefix marked peers (1 ∷ []) key [] first second → Collides marked (first, second) → ⊥
+  ones_apart : (key first second : List ℕ) → IsPlacedAtPrefix marked peers (1 ∷ []) key [] first second
+      → Collides marked (first, second) → ⊥
   ones_apart key first second at c =
       let few = few_left marked key at.prefix at.rest at.bits in
-      ones_differ (sym (ap marked at.evaluation ∙ ones_on_path peers marks at.rest few) ∙ c.same ∙ ap marked (at.plain ∙ sym (plain_is marked key at.prefix at.rest at.bits)) ∙ zeros_on_path at.rest few)
+      ones_differ (sym (ap marked at.evaluation ∙ ones_on_path peers marks at.rest few) ∙ c.same
+      ∙ ap marked (at.plain ∙ sym (plain_is marked key at.prefix at.rest at.bits)) ∙ zeros_on_path at.rest few)
 
 no_marks : (k : ℕ) → k < 256 → IsMark (peer_of marked [] k)
 no_marks k _ = inl (no_peers k)
 
-pub key_agreement_meeting_is_needed : ¬ ((H : List ℕ → List ℕ) (key : List ℕ) (peers : List (Option (List ℕ))) (value : List ℕ) (other_peers : List (Option (List ℕ))) (other : List ℕ) → GivesHashes H → (value ≡ other → ⊥) → SomeCollision H (IsKeyAgreementPlaced H key peers value other_peers other))
+pub key_agreement_meeting_is_needed : ¬ ((H : List ℕ → List ℕ) (key : List ℕ) (peers : List (Option (List ℕ)))
+    (value : List ℕ) (other_peers : List (Option (List ℕ))) (other : List ℕ) → GivesHashes H → (value ≡ other → ⊥)
+    → SomeCollision H (IsKeyAgreementPlaced H key peers value other_peers other))
 key_agreement_meeting_is_needed law =
     let c = law marked [] [] (1 ∷ []) [] [] marked_hashes (λ is. absurd cc) in
     let few = few_left marked [] c.placed.prefix c.placed.rest c.placed.bits in
-    ones_differ (sym (ap marked c.placed.first_evaluation ∙ ones_on_path [] no_marks c.placed.rest few) ∙ c.collide.same ∙ ap marked c.placed.second_evaluation ∙ zeros_on_path c.placed.rest few)
+    ones_differ (sym (ap marked c.placed.first_evaluation ∙ ones_on_path [] no_marks c.placed.rest few) ∙ c.collide.same
+    ∙ ap marked c.placed.second_evaluation ∙ zeros_on_path c.placed.rest few)
 
 -- Ones beside an empty leaf lead to ones, and the map that holds no bytes has zeros.
 bottom_marks : (k : ℕ) → k < 256 → IsMark (peer_of marked (with_bottom ones) k)
 bottom_marks zero _ = inr refl
 bottom_marks (suc k) _ = inl (above_bottom marked ones k ∙ empty_zeros (suc k))
 
-bottom_up : (b : Bool) (below : List Bool) → length below < 256 → proof_value marked (with_bottom ones) zeros (b ∷ below) ≡ ones
+bottom_up : (b : Bool) (below : List Bool) → length below < 256 → proof_value marked (with_bottom ones) zeros
+    (b ∷ below) ≡ ones
 unfolding proof_value
 bottom_up true [] few = refl
 bottom_up false [] few = refl
@@ -183,19 +209,28 @@ bottom_root [] none = absurd (omega arith)
 bottom_root (b ∷ below) all = bottom_up b below (omega arith)
 
 lone_root : sparse_root marked 256 (map_of marked (([], []) ∷ [])) ≡ zeros
-lone_root = rw (inserted_push marked empty [] [] []) (sym (beside_replaced marked (map_of marked []) (key_bits marked []) [] zeros (all_bits marked []) (empty_beside marked [])) ∙ zeros_up (key_bits marked []) (omega (arith, all_bits marked [])))
+lone_root = rw (inserted_push marked empty [] [] [])
+    (sym (beside_replaced marked (map_of marked []) (key_bits marked []) [] zeros (all_bits marked [])
+    (empty_beside marked [])) ∙ zeros_up (key_bits marked []) (omega (arith, all_bits marked [])))
 
 not_updated : IsUpdated marked (with_bottom ones) [] [] [] → ⊥
 not_updated is = ones_differ (sym (bottom_root (key_bits marked []) (all_bits marked [])) ∙ is ∙ lone_root)
 
-pub update_meeting_is_needed : ¬ ((H : List ℕ → List ℕ) (peers : List (Option (List ℕ))) (key old_value new_value : List ℕ) (insertions : List (List ℕ × List ℕ)) → GivesHashes H → ¬ (IsUpdated H peers key new_value insertions) → SomeCollision H (IsPlacedAtPrefix H peers old_value key insertions))
-update_meeting_is_needed law = let c = law marked (with_bottom ones) [] (1 ∷ []) [] [] marked_hashes not_updated in ones_apart (with_bottom ones) bottom_marks [] c.first c.second c.placed c.collide
+pub update_meeting_is_needed : ¬
+    ((H : List ℕ → List ℕ) (peers : List (Option (List ℕ))) (key old_value new_value : List ℕ)
+    (insertions : List (List ℕ × List ℕ)) → GivesHashes H → ¬ (IsUpdated H peers key new_value insertions)
+    → SomeCollision H (IsPlacedAtPrefix H peers old_value key insertions))
+update_meeting_is_needed law = let c = law marked (with_bottom ones) [] (1 ∷ []) [] [] marked_hashes not_updated in
+    ones_apart (with_bottom ones) bottom_marks [] c.first c.second c.placed c.collide
 
 -- A map of one key: its own evaluation has ones where its value is the byte 1.
-lone_beside : (H : List ℕ → List ℕ) (key value : List ℕ) → IsBeside H [] (get (map_of H ((key, value) ∷ []))) (key_bits H key)
-lone_beside H key value = rw (inserted_push H empty [] key value) (beside_kept H (map_of H []) (key_bits H key) [] (leaf_digest H value) (empty_beside H key))
+lone_beside : (H : List ℕ → List ℕ) (key value : List ℕ) → IsBeside H [] (get (map_of H ((key, value) ∷ [])))
+    (key_bits H key)
+lone_beside H key value = rw (inserted_push H empty [] key value)
+    (beside_kept H (map_of H []) (key_bits H key) [] (leaf_digest H value) (empty_beside H key))
 
-lone_is : (H : List ℕ → List ℕ) (key value : List ℕ) (prefix rest : List Bool) → key_bits H key ≡ prefix ++ rest → path_input H [] value rest ≡ plain_input_at H ((key, value) ∷ []) prefix (length rest)
+lone_is : (H : List ℕ → List ℕ) (key value : List ℕ) (prefix rest : List Bool) → key_bits H key ≡ prefix ++ rest
+    → path_input H [] value rest ≡ plain_input_at H ((key, value) ∷ []) prefix (length rest)
 unfolding last_with
 lone_is H key value prefix rest is =
     let plain = own_input H [] ((key, value) ∷ []) (key_bits H key) prefix rest is (lone_beside H key value) in
@@ -206,28 +241,39 @@ the_one : {x y : List ℕ} (k : ℕ) → k < 1 → slice_index_or (x ∷ []) k y
 the_one zero _ is = is
 the_one (suc k) few _ = absurd (omega arith)
 
-only_key : {H : List ℕ → List ℕ} {key value first second : List ℕ} → IsPlacedAtKeys key ((key, value) ∷ []) first second → Collides H (first, second) → ⊥
+only_key : {H : List ℕ → List ℕ} {key value first second : List ℕ} → IsPlacedAtKeys key ((key, value) ∷ []) first second
+    → Collides H (first, second) → ⊥
 only_key keys c = c.differ (keys.claimed ∙ the_one keys.inserted.0 keys.inserted.1 keys.inserted.2)
 
-pub absence_meeting_is_needed : ¬ ((H : List ℕ → List ℕ) (peers : List (Option (List ℕ))) (key : List ℕ) (insertions : List (List ℕ × List ℕ)) → GivesHashes H → (IsLastValue key [] insertions → ⊥) → SomeCollision H (IsKeyPlaced H peers [] key insertions))
+pub absence_meeting_is_needed : ¬ ((H : List ℕ → List ℕ) (peers : List (Option (List ℕ))) (key : List ℕ)
+    (insertions : List (List ℕ × List ℕ)) → GivesHashes H → (IsLastValue key [] insertions → ⊥)
+    → SomeCollision H (IsKeyPlaced H peers [] key insertions))
 unfolding last_with
 absence_meeting_is_needed law =
     let c = law marked [] [] (([], 1 ∷ []) ∷ []) marked_hashes (λ is. absurd cc) in
     elim c.placed [
       | inl at ↦
           let few = few_left marked [] at.prefix at.rest at.bits in
-          ones_differ (sym (ones_on_path [] no_marks at.rest few) ∙ ap marked (lone_is marked [] (1 ∷ []) at.prefix at.rest at.bits ∙ sym at.plain) ∙ sym c.collide.same ∙ ap marked at.evaluation ∙ zeros_on_path at.rest few)
+          ones_differ (sym (ones_on_path [] no_marks at.rest few)
+          ∙ ap marked (lone_is marked [] (1 ∷ []) at.prefix at.rest at.bits ∙ sym at.plain) ∙ sym c.collide.same
+          ∙ ap marked at.evaluation ∙ zeros_on_path at.rest few)
       | inr keys ↦ only_key keys c.collide
     ]
 
-pub key_meeting_is_needed : ¬ ((H : List ℕ → List ℕ) (peers : List (Option (List ℕ))) (key value : List ℕ) (insertions : List (List ℕ × List ℕ)) → GivesHashes H → (IsLastValue key value insertions → ⊥) → SomeCollision H (IsKeyPlaced H peers value key insertions))
+pub key_meeting_is_needed : ¬ ((H : List ℕ → List ℕ) (peers : List (Option (List ℕ))) (key value : List ℕ)
+    (insertions : List (List ℕ × List ℕ)) → GivesHashes H → (IsLastValue key value insertions → ⊥)
+    → SomeCollision H (IsKeyPlaced H peers value key insertions))
 key_meeting_is_needed law = absence_meeting_is_needed (λ H peers key insertions. law H peers key [] insertions)
 
-pub lone_leads : (H : List ℕ → List ℕ) (key value : List ℕ) → proof_value H [] (leaf_digest H value) (key_bits H key) ≡ sparse_root H 256 (map_of H ((key, value) ∷ []))
-lone_leads H key value = rw (inserted_push H empty [] key value) (beside_replaced H (map_of H []) (key_bits H key) [] (leaf_digest H value) (all_bits H key) (empty_beside H key))
+pub lone_leads : (H : List ℕ → List ℕ) (key value : List ℕ) → proof_value H [] (leaf_digest H value) (key_bits H key)
+    ≡ sparse_root H 256 (map_of H ((key, value) ∷ []))
+lone_leads H key value = rw (inserted_push H empty [] key value)
+    (beside_replaced H (map_of H []) (key_bits H key) [] (leaf_digest H value) (all_bits H key) (empty_beside H key))
 
 -- All of a lone map's tree has ones or zeros.
-held_mark : (b : Bool) → IsMark (unwrap_or (option_map (λ (e : List ℕ × List ℕ). leaf_digest marked e.1) (option_or None (cond b (Some ([], 1 ∷ [])) None))) zeros)
+held_mark : (b : Bool) → IsMark
+    (unwrap_or (option_map (λ (e : List ℕ × List ℕ). leaf_digest marked e.1)
+    (option_or None (cond b (Some ([], 1 ∷ [])) None))) zeros)
 held_mark true = inr refl
 held_mark false = inl refl
 
@@ -236,15 +282,21 @@ branch_mark l r (inl is) (inl other) = inl (rw (is, other) refl)
 branch_mark l r (inl is) (inr other) = inr (rw (is, other) refl)
 branch_mark l r (inr is) other = inr (rw is refl)
 
-root_mark : (k : ℕ) (held : List Bool → Option (List ℕ)) → ((q : List Bool) → IsMark (unwrap_or (held q) zeros)) → IsMark (root_of_levels marked k held)
+root_mark : (k : ℕ) (held : List Bool → Option (List ℕ)) → ((q : List Bool) → IsMark (unwrap_or (held q) zeros))
+    → IsMark (root_of_levels marked k held)
 unfolding root_of_levels empty_root
 root_mark zero held marks = marks []
-root_mark (suc k) held marks = branch_mark _ _ (root_mark k (λ q. held (false ∷ q)) (λ q. marks (false ∷ q))) (root_mark k (λ q. held (true ∷ q)) (λ q. marks (true ∷ q)))
+root_mark (suc k) held marks = branch_mark _ _ (root_mark k (λ q. held (false ∷ q)) (λ q. marks (false ∷ q)))
+    (root_mark k (λ q. held (true ∷ q)) (λ q. marks (true ∷ q)))
 
-root_zeros : (k : ℕ) (held : List Bool → Option (List ℕ)) → ((q : List Bool) → held q ≡ None) → root_of_levels marked k held ≡ zeros
+root_zeros : (k : ℕ) (held : List Bool → Option (List ℕ)) → ((q : List Bool) → held q ≡ None)
+    → root_of_levels marked k held ≡ zeros
 unfolding root_of_levels empty_root
 root_zeros zero held none = rw (none []) refl
-root_zeros (suc k) held none = rw (root_zeros k (λ q. held (false ∷ q)) (λ q. none (false ∷ q)), root_zeros k (λ q. held (true ∷ q)) (λ q. none (true ∷ q))) refl
+root_zeros (suc k) held none = rw (
+  root_zeros k (λ q. held (false ∷ q)) (λ q. none (false ∷ q)),
+  root_zeros k (λ q. held (true ∷ q)) (λ q. none (true ∷ q)),
+) refl
 
 abbrev only : List (List ℕ × List ℕ)
 only = ([], 1 ∷ []) ∷ []
@@ -257,28 +309,37 @@ lone_mark q = rw (last_held marked q only) (held_mark _)
 two_zeros : (l r : List ℕ) → l ≡ zeros → r ≡ zeros → branch_input l r ≡ branch_input zeros zeros
 two_zeros l r is is_too = ap (λ x. branch_input x r) is ∙ ap (λ x. branch_input zeros x) is_too
 
-branches_apart : (l r first second : List ℕ) → IsMark l → IsMark r → first ≡ branch_input l r → second ≡ branch_input zeros zeros → Collides marked (first, second) → ⊥
+branches_apart : (l r first second : List ℕ) → IsMark l → IsMark r → first ≡ branch_input l r
+    → second ≡ branch_input zeros zeros → Collides marked (first, second) → ⊥
 branches_apart l r first second (inl is) (inl is_too) one other c = c.differ (one ∙ two_zeros l r is is_too ∙ sym other)
 branches_apart l r first second (inl is) (inr is_too) one other c =
-    ones_differ (sym (ap marked (one ∙ ap (λ x. branch_input x r) is ∙ ap (λ x. branch_input zeros x) is_too)) ∙ c.same ∙ ap marked other)
-branches_apart l r first second (inr is) _ one other c = ones_differ (sym (ap marked (one ∙ ap (λ x. branch_input x r) is)) ∙ c.same ∙ ap marked other)
+    ones_differ (sym (ap marked (one ∙ ap (λ x. branch_input x r) is ∙ ap (λ x. branch_input zeros x) is_too)) ∙ c.same
+    ∙ ap marked other)
+branches_apart l r first second (inr is) _ one other c =
+    ones_differ (sym (ap marked (one ∙ ap (λ x. branch_input x r) is)) ∙ c.same ∙ ap marked other)
 
-leaves_apart : (b : Bool) (first second : List ℕ) → first ≡ leaf_input (value_in (option_or None (cond b (Some ([], 1 ∷ [])) None))) → second ≡ leaf_input [] → Collides marked (first, second) → ⊥
+leaves_apart : (b : Bool) (first second : List ℕ)
+    → first ≡ leaf_input (value_in (option_or None (cond b (Some ([], 1 ∷ [])) None))) → second ≡ leaf_input []
+    → Collides marked (first, second) → ⊥
 leaves_apart true first second one other c = ones_differ (sym (ap marked one) ∙ c.same ∙ ap marked other)
 leaves_apart false first second one other c = c.differ (one ∙ sym other)
 
-plain_apart : (prefix : List Bool) (k : ℕ) (first second : List ℕ) → first ≡ plain_input_at marked only prefix k → second ≡ plain_input_at marked [] prefix k → Collides marked (first, second) → ⊥
+plain_apart : (prefix : List Bool) (k : ℕ) (first second : List ℕ) → first ≡ plain_input_at marked only prefix k
+    → second ≡ plain_input_at marked [] prefix k → Collides marked (first, second) → ⊥
 unfolding last_with
 plain_apart prefix zero first second one other c = leaves_apart _ first second one other c
 plain_apart prefix (suc k) first second one other c =
-    branches_apart _ _ first second (root_mark k _ (λ q. lone_mark (prefix ++ false ∷ q))) (root_mark k _ (λ q. lone_mark (prefix ++ true ∷ q))) one
-    (other ∙ two_zeros _ _ (root_zeros k _ (λ q. none_held marked (prefix ++ false ∷ q))) (root_zeros k _ (λ q. none_held marked (prefix ++ true ∷ q)))) c
+    branches_apart _ _ first second (root_mark k _ (λ q. lone_mark (prefix ++ false ∷ q)))
+    (root_mark k _ (λ q. lone_mark (prefix ++ true ∷ q))) one
+    (other ∙ two_zeros _ _ (root_zeros k _ (λ q. none_held marked (prefix ++ false ∷ q)))
+    (root_zeros k _ (λ q. none_held marked (prefix ++ true ∷ q)))) c
 
 only_inserted : {key : List ℕ} → IsInserted only [] key → [] ≡ key
 only_inserted (inl at) = the_one at.0 at.1 at.2
 only_inserted (inr at) = absurd (omega (arith, at.1))
 
-pub equal_maps_meeting_is_needed : ¬ ((H : List ℕ → List ℕ) (insertions others : List (List ℕ × List ℕ)) → GivesHashes H → ¬ (HaveSameValues insertions others) → SomeCollision H (IsPlacedInMaps H insertions others))
+pub equal_maps_meeting_is_needed : ¬ ((H : List ℕ → List ℕ) (insertions others : List (List ℕ × List ℕ)) → GivesHashes H
+    → ¬ (HaveSameValues insertions others) → SomeCollision H (IsPlacedInMaps H insertions others))
 unfolding last_with
 equal_maps_meeting_is_needed law =
     let c = law marked only [] marked_hashes (λ same. let is : 1 ∷ [] ≡ [] = same [] in absurd cc) in

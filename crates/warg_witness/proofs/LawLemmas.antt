@@ -52,7 +52,8 @@ abbrev pub SomeDivergence : Type 0
 SomeDivergence = Divergence (Unit {0})
 
 -- entries that don't begin with others differ from them at a place
-pub difference : (old new : List (List ℕ)) → length old ≤ length new → (Begins old new → ⊥) → (place : ℕ) × (place < length old) × (get_or old place [] ≡ get_or new place [] → ⊥)
+pub difference : (old new : List (List ℕ)) → length old ≤ length new → (Begins old new → ⊥) → (place : ℕ)
+    × (place < length old) × (get_or old place [] ≡ get_or new place [] → ⊥)
 difference [] new order other = absurd (other refl)
 difference (x ∷ old) [] order other = absurd (omega arith)
 difference (x ∷ old) (y ∷ new) order other = elim (same_or_not x y) [
@@ -61,15 +62,18 @@ difference (x ∷ old) (y ∷ new) order other = elim (same_or_not x y) [
 ]
 
 -- two evaluations with digests at a range go up to it
-module _ (H : Digest) (F : Data) (x : List ℕ) (G : Data) (y : List ℕ) (s w : ℕ) (gives : HasSize H) (size : length x ≡ length y) (node : IsNodeRange s w) where
+module _ (H : Digest) (F : Data) (x : List ℕ) (G : Data) (y : List ℕ) (s w : ℕ) (gives : HasSize H)
+    (size : length x ≡ length y) (node : IsNodeRange s w) where
   abbrev e : Evaluation
   e = with_target F (leaves_from s w) x
 
   abbrev f : Evaluation
   f = with_target G (leaves_from s w) y
 
-  climbed : (k a n : ℕ) → n ≤ k → IsAligned a n → IsAround s w a n → (p q : List ℕ) → cut_over H e (leaves_from a n) ≡ Some p → cut_over H f (leaves_from a n) ≡ Some q
-      → (first : List ℕ) × (second : List ℕ) × (p : SomeDivergence) × IsRangeClimb H F x G y s w a n first second p × (length first ≡ length second)
+  climbed : (k a n : ℕ) → n ≤ k → IsAligned a n → IsAround s w a n → (p q : List ℕ) → cut_over H e (leaves_from a n)
+      ≡ Some p → cut_over H f (leaves_from a n) ≡ Some q
+      → (first : List ℕ) × (second : List ℕ) × (p : SomeDivergence) × IsRangeClimb H F x G y s w a n first second p
+      × (length first ≡ length second)
   climbed zero a n le aligned around p q is is' = let some = node_some node in absurd (omega arith)
   climbed (suc k) a n le aligned around p q is is' = elim (target_or_other s w a n) [
     | inl here ↦ (x, y, Target, ranges_start here.0 here.1 refl refl refl, size)
@@ -78,18 +82,27 @@ module _ (H : Digest) (F : Data) (x : List ℕ) (G : Data) (y : List ℕ) (s w :
         let (right, b, m, c, j, sides, at, smaller) = side_around node aligned around other in
         let first = sides_there H (node_some node) around other F x sides is in
         let second = sides_there H (node_some node) around other G y sides is' in
-        let below = climbed k b m (omega arith) (sides_aligned sides aligned more) at first.0 second.0 first.2 second.2 in
-        let step = up_somewhere right below.2 below.4 in
-        (H _, H _, step.0, ranges_up H (node_some node) around other F x G y sides below.3 first.3 second.3 step.1, gives _ ∙ sym (gives _))
+        let below = climbed k b m (omega arith) (sides_aligned sides aligned more) at first.0 second.0 first.2
+        second.2 in
+        let step = up_somewhere right below.2 below.4 in (
+          H _,
+          H _,
+          step.0,
+          ranges_up H (node_some node) around other F x G y sides below.3 first.3 second.3 step.1,
+          gives _ ∙ sym (gives _),
+        )
   ]
 
   -- so two with one digest there diverge somewhere
-  pub diverged : {a n : ℕ} → IsAligned a n → IsAround s w a n → HaveOneDigest H F x G y s w a n → (p : SomeDivergence) × IsDivergence H F x G y s w a n p
+  pub diverged : {a n : ℕ} → IsAligned a n → IsAround s w a n → HaveOneDigest H F x G y s w a n → (p : SomeDivergence)
+      × IsDivergence H F x G y s w a n p
   diverged {a} {n} aligned around one =
-      let climb = climbed n a n (omega arith) aligned around one.digest one.digest one.first one.second in (climb.2, climb.3.diverges (cc (climb.3.first_is, climb.3.second_is)))
+      let climb = climbed n a n (omega arith) aligned around one.digest one.digest one.first one.second in
+      (climb.2, climb.3.diverges (cc (climb.3.first_is, climb.3.second_is)))
 
 -- the balanced root of a range around a place
-root_found : (place k a n : ℕ) → n ≤ k → IsAround place 1 a n → (s : ℕ) × (w : ℕ) × IsRootOf s w a n × IsAround place 1 s w
+root_found : (place k a n : ℕ) → n ≤ k → IsAround place 1 a n → (s : ℕ) × (w : ℕ) × IsRootOf s w a n
+    × IsAround place 1 s w
 root_found place zero a n le around = absurd (omega arith)
 root_found place (suc k) a n le around = elim (full_or_not n (omega arith)) [
   | inl is ↦ (a, n, all_leaves is, around)
@@ -98,47 +111,62 @@ root_found place (suc k) a n le around = elim (full_or_not n (omega arith)) [
       let f = front_is_greatest n more in
       elim (cases_lt place (a + front_of n)) [
         | inl left ↦ (a, front_of n, at_front n more not_full refl, omega arith)
-        | inr right ↦ let at = root_found place k (a + front_of n) (n - front_of n) (omega arith) (omega arith) in (at.0, at.1, in_rest a n more not_full at.2, at.3)
+        | inr right ↦ let at = root_found place k (a + front_of n) (n - front_of n) (omega arith) (omega arith) in
+            (at.0, at.1, in_rest a n more not_full at.2, at.3)
       ]
 ]
 
 -- what is shown is a collision
-pub shown_collides : {H : Digest} {P : List ℕ → List ℕ → Type 0} (pair : List ℕ × List ℕ) → Shows H P pair → SomeCollision H P
+pub shown_collides : {H : Digest} {P : List ℕ → List ℕ → Type 0} (pair : List ℕ × List ℕ) → Shows H P pair
+    → SomeCollision H P
 shown_collides pair shown = record { first = pair.0; second = pair.1; collide = shown.collides; placed = shown.placed }
 
 -- a divergence is one, or both evaluations meet at the target
-pub some_collision : {D : Type 0} {H : Digest} {P Q : List ℕ → List ℕ → Type 0} {A : Type 0} (p : Divergence D) → ((l r : List ℕ) → P l r → Q l r) → (A → SomeCollision H Q) → Parts H P A p → SomeCollision H Q
+pub some_collision : {D : Type 0} {H : Digest} {P Q : List ℕ → List ℕ → Type 0} {A : Type 0} (p : Divergence D)
+    → ((l r : List ℕ) → P l r → Q l r) → (A → SomeCollision H Q) → Parts H P A p → SomeCollision H Q
 some_collision Target placed meet is = meet is
-some_collision (Branch branches) placed meet is = shown_collides (inputs branches) (record { collides = is.collides; placed = placed _ _ is.placed })
+some_collision (Branch branches) placed meet is = shown_collides (inputs branches)
+    (record { collides = is.collides; placed = placed _ _ is.placed })
 
 module _ (H : Digest) where
   -- each root over the entries has 32 bytes
-  root_size : (entries : List (List ℕ)) (a n : ℕ) → HasSize H → 0 < n → a + n ≤ length (leaves_of H entries) → length (root_over H (leaves_of H entries) a n) ≡ 32
+  root_size : (entries : List (List ℕ)) (a n : ℕ) → HasSize H → 0 < n → a + n ≤ length (leaves_of H entries)
+      → length (root_over H (leaves_of H entries) a n) ≡ 32
   root_size entries a n gives some within = grind (arith, plain_digest_is H entries a n some, leaves_count H entries)
 
   -- an evaluation that leads to the root of a tree, and that tree
   from_tree : {F : Data} {x : List ℕ} (entries : List (List ℕ)) {s w : ℕ} → HasSize H → length x ≡ 32 → IsNodeRange s w
-      → s + w ≤ length (leaves_of H entries) → cut_over H (with_target F (leaves_from s w) x) (leaves_from 0 (length (leaves_of H entries))) ≡ Some (root_of H (leaves_of H entries))
-      → (p : SomeDivergence) × IsDivergence H F x (own_digest H (leaves_of H entries)) (root_over H (leaves_of H entries) s w) s w 0 (length (leaves_of H entries)) p
+      → s + w ≤ length (leaves_of H entries) → cut_over H (with_target F (leaves_from s w) x)
+      (leaves_from 0 (length (leaves_of H entries))) ≡ Some (root_of H (leaves_of H entries))
+      → (p : SomeDivergence) × IsDivergence H F x (own_digest H (leaves_of H entries))
+      (root_over H (leaves_of H entries) s w) s w 0 (length (leaves_of H entries)) p
   from_tree {F} {x} entries {s} {w} gives size node within leads =
       let ds = leaves_of H entries in
       let n = length ds in
       let some = node_some node in
-      diverged _ _ _ _ _ _ _ gives (size ∙ sym (root_size entries s w gives some within)) node (whole_aligned n refl) (omega arith) (have_root H ds s w leads (omega arith))
+      diverged _ _ _ _ _ _ _ gives (size ∙ sym (root_size entries s w gives some within)) node (whole_aligned n refl)
+      (omega arith) (have_root H ds s w leads (omega arith))
 
   -- a claim that is met leads to the root of the tree
-  leads_to : {F : Data} {p : InclusionClaim} {digest : List ℕ} {entries : List (List ℕ)} → IsMet H F p digest entries → let ds = leaves_of H entries in let node = p.leaf.0 in
-      (start_of node + 2 ^ height_of node ≤ length ds) × (cut_over H (with_target F (range_of node) digest) (leaves_from 0 (length ds)) ≡ Some (root_of H ds))
-  leads_to {F} {p} {digest} {entries} met = let at = (inclusion_leads H F p digest _).0 met.is in grind (arith, leaves_count H entries)
+  leads_to : {F : Data} {p : InclusionClaim} {digest : List ℕ} {entries : List (List ℕ)} → IsMet H F p digest entries
+      → let ds = leaves_of H entries in let node = p.leaf.0 in
+      (start_of node + 2 ^ height_of node ≤ length ds)
+      × (cut_over H (with_target F (range_of node) digest) (leaves_from 0 (length ds)) ≡ Some (root_of H ds))
+  leads_to {F} {p} {digest} {entries} met = let at = (inclusion_leads H F p digest _).0 met.is in
+      grind (arith, leaves_count H entries)
 
-  pub value_collides : (F : Data) (p : InclusionClaim) (value : List ℕ) (entries : List (List ℕ)) → GivesHashes H → IsMet H F p (H (0 ∷ value)) entries
+  pub value_collides : (F : Data) (p : InclusionClaim) (value : List ℕ) (entries : List (List ℕ)) → GivesHashes H
+      → IsMet H F p (H (0 ∷ value)) entries
       → ¬ (IsEntry value p.leaf.0 entries) → SomeCollision H (IsValuePlaced H F value p.leaf.0 entries)
   value_collides F p value entries digests met untrue =
       let leads = leads_to met in
-      let (at, diverges) = from_tree entries (sizes digests) (sizes digests (0 ∷ value)) (node_range p.leaf.0) leads.0 leads.1 in
-      shown_collides _ (shown at (value_placed H F entries _ refl p.leaf.0 value) _ _ (value_meets H F entries _ refl p.leaf.0 value (λ is. untrue (entry_from p.leaf.0 is))) diverges)
+      let (at, diverges) = from_tree entries (sizes digests) (sizes digests (0 ∷ value))
+      (node_range p.leaf.0) leads.0 leads.1 in
+      shown_collides _ (shown at (value_placed H F entries _ refl p.leaf.0 value) _ _
+      (value_meets H F entries _ refl p.leaf.0 value (λ is. untrue (entry_from p.leaf.0 is))) diverges)
 
-  pub hash_collides : (F : Data) (p : InclusionClaim) (hash : List ℕ) (entries : List (List ℕ)) → GivesHashes H → length hash ≡ 32 → IsMet H F p hash entries
+  pub hash_collides : (F : Data) (p : InclusionClaim) (hash : List ℕ) (entries : List (List ℕ)) → GivesHashes H
+      → length hash ≡ 32 → IsMet H F p hash entries
       → ¬ (IsRootBelow H hash p.leaf.0 entries) → SomeCollision H (IsHashPlaced H F hash p.leaf.0 entries)
   hash_collides F p hash entries digests size met untrue =
       let leads = leads_to met in
@@ -146,17 +174,20 @@ module _ (H : Digest) where
       some_collision at (hash_placed H F entries _ refl p.leaf.0 hash) (λ meets. absurd (untrue meets.same)) diverges
 
   pub agreement_collides : (p : InclusionClaim) (F : Data) (value : List ℕ) (G : Data) (other : List ℕ) → GivesHashes H
-      → IsAgreement H p F (H (0 ∷ value)) G (H (0 ∷ other)) → ¬ (value ≡ other) → SomeCollision H (IsAgreementPlaced H F value G other p.leaf.0 p.log_length)
+      → IsAgreement H p F (H (0 ∷ value)) G (H (0 ∷ other)) → ¬ (value ≡ other)
+      → SomeCollision H (IsAgreementPlaced H F value G other p.leaf.0 p.log_length)
   agreement_collides p F value G other digests met untrue =
       let n = p.log_length in
       let first = (inclusion_leads H F p _ met.root).0 met.first_is in
       let second = (inclusion_leads H G p _ met.root).0 met.second_is in
-      let (at, diverges) = diverged _ _ _ _ _ _ _ (sizes digests) (sizes digests (0 ∷ value) ∙ sym (sizes digests (0 ∷ other))) (node_range p.leaf.0)
+      let (at, diverges) = diverged _ _ _ _ _ _ _ (sizes digests)
+      (sizes digests (0 ∷ value) ∙ sym (sizes digests (0 ∷ other))) (node_range p.leaf.0)
       (whole_aligned n refl) (omega arith) (record { digest = met.root; first = first.1; second = second.1 }) in
       shown_collides _ (agreement_shown H F value G other p.leaf.0 n at untrue diverges)
 
   -- the balanced root around a difference shows a collision
-  pub consistency_collides : (F : Data) (m n : ℕ) (old new : List (List ℕ)) → GivesHashes H → HoldsRoots F m → IsConsistencyMet H F m n old new → (Begins old new → ⊥)
+  pub consistency_collides : (F : Data) (m n : ℕ) (old new : List (List ℕ)) → GivesHashes H → HoldsRoots F m
+      → IsConsistencyMet H F m n old new → (Begins old new → ⊥)
       → SomeCollision H (IsConsistencyPlaced H F old new)
   consistency_collides F m n old new digests holds met untrue =
       let gives = sizes digests in
@@ -164,7 +195,8 @@ module _ (H : Digest) where
       let es = leaves_of H new in
       let found = difference old new (omega arith) untrue in
       let root = root_found found.0 (length ds) 0 (length ds) (omega arith) (omega (arith, leaves_count H old)) in
-      let leads = root_leads (rw (leaves_count H old, leaves_count H new, met.old_count, met.new_count) met.roots) root.2 in
+      let leads = root_leads (rw (leaves_count H old, leaves_count H new, met.old_count, met.new_count) met.roots)
+      root.2 in
       let at = leads.1 in
       let place = found.0 in
       let count = leaves_count H old ∙ met.old_count in
@@ -175,12 +207,15 @@ module _ (H : Digest) where
       some_collision from_old.0 (old_placed refl refl at)
       (λ in_old. some_collision from_new.0 (new_placed refl refl at)
       (λ in_new.
-      let below = diverged _ _ _ _ _ _ _ gives (root_size old place 1 gives (omega arith) (omega arith) ∙ sym (root_size new place 1 gives (omega arith) (omega arith))) (leaf_node refl)
-      (node_aligned at.node) root.3 (have_range H ds es place 1 (node_aligned at.node) (node_some at.node) at.in_old at.in_new (sym in_old.same ∙ in_new.same)) in
+      let below = diverged _ _ _ _ _ _ _ gives (root_size old place 1 gives (omega arith) (omega arith)
+      ∙ sym (root_size new place 1 gives (omega arith) (omega arith))) (leaf_node refl)
+      (node_aligned at.node) root.3 (have_range H ds es place 1 (node_aligned at.node)
+      (node_some at.node) at.in_old at.in_new (sym in_old.same ∙ in_new.same)) in
       shown_collides _ (below_shown refl refl at place in_new.part found.2 below.0 below.1)) from_new.1) from_old.1
 
 -- what is evaluated has 32 bytes
-value_len : (H : List ℕ → List ℕ) (P : List (Option (List ℕ))) (x : List ℕ) → HasSize H → length x ≡ 32 → (bits : List Bool) → length (proof_value H P x bits) ≡ 32
+value_len : (H : List ℕ → List ℕ) (P : List (Option (List ℕ))) (x : List ℕ) → HasSize H → length x ≡ 32
+    → (bits : List Bool) → length (proof_value H P x bits) ≡ 32
 unfolding proof_value
 value_len H P x gives size [] = size
 value_len H P x gives size (b ∷ bits) = gives (fork_input H P x b bits)
@@ -200,64 +235,109 @@ module _ (H : List ℕ → List ℕ) (gives : HasSize H) where
   held_len insertions q = rw last_held (grind (arith, gives))
 
 -- an agreement of two values, and a claim of a key, that are met and aren't true
-pub key_agreement_collides : (H : List ℕ → List ℕ) (key : List ℕ) (P : List (Option (List ℕ))) (v : List ℕ) (Q : List (Option (List ℕ))) (u : List ℕ) → GivesHashes H
+pub key_agreement_collides : (H : List ℕ → List ℕ) (key : List ℕ) (P : List (Option (List ℕ))) (v : List ℕ)
+    (Q : List (Option (List ℕ))) (u : List ℕ) → GivesHashes H
     → IsKeyAgreement H key P v Q u → (v ≡ u → ⊥) → SomeCollision H (IsKeyAgreementPlaced H key P v Q u)
 key_agreement_collides H key P v Q u digests met other =
     let bits = key_bits H key in
-    elim (two_ways H (sizes digests) (H (0 ∷ v)) (H (0 ∷ u)) (sizes digests _) (sizes digests _) (bit_turns H P bits) (bit_turns H Q bits) (bit_sides H P Q bits) (bit_leads H P _ bits ∙ met ∙ sym (bit_leads H Q _ bits))) [
-      | inl one ↦ record { first = 0 ∷ v; second = 0 ∷ u; collide = record { differ = λ e. other (cc); same = one.0 }; placed = key_agreement_placed H key P v Q u _ _ (inr (refl, refl)) }
-      | inr c ↦ record { first = c.first; second = c.second; collide = c.collide; placed = key_agreement_placed H key P v Q u c.first c.second (inl c.placed) }
+    elim (two_ways H (sizes digests) (H (0 ∷ v)) (H (0 ∷ u)) (sizes digests _) (sizes digests _) (bit_turns H P bits)
+    (bit_turns H Q bits) (bit_sides H P Q bits) (bit_leads H P _ bits ∙ met ∙ sym (bit_leads H Q _ bits))) [
+      | inl one ↦ record {
+        first = 0 ∷ v;
+        second = 0 ∷ u;
+        collide = record { differ = λ e. other (cc); same = one.0 };
+        placed = key_agreement_placed H key P v Q u _ _ (inr (refl, refl));
+      }
+      | inr c ↦ record {
+        first = c.first;
+        second = c.second;
+        collide = c.collide;
+        placed = key_agreement_placed H key P v Q u c.first c.second (inl c.placed);
+      }
     ]
 
 -- a branch has the digests of both sides, on either side of a bit
-sides_same : (f : Bool → List ℕ) (b : Bool) (peer value : List ℕ) → ((c : Bool) → length (f c) ≡ 32) → length value ≡ 32 → input_beside b peer value ≡ branch_input (f false) (f true) → (peer ≡ f (not b)) × (value ≡ f b)
+sides_same : (f : Bool → List ℕ) (b : Bool) (peer value : List ℕ) → ((c : Bool) → length (f c) ≡ 32) → length value ≡ 32
+    → input_beside b peer value ≡ branch_input (f false) (f true) → (peer ≡ f (not b)) × (value ≡ f b)
 sides_same f true peer value sized v e =
-    branch_parts peer value (f false) (f true) (omega (arith, v, sized true, length-append peer value, length-append (f false) (f true), ap length e)) e
-sides_same f false peer value sized v e = let parts = branch_parts value peer (f false) (f true) (v ∙ sym (sized false)) e in (parts.1, parts.0)
+    branch_parts peer value (f false) (f true)
+    (omega (arith, v, sized true, length-append peer value, length-append (f false) (f true), ap length e)) e
+sides_same f false peer value sized v e = let parts = branch_parts value peer (f false) (f true)
+    (v ∙ sym (sized false)) e in (parts.1, parts.0)
 
 -- an evaluation that leads to a plain root is that of the plain tree, or collides with it at a branch
-module _ (H : List ℕ → List ℕ) (P : List (Option (List ℕ))) (x : List ℕ) (gives : HasSize H) (size : length x ≡ 32) (Q : List ℕ → List ℕ → Type 0) where
+module _ (H : List ℕ → List ℕ) (P : List (Option (List ℕ))) (x : List ℕ) (gives : HasSize H) (size : length x ≡ 32)
+    (Q : List ℕ → List ℕ → Type 0) where
   -- The root over what is held behind a bit.
   abbrev side : ℕ → (List Bool → Option (List ℕ)) → Bool → List ℕ
   side k held b = root_of_levels H k (λ q. held (b ∷ q))
 
-  plain_or_collides : (held : List Bool → Option (List ℕ)) → HaveSize held → (bits : List Bool) → proof_value H P x bits ≡ root_of_levels H (length bits) held
-      → ((prefix below : List Bool) (b : Bool) → bits ≡ prefix ++ b ∷ below → Q (fork_input H P x b below) (branch_input (side (length below) (λ q. held (prefix ++ q)) false) (side (length below) (λ q. held (prefix ++ q)) true)))
+  plain_or_collides : (held : List Bool → Option (List ℕ)) → HaveSize held → (bits : List Bool) → proof_value H P x bits
+      ≡ root_of_levels H (length bits) held
+      → ((prefix below : List Bool) (b : Bool) → bits ≡ prefix ++ b ∷ below
+      → Q (fork_input H P x b below) (branch_input (side (length below) (λ q. held (prefix ++ q)) false)
+      (side (length below) (λ q. held (prefix ++ q)) true)))
       → ((x ≡ unwrap_or (held bits) (empty_root H 0)) × IsBeside H P held bits) ⊎ SomeCollision H Q
   unfolding proof_value root_of_levels IsBeside
   plain_or_collides held sized [] e placed = inl (e, tt)
-  plain_or_collides held sized (b ∷ bits) e placed = elim (same_or_not (fork_input H P x b bits) (branch_input (side (length bits) held false) (side (length bits) held true))) [
-    | inl same ↦
-        let sides = sides_same (side (length bits) held) b _ _ (λ c. root_len H gives (length bits) (λ q. held (c ∷ q)) (λ q. sized (c ∷ q))) (value_len H P x gives size bits) same in
-        elim (plain_or_collides (λ q. held (b ∷ q)) (λ q. sized (b ∷ q)) bits sides.1 (λ prefix below c split. placed (b ∷ prefix) below c (ap (λ q. b ∷ q) split))) [
-          | inl (is, beside) ↦ inl (is, (sides.0, beside))
-          | inr collision ↦ inr collision
-        ]
-    | inr differ ↦ inr (record { first = _; second = _; collide = record { differ = differ; same = e }; placed = placed [] bits b refl })
-  ]
+  plain_or_collides held sized (b ∷ bits) e placed =
+      elim (same_or_not (fork_input H P x b bits)
+      (branch_input (side (length bits) held false) (side (length bits) held true))) [
+        | inl same ↦
+            let sides = sides_same (side (length bits) held) b _ _
+            (λ c. root_len H gives (length bits) (λ q. held (c ∷ q)) (λ q. sized (c ∷ q)))
+            (value_len H P x gives size bits) same in
+            elim (plain_or_collides (λ q. held (b ∷ q)) (λ q. sized (b ∷ q)) bits sides.1
+            (λ prefix below c split. placed (b ∷ prefix) below c (ap (λ q. b ∷ q) split))) [
+              | inl (is, beside) ↦ inl (is, (sides.0, beside))
+              | inr collision ↦ inr collision
+            ]
+        | inr differ ↦ inr (record {
+          first = _;
+          second = _;
+          collide = record { differ = differ; same = e };
+          placed = placed [] bits b refl;
+        })
+      ]
 
 -- a claim of a key that is met
-module _ (H : List ℕ → List ℕ) (peers : List (Option (List ℕ))) (key value : List ℕ) (insertions : List (List ℕ × List ℕ)) (digests : GivesHashes H) (met : IsKeyMet H peers key value insertions) where
-  alike_or_collides : IsAlike H peers key value insertions ⊎ SomeCollision H (IsPlacedAtPrefix H peers value key insertions)
+module _ (H : List ℕ → List ℕ) (peers : List (Option (List ℕ))) (key value : List ℕ)
+    (insertions : List (List ℕ × List ℕ)) (digests : GivesHashes H) (met : IsKeyMet H peers key value insertions) where
+  alike_or_collides : IsAlike H peers key value insertions
+      ⊎ SomeCollision H (IsPlacedAtPrefix H peers value key insertions)
   alike_or_collides =
       let gives = sizes digests in
       let bits = key_bits H key in
       let all = all_bits H key in
-      elim (plain_or_collides H peers (leaf_digest H value) gives (gives _) (IsPlacedAtPrefix H peers value key insertions) (get (map_of H insertions)) (held_len H gives insertions) bits (rw all met)
-      (λ prefix below b split. record { prefix = prefix; rest = b ∷ below; bits = split; evaluation = refl; plain = refl })) [
-        | inl (same, beside) ↦ inl (record { same = same ∙ sym (plain_leaf_is H insertions bits); updates = own_grown_root H insertions key peers beside })
+      elim (plain_or_collides H peers (leaf_digest H value) gives (gives _)
+      (IsPlacedAtPrefix H peers value key insertions) (get (map_of H insertions)) (held_len H gives insertions) bits
+      (rw all met)
+      (λ prefix below b split. record {
+        prefix = prefix;
+        rest = b ∷ below;
+        bits = split;
+        evaluation = refl;
+        plain = refl;
+      })) [
+        | inl (same, beside) ↦ inl (record {
+          same = same ∙ sym (plain_leaf_is H insertions bits);
+          updates = own_grown_root H insertions key peers beside;
+        })
         | inr collision ↦ inr collision
       ]
 
   -- and isn't true
   pub key_collides : (IsLastValue key value insertions → ⊥) → SomeCollision H (IsKeyPlaced H peers value key insertions)
   key_collides untrue = elim alike_or_collides [
-    | inl alike ↦ shown_collides _ (key_shown H peers key value insertions untrue {D = Unit {0}} Target _ digests refl alike)
+    | inl alike ↦ shown_collides _
+        (key_shown H peers key value insertions untrue {D = Unit {0}} Target _ digests refl alike)
     | inr c ↦ record { first = c.first; second = c.second; collide = c.collide; placed = inl c.placed }
   ]
 
-  pub update_collides : (new : List ℕ) → ¬ (IsUpdated H peers key new insertions) → SomeCollision H (IsPlacedAtPrefix H peers value key insertions)
-  update_collides new untrue = elim alike_or_collides [ inl alike ↦ absurd (untrue (alike.updates new)) | inr collision ↦ collision ]
+  pub update_collides : (new : List ℕ) → ¬ (IsUpdated H peers key new insertions)
+      → SomeCollision H (IsPlacedAtPrefix H peers value key insertions)
+  update_collides new untrue = elim alike_or_collides
+      [ inl alike ↦ absurd (untrue (alike.updates new)) | inr collision ↦ collision ]
 
 -- a map's own proof has no more peers than there are bits
 few_down : (H : List ℕ → List ℕ) (empty_half : ℕ → Option (List ℕ)) (held : List Bool → Option (List ℕ))
@@ -276,7 +356,8 @@ few_peers H empty_half held key peers all =
     omega (arith, all_bits H key, length-reverse peers)
 
 -- a map's own proof of a key meets the key's claim
-pub own_met : (H : List ℕ → List ℕ) (insertions : List (List ℕ × List ℕ)) (key value : List ℕ) (peers : List (Option (List ℕ)))
+pub own_met : (H : List ℕ → List ℕ) (insertions : List (List ℕ × List ℕ)) (key value : List ℕ)
+    (peers : List (Option (List ℕ)))
     → last_under H (key_bits H key) insertions ≡ Some (key, value)
     → Proves H 256 (map_of H insertions) (key_bits H key) peers → IsKeyMet H peers key value insertions
 own_met H insertions key value peers last proves =
@@ -309,17 +390,29 @@ own_absent H insertions key value peers proves =
     )
 
 -- a list of steps, behind others that led to the plain root
-steps_lead : (H : List ℕ → List ℕ) → GivesHashes H → (before steps : List Step) (root end : List ℕ) → root ≡ sparse_root H 256 (map_of H (insertions_of before)) → LeadThrough H root steps end
+steps_lead : (H : List ℕ → List ℕ) → GivesHashes H → (before steps : List Step) (root end : List ℕ)
+    → root ≡ sparse_root H 256 (map_of H (insertions_of before)) → LeadThrough H root steps end
     → (end ≡ sparse_root H 256 (map_of H (insertions_of (before ++ steps)))) ⊎ CollidesAtStep H (before ++ steps)
 unfolding LeadThrough
 steps_lead H digests before [] root end is through = inl (rw append-nil (sym through ∙ is))
 steps_lead H digests before (s ∷ steps) root end is through =
     let (next, from_old, from_new, rest) = through in
-    elim (same_or_not (proof_value H s.peers (leaf_digest H s.new_value) (key_bits H s.key)) (sparse_root H 256 (map_of H (insertions_of before ++ (s.key, s.new_value) ∷ [])))) [
-      | inl updated ↦ rw append_assoc at (steps_lead H digests (before ++ s ∷ []) steps next end (rw map-append (sym from_new ∙ updated)) rest)
-      | inr untrue ↦ inr (record { before = before; step = s; after = steps; split = refl; collision = update_collides H s.peers s.key s.old_value (insertions_of before) digests (from_old ∙ is) s.new_value untrue })
+    elim (same_or_not (proof_value H s.peers (leaf_digest H s.new_value) (key_bits H s.key))
+    (sparse_root H 256 (map_of H (insertions_of before ++ (s.key, s.new_value) ∷ [])))) [
+      | inl updated ↦ rw append_assoc at
+          (steps_lead H digests (before ++ s ∷ []) steps next end (rw map-append (sym from_new ∙ updated)) rest)
+      | inr untrue ↦ inr (record {
+        before = before;
+        step = s;
+        after = steps;
+        split = refl;
+        collision = update_collides H s.peers s.key s.old_value (insertions_of before) digests
+            (from_old ∙ is) s.new_value untrue;
+      })
     ]
 
-pub steps_end : (H : List ℕ → List ℕ) (steps : List Step) (root : List ℕ) → GivesHashes H → LeadThrough H (sparse_root H 256 empty) steps root → (root ≡ sparse_root H 256 (map_of H (insertions_of steps))) ⊎ CollidesAtStep H steps
+pub steps_end : (H : List ℕ → List ℕ) (steps : List Step) (root : List ℕ) → GivesHashes H
+    → LeadThrough H (sparse_root H 256 empty) steps root → (root ≡ sparse_root H 256 (map_of H (insertions_of steps)))
+    ⊎ CollidesAtStep H steps
 unfolding inserted
 steps_end H steps root digests through = steps_lead H digests [] steps (sparse_root H 256 empty) root refl through

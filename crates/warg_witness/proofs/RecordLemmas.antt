@@ -30,10 +30,12 @@ use Rattle.warg_witness.proofs.RangeLemmas.{Digest, front_aligned, rest_aligned,
 use Rattle.warg_witness.proofs.TurnLemmas.{no_turns, turn_up}
 
 -- a path that leads somewhere, from a place that is there
-pub leads_inside : (H : Digest) (m n : ℕ) (x root : List ℕ) (path : List (List ℕ)) → inclusion_root H m n x path ≡ Some root → (m < n) × (root_down H m n x (reverse path) ≡ Some root)
+pub leads_inside : (H : Digest) (m n : ℕ) (x root : List ℕ) (path : List (List ℕ)) → inclusion_root H m n x path
+    ≡ Some root → (m < n) × (root_down H m n x (reverse path) ≡ Some root)
 leads_inside H m n x root path is = grind (arith, nat_tests)
 
-inside_leads : (H : Digest) (m n : ℕ) (x : List ℕ) (path : List (List ℕ)) → m < n → inclusion_root H m n x path ≡ root_down H m n x (reverse path)
+inside_leads : (H : Digest) (m n : ℕ) (x : List ℕ) (path : List (List ℕ)) → m < n → inclusion_root H m n x path
+    ≡ root_down H m n x (reverse path)
 inside_leads H m n x path lt = rw (lt-ltb m n lt) refl
 
 -- a path from the topmost digest down
@@ -41,11 +43,13 @@ pub turned : (path below : List (List ℕ)) (top : List ℕ) → path ≡ below 
 turned path below top is = rw is (reverse-append below (top ∷ []))
 
 -- of more leaves, the root is the branch over that of the part which has the leaf and the topmost digest
-front_leads : (H : Digest) (m n : ℕ) (x top : List ℕ) (below : List (List ℕ)) → 1 < n → m < front_of n → root_down H m n x (top ∷ below) ≡ joined H (root_down H m (front_of n) x below) (Some top)
+front_leads : (H : Digest) (m n : ℕ) (x top : List ℕ) (below : List (List ℕ)) → 1 < n → m < front_of n
+    → root_down H m n x (top ∷ below) ≡ joined H (root_down H m (front_of n) x below) (Some top)
 unfolding root_down
 front_leads H m n x top below more lt = rw (lt-leb n 1 more, lt-ltb m (front_of n) lt) refl
 
-rest_leads : (H : Digest) (m n : ℕ) (x top : List ℕ) (below : List (List ℕ)) → 1 < n → front_of n ≤ m → root_down H m n x (top ∷ below) ≡ joined H (Some top) (root_down H (m - front_of n) (n - front_of n) x below)
+rest_leads : (H : Digest) (m n : ℕ) (x top : List ℕ) (below : List (List ℕ)) → 1 < n → front_of n ≤ m
+    → root_down H m n x (top ∷ below) ≡ joined H (Some top) (root_down H (m - front_of n) (n - front_of n) x below)
 unfolding root_down
 rest_leads H m n x top below more le = rw (lt-leb n 1 more, le-ltb m (front_of n) le) refl
 
@@ -57,32 +61,43 @@ at_leaf H m n x root is = elim (cases_Bool (n == 1)) [
   | inr more ↦ absurd (let none = rw more at is in cc)
 ]
 
-more_leaves : (H : List ℕ → List ℕ) (m n : ℕ) (x root top : List ℕ) (below : List (List ℕ)) → root_down H m n x (top ∷ below) ≡ Some root → 1 < n
+more_leaves : (H : List ℕ → List ℕ) (m n : ℕ) (x root top : List ℕ) (below : List (List ℕ))
+    → root_down H m n x (top ∷ below) ≡ Some root → 1 < n
 unfolding root_down
 more_leaves H m n x root top below is = elim (cases_lt 1 n) [
   | inl more ↦ more
   | inr few ↦ absurd (let none = rw (le-leb n 1 few) at is in cc)
 ]
 
-joined_left : (H : List ℕ → List ℕ) (left : Option (List ℕ)) (right root : List ℕ) → joined H left (Some right) ≡ Some root → (l : List ℕ) × (left ≡ Some l) × (H (branch_input l right) ≡ root)
+joined_left : (H : List ℕ → List ℕ) (left : Option (List ℕ)) (right root : List ℕ) → joined H left (Some right)
+    ≡ Some root → (l : List ℕ) × (left ≡ Some l) × (H (branch_input l right) ≡ root)
 joined_left H (Some l) right root is = (l, refl, cc)
 joined_left H None right root is = absurd (cc)
 
-joined_right : (H : List ℕ → List ℕ) (left : List ℕ) (right : Option (List ℕ)) (root : List ℕ) → joined H (Some left) right ≡ Some root → (r : List ℕ) × (right ≡ Some r) × (H (branch_input left r) ≡ root)
+joined_right : (H : List ℕ → List ℕ) (left : List ℕ) (right : Option (List ℕ)) (root : List ℕ)
+    → joined H (Some left) right ≡ Some root → (r : List ℕ) × (right ≡ Some r) × (H (branch_input left r) ≡ root)
 joined_right H left (Some r) root is = (r, refl, cc)
 joined_right H left None root is = absurd (cc)
 
 -- so it does by way of the part that has the leaf: the root there, and what is taken here
-leads_up : (H : Digest) (m n : ℕ) (x top l : List ℕ) (below : List (List ℕ)) → 1 < n → root_down H (leaf_in m n) (count_in m n) x below ≡ Some l → root_down H m n x (top ∷ below) ≡ Some (H (input_beside (is_right m n) top l))
+leads_up : (H : Digest) (m n : ℕ) (x top l : List ℕ) (below : List (List ℕ)) → 1 < n
+    → root_down H (leaf_in m n) (count_in m n) x below ≡ Some l → root_down H m n x (top ∷ below)
+    ≡ Some (H (input_beside (is_right m n) top l))
 leads_up H m n x top l below more led = elim (cases_lt m (front_of n)) [
-  | inl lt ↦ rw (lt-leb (front_of n) m lt) (front_leads H m n x top below more lt ∙ ap (λ l. joined H l (Some top)) (rw (lt-leb (front_of n) m lt) at led))
-  | inr le ↦ rw (le-leb (front_of n) m le) (rest_leads H m n x top below more le ∙ ap (λ r. joined H (Some top) r) (rw (le-leb (front_of n) m le) at led))
+  | inl lt ↦ rw (lt-leb (front_of n) m lt) (front_leads H m n x top below more lt ∙ ap (λ l. joined H l (Some top))
+      (rw (lt-leb (front_of n) m lt) at led))
+  | inr le ↦ rw (le-leb (front_of n) m le) (rest_leads H m n x top below more le ∙ ap (λ r. joined H (Some top) r)
+      (rw (le-leb (front_of n) m le) at led))
 ]
 
-taken_at : (H : Digest) (m n : ℕ) (x top l : List ℕ) (below : List (List ℕ)) → root_down H (leaf_in m n) (count_in m n) x below ≡ Some l → turn_input H x m n top below ≡ Some (input_beside (is_right m n) top l)
+taken_at : (H : Digest) (m n : ℕ) (x top l : List ℕ) (below : List (List ℕ))
+    → root_down H (leaf_in m n) (count_in m n) x below ≡ Some l → turn_input H x m n top below
+    ≡ Some (input_beside (is_right m n) top l)
 taken_at H m n x top l below led = elim (cases_lt m (front_of n)) [
-  | inl lt ↦ let is : root_down H m (front_of n) x below ≡ Some l = rw (lt-leb (front_of n) m lt) at led in rw (lt-leb (front_of n) m lt, lt-ltb m (front_of n) lt, is) refl
-  | inr le ↦ let is : root_down H (m - front_of n) (n - front_of n) x below ≡ Some l = rw (le-leb (front_of n) m le) at led in rw (le-leb (front_of n) m le, le-ltb m (front_of n) le, is) refl
+  | inl lt ↦ let is : root_down H m (front_of n) x below ≡ Some l = rw (lt-leb (front_of n) m lt) at led in
+      rw (lt-leb (front_of n) m lt, lt-ltb m (front_of n) lt, is) refl
+  | inr le ↦ let is : root_down H (m - front_of n) (n - front_of n) x below ≡ Some l =
+      rw (le-leb (front_of n) m le) at led in rw (le-leb (front_of n) m le, le-ltb m (front_of n) le, is) refl
 ]
 
 record IsLed (H : Digest) (m n : ℕ) (x root top : List ℕ) (below : List (List ℕ)) : Type 0 where
@@ -91,29 +106,43 @@ record IsLed (H : Digest) (m n : ℕ) (x root top : List ℕ) (below : List (Lis
   led : root_down H (leaf_in m n) (count_in m n) x below ≡ Some digest
   root_is : root ≡ H (input_beside (is_right m n) top digest)
 
-led_down : (H : Digest) (m n : ℕ) (x root top : List ℕ) (below : List (List ℕ)) → root_down H m n x (top ∷ below) ≡ Some root → IsLed H m n x root top below
+led_down : (H : Digest) (m n : ℕ) (x root top : List ℕ) (below : List (List ℕ)) → root_down H m n x (top ∷ below)
+    ≡ Some root → IsLed H m n x root top below
 led_down H m n x root top below is =
     let more = more_leaves H m n x root top below is in
     elim (cases_lt m (front_of n)) [
       | inl lt ↦
           let (l, l_is, root_is) = joined_left H _ top _ (sym (front_leads H m n x top below more lt) ∙ is) in
-          record { digest = l; more = more; led = rw (lt-leb (front_of n) m lt) l_is; root_is = rw (lt-leb (front_of n) m lt) (sym root_is) }
+          record {
+            digest = l;
+            more = more;
+            led = rw (lt-leb (front_of n) m lt) l_is;
+            root_is = rw (lt-leb (front_of n) m lt) (sym root_is);
+          }
       | inr le ↦
           let (r, r_is, root_is) = joined_right H top _ _ (sym (rest_leads H m n x top below more le) ∙ is) in
-          record { digest = r; more = more; led = rw (le-leb (front_of n) m le) r_is; root_is = rw (le-leb (front_of n) m le) (sym root_is) }
+          record {
+            digest = r;
+            more = more;
+            led = rw (le-leb (front_of n) m le) r_is;
+            root_is = rw (le-leb (front_of n) m le) (sym root_is);
+          }
     ]
 
 -- the part that has the leaf, of the n leaves from a on
 abbrev start_in : ℕ → ℕ → ℕ → ℕ
 start_in m a n = if is_right m n then a + front_of n else a
 
-way_in : {m₀ a₀ n₀ m a n : ℕ} {ds₀ below : List (List ℕ)} {top : List ℕ} → 1 < n → IsOnWay m₀ a₀ n₀ ds₀ m a n (top ∷ below) → IsOnWay m₀ a₀ n₀ ds₀ (leaf_in m n) (start_in m a n) (count_in m n) below
+way_in : {m₀ a₀ n₀ m a n : ℕ} {ds₀ below : List (List ℕ)} {top : List ℕ} → 1 < n
+    → IsOnWay m₀ a₀ n₀ ds₀ m a n (top ∷ below) → IsOnWay m₀ a₀ n₀ ds₀ (leaf_in m n) (start_in m a n)
+    (count_in m n) below
 way_in {m = m} {a} {n} {below = below} {top} more way = elim (cases_lt m (front_of n)) [
   | inl lt ↦ rw (lt-leb (front_of n) m lt) (front m a n top below way more lt)
   | inr le ↦ rw (le-leb (front_of n) m le) (rest m a n top below way more le)
 ]
 
-bounds_in : (m a n : ℕ) → m < n → 1 < n → (start_in m a n + leaf_in m n ≡ a + m) × (leaf_in m n < count_in m n) × (start_in m a n + count_in m n ≤ a + n) × (count_in m n < n)
+bounds_in : (m a n : ℕ) → m < n → 1 < n → (start_in m a n + leaf_in m n ≡ a + m) × (leaf_in m n < count_in m n)
+    × (start_in m a n + count_in m n ≤ a + n) × (count_in m n < n)
 bounds_in m a n inside more =
     let f = front_is_greatest n more in
     elim (cases_lt m (front_of n)) [
@@ -125,18 +154,26 @@ bounds_in m a n inside more =
 pub whole_root : (H : Digest) (tree : List (List ℕ)) → root_over H tree 0 (length tree) ≡ root_of H tree
 whole_root H tree = ap (root_of H) (take-length tree)
 
-pub plain_root : (H : Digest) (entries : List (List ℕ)) → root_over H (leaves_of H entries) 0 (length entries) ≡ root_of H (leaves_of H entries)
+pub plain_root : (H : Digest) (entries : List (List ℕ)) → root_over H (leaves_of H entries) 0 (length entries)
+    ≡ root_of H (leaves_of H entries)
 plain_root H entries = rw leaves_count at (whole_root H (leaves_of H entries))
 
 -- the branch over the roots of both sides of a range is the tree's
-tree_beside : (H : Digest) (tree : List (List ℕ)) (right : Bool) {a n b k c j : ℕ} {e z : List ℕ} → AreSides right a n b k c j → e ≡ root_over H tree b k → z ≡ root_over H tree c j → input_beside right z e ≡ tree_input H tree a n
-tree_beside H tree false sides near far = rw (near, far, sides.start, sides.count, sides.other_start, sides.other_count) refl
-tree_beside H tree true sides near far = rw (near, far, sides.start, sides.count, sides.other_start, sides.other_count) refl
+tree_beside : (H : Digest) (tree : List (List ℕ)) (right : Bool) {a n b k c j : ℕ} {e z : List ℕ}
+    → AreSides right a n b k c j → e ≡ root_over H tree b k → z ≡ root_over H tree c j → input_beside right z e
+    ≡ tree_input H tree a n
+tree_beside H tree false sides near far = rw (near, far, sides.start, sides.count, sides.other_start, sides.other_count)
+    refl
+tree_beside H tree true sides near far = rw (near, far, sides.start, sides.count, sides.other_start, sides.other_count)
+    refl
 
 -- one branch up beside a tree
-pub beside_up : {D : Type 0} {H : Digest} (tree : List (List ℕ)) {P Q : List ℕ → List ℕ → Type 0} {A B : Type 0} {right : Bool} {a n b k c j : ℕ} {d e u z f g : List ℕ} {p q : Divergence D}
-    → 1 < n → a + n ≤ length tree → AreSides right a n b k c j → IsBeside H tree P A b k d e p → z ≡ root_over H tree c j → IsUp H right d u e z p f g q → ((i j : List ℕ) → P i j → Q i j) → (A → B)
-    → (input_beside right z e ≡ tree_input H tree a n → Q (input_beside right u d) (input_beside right z e)) → IsBeside H tree Q B a n f g q
+pub beside_up : {D : Type 0} {H : Digest} (tree : List (List ℕ)) {P Q : List ℕ → List ℕ → Type 0} {A B : Type 0}
+    {right : Bool} {a n b k c j : ℕ} {d e u z f g : List ℕ} {p q : Divergence D}
+    → 1 < n → a + n ≤ length tree → AreSides right a n b k c j → IsBeside H tree P A b k d e p
+    → z ≡ root_over H tree c j → IsUp H right d u e z p f g q → ((i j : List ℕ) → P i j → Q i j) → (A → B)
+    → (input_beside right z e ≡ tree_input H tree a n → Q (input_beside right u d) (input_beside right z e))
+    → IsBeside H tree Q B a n f g q
 beside_up {H = H} tree {Q = Q} {B = B} {right} {a} {n} {p = p} more within sides below z_is up widen meet here =
     let plain = tree_beside H tree right sides below.is z_is in record {
       is = up.second_is ∙ ap H plain ∙ sym (root_over_parts H tree a n more within);
@@ -145,17 +182,24 @@ beside_up {H = H} tree {Q = Q} {B = B} {right} {a} {n} {p = p} more within sides
 
 -- both evaluations at a leaf, and one turn up
 module _ {D : Type 0} (H : Digest) (x y : List ℕ) where
-  pub leaf_climb : {m n : ℕ} {first second : List ℕ} {p : Divergence D} (path other : List (List ℕ)) → n ≡ 1 → length path ≡ 0 → length other ≡ 0 → first ≡ x → second ≡ y → p ≡ Target
+  pub leaf_climb : {m n : ℕ} {first second : List ℕ} {p : Divergence D} (path other : List (List ℕ)) → n ≡ 1
+      → length path ≡ 0 → length other ≡ 0 → first ≡ x → second ≡ y → p ≡ Target
       → IsPathClimb H x (reverse path) y (reverse other) m n first second p
   leaf_climb {m} path other one none others first second target =
-      rw (one, first, second, target) (record { first_led = root_one H m x path none; second_led = root_one H m y other others; climb = rw (empty path none, empty other others) (no_turns refl refl refl) })
+      rw (one, first, second, target)
+      (record {
+        first_led = root_one H m x path none;
+        second_led = root_one H m y other others;
+        climb = rw (empty path none, empty other others) (no_turns refl refl refl);
+      })
     where
       empty : (path : List (List ℕ)) → length path ≡ 0 → reverse path ≡ []
       empty [] is = refl
       empty (d ∷ path) is = absurd (omega arith)
 
   module _ {t u : List ℕ} {ds es : List (List ℕ)} (m n : ℕ) (more : 1 < n) where
-    pub part_up : {d e f g : List ℕ} {p q : Divergence D} → IsPathClimb H x ds y es (leaf_in m n) (count_in m n) d e p → IsUp H (is_right m n) d t e u p f g q → IsPathClimb H x (t ∷ ds) y (u ∷ es) m n f g q
+    pub part_up : {d e f g : List ℕ} {p q : Divergence D} → IsPathClimb H x ds y es (leaf_in m n) (count_in m n) d e p
+        → IsUp H (is_right m n) d t e u p f g q → IsPathClimb H x (t ∷ ds) y (u ∷ es) m n f g q
     part_up climb up = record {
       first_led = leads_up H m n x t _ ds more climb.first_led ∙ ap Some (sym up.first_is);
       second_led = leads_up H m n y u _ es more climb.second_led ∙ ap Some (sym up.second_is);
@@ -163,19 +207,26 @@ module _ {D : Type 0} (H : Digest) (x y : List ℕ) where
     }
 
 -- where one leads nowhere in the part that has the leaf, it leads nowhere
-pub part_nowhere : (H : Digest) (x y t u : List ℕ) (ds es : List (List ℕ)) (m n : ℕ) → LeadNowhere H x ds y es (leaf_in m n) (count_in m n) → LeadNowhere H x (t ∷ ds) y (u ∷ es) m n
-part_nowhere H x y t u ds es m n nowhere = λ first second is other. nowhere _ _ (led_down H m n x first t ds is).led (led_down H m n y second u es other).led
+pub part_nowhere : (H : Digest) (x y t u : List ℕ) (ds es : List (List ℕ)) (m n : ℕ)
+    → LeadNowhere H x ds y es (leaf_in m n) (count_in m n) → LeadNowhere H x (t ∷ ds) y (u ∷ es) m n
+part_nowhere H x y t u ds es m n nowhere = λ first second is other. nowhere _ _ (led_down H m n x first t ds is).led
+    (led_down H m n y second u es other).led
 
 -- two paths of which one leads nowhere, that lead to two digests, and that lead to one
 module _ (H : Digest) (x y : List ℕ) (path other : List (List ℕ)) (m n : ℕ) where
   pub nowhere_never : LeadNowhere H x (reverse path) y (reverse other) m n → NeverMeet H x path y other m n
-  nowhere_never nowhere = λ root first second. nowhere root root (leads_inside H m n x root path first).1 (leads_inside H m n y root other second).1
+  nowhere_never nowhere = λ root first second. nowhere root root (leads_inside H m n x root path first).1
+      (leads_inside H m n y root other second).1
 
-  module _ {D : Type 0} {first second : List ℕ} {p : Divergence D} (climb : IsPathClimb H x (reverse path) y (reverse other) m n first second p) where
-    pub paths_met : m < n → (met : Option (Divergence D)) → MatchOption met (¬ (first ≡ second)) (λ q. (first ≡ second) × (q ≡ p)) → MatchOption met (NeverMeet H x path y other m n) (IsPathsMeeting H x path y other m n)
+  module _ {D : Type 0} {first second : List ℕ} {p : Divergence D}
+      (climb : IsPathClimb H x (reverse path) y (reverse other) m n first second p) where
+    pub paths_met : m < n → (met : Option (Divergence D))
+        → MatchOption met (¬ (first ≡ second)) (λ q. (first ≡ second) × (q ≡ p))
+        → MatchOption met (NeverMeet H x path y other m n) (IsPathsMeeting H x path y other m n)
     paths_met inside None apart = λ root is other_is.
         let one : Some first ≡ Some root = sym climb.first_led ∙ (leads_inside H m n x root path is).1 in
-        let two : Some second ≡ Some root = sym climb.second_led ∙ (leads_inside H m n y root other other_is).1 in apart (cc)
+        let two : Some second ≡ Some root = sym climb.second_led ∙ (leads_inside H m n y root other other_is).1 in
+        apart (cc)
     paths_met inside (Some q) is = rw is.1 (record {
       root = first;
       first_is = inside_leads H m n x path inside ∙ climb.first_led;
@@ -184,85 +235,136 @@ module _ (H : Digest) (x y : List ℕ) (path other : List (List ℕ)) (m n : ℕ
     })
 
 -- a path that leads to a root leads to it by its turns
-pub path_leads : (H : Digest) (m n : ℕ) (x root : List ℕ) (ds : List (List ℕ)) → root_down H m n x ds ≡ Some root → root ≡ climbed H x (path_turns m n ds)
+pub path_leads : (H : Digest) (m n : ℕ) (x root : List ℕ) (ds : List (List ℕ)) → root_down H m n x ds ≡ Some root
+    → root ≡ climbed H x (path_turns m n ds)
 path_leads H m n x root [] is = sym (at_leaf H m n x root is).1
 path_leads H m n x root (top ∷ below) is =
-    let at = led_down H m n x root top below is in at.root_is ∙ ap (λ l. H (input_beside (is_right m n) top l)) (path_leads H (leaf_in m n) (count_in m n) x at.digest below at.led)
+    let at = led_down H m n x root top below is in at.root_is ∙ ap (λ l. H (input_beside (is_right m n) top l))
+    (path_leads H (leaf_in m n) (count_in m n) x at.digest below at.led)
 
 -- two paths of one place have as many digests, and so the same sides
-one_or_more : (H : Digest) (m n : ℕ) (x y root other top : List ℕ) (below : List (List ℕ)) → root_down H m n x [] ≡ Some root → root_down H m n y (top ∷ below) ≡ Some other → ⊥
-one_or_more H m n x y root other top below is other_is = let one = (at_leaf H m n x root is).0 in let more = more_leaves H m n y other top below other_is in omega arith
+one_or_more : (H : Digest) (m n : ℕ) (x y root other top : List ℕ) (below : List (List ℕ)) → root_down H m n x []
+    ≡ Some root → root_down H m n y (top ∷ below) ≡ Some other → ⊥
+one_or_more H m n x y root other top below is other_is = let one = (at_leaf H m n x root is).0 in
+    let more = more_leaves H m n y other top below other_is in omega arith
 
-pub same_sides : (H : Digest) (x y root other : List ℕ) (m n : ℕ) (ds es : List (List ℕ)) → root_down H m n x ds ≡ Some root → root_down H m n y es ≡ Some other
+pub same_sides : (H : Digest) (x y root other : List ℕ) (m n : ℕ) (ds es : List (List ℕ)) → root_down H m n x ds
+    ≡ Some root → root_down H m n y es ≡ Some other
     → map (λ (t : Turn). t.right) (path_turns m n ds) ≡ map (λ (t : Turn). t.right) (path_turns m n es)
 same_sides H x y root other m n [] [] is other_is = refl
 same_sides H x y root other m n [] (u ∷ es) is other_is = absurd (one_or_more H m n _ _ _ _ _ _ is other_is)
 same_sides H x y root other m n (t ∷ ds) [] is other_is = absurd (one_or_more H m n _ _ _ _ _ _ other_is is)
 same_sides H x y root other m n (t ∷ ds) (u ∷ es) is other_is =
     let at = led_down H m n x root t ds is in
-    let other_at = led_down H m n y other u es other_is in ap (λ sides. is_right m n ∷ sides) (same_sides H x y at.digest other_at.digest (leaf_in m n) (count_in m n) ds es at.led other_at.led)
+    let other_at = led_down H m n y other u es other_is in
+    ap (λ sides. is_right m n ∷ sides)
+    (same_sides H x y at.digest other_at.digest (leaf_in m n) (count_in m n) ds es at.led other_at.led)
 
 -- what two evaluations take at a turn, or at the leaf, stands on the way
-module _ (H : Digest) (index count : ℕ) (path : List (List ℕ)) (v : List ℕ) (other_path : List (List ℕ)) (u : List ℕ) where
+module _ (H : Digest) (index count : ℕ) (path : List (List ℕ)) (v : List ℕ) (other_path : List (List ℕ))
+    (u : List ℕ) where
   -- What both take.
   abbrev Take : ℕ → ℕ → List (List ℕ) → List (List ℕ) → List ℕ → List ℕ → Type 0
-  Take m n ds es first second = AreTaken H (H (0 ∷ v)) (path_turns m n ds) (H (0 ∷ u)) (path_turns m n es) first second ⊎ ((first ≡ 0 ∷ v) × (second ≡ 0 ∷ u))
+  Take m n ds es first second = AreTaken H (H (0 ∷ v)) (path_turns m n ds) (H (0 ∷ u)) (path_turns m n es) first second
+      ⊎ ((first ≡ 0 ∷ v) × (second ≡ 0 ∷ u))
 
-  on_way : (m a n : ℕ) (ds es : List (List ℕ)) (root other first second : List ℕ) → root_down H m n (H (0 ∷ v)) ds ≡ Some root → root_down H m n (H (0 ∷ u)) es ≡ Some other
-      → IsOnWay index 0 count (reverse path) m a n ds → IsOnWay index 0 count (reverse other_path) m a n es → Take m n ds es first second → IsRecordAgreementPlaced H index count path v other_path u first second
+  on_way : (m a n : ℕ) (ds es : List (List ℕ)) (root other first second : List ℕ) → root_down H m n (H (0 ∷ v)) ds
+      ≡ Some root → root_down H m n (H (0 ∷ u)) es ≡ Some other
+      → IsOnWay index 0 count (reverse path) m a n ds → IsOnWay index 0 count (reverse other_path) m a n es
+      → Take m n ds es first second → IsRecordAgreementPlaced H index count path v other_path u first second
   on_way m a n [] [] root other first second is other_is way other_way (inl none) = elim none [ ]
   on_way m a n [] [] root other first second is other_is way other_way (inr leaf) =
-      let first_is : Some (leaf_input v) ≡ Some first = ap Some (sym leaf.0) in let second_is : Some (leaf_input u) ≡ Some second = ap Some (sym leaf.1) in search (way, other_way, first_is, second_is)
-  on_way m a n [] (e ∷ es) root other first second is other_is way other_way take = absurd (one_or_more H m n _ _ _ _ _ _ is other_is)
-  on_way m a n (d ∷ ds) [] root other first second is other_is way other_way take = absurd (one_or_more H m n _ _ _ _ _ _ other_is is)
+      let first_is : Some (leaf_input v) ≡ Some first = ap Some (sym leaf.0) in let second_is : Some (leaf_input u)
+      ≡ Some second = ap Some (sym leaf.1) in search (way, other_way, first_is, second_is)
+  on_way m a n [] (e ∷ es) root other first second is other_is way other_way take =
+      absurd (one_or_more H m n _ _ _ _ _ _ is other_is)
+  on_way m a n (d ∷ ds) [] root other first second is other_is way other_way take =
+      absurd (one_or_more H m n _ _ _ _ _ _ other_is is)
   on_way m a n (d ∷ ds) (e ∷ es) root other first second is other_is way other_way take =
       let at = led_down H m n (H (0 ∷ v)) root d ds is in
       let other_at = led_down H m n (H (0 ∷ u)) other e es other_is in
-      let deeper : Take (leaf_in m n) (count_in m n) ds es first second → IsRecordAgreementPlaced H index count path v other_path u first second =
-      on_way (leaf_in m n) (start_in m a n) (count_in m n) ds es at.digest other_at.digest first second at.led other_at.led (way_in at.more way) (way_in at.more other_way) in
+      let deeper : Take (leaf_in m n) (count_in m n) ds es first second
+      → IsRecordAgreementPlaced H index count path v other_path u first second =
+      on_way (leaf_in m n) (start_in m a n) (count_in m n) ds es at.digest other_at.digest first second at.led
+      other_at.led (way_in at.more way) (way_in at.more other_way) in
       elim take [
         | inl (inl here) ↦
-            let first_is = taken_at H m n _ d _ ds at.led ∙ ap Some (ap (input_beside (is_right m n) d) (path_leads H (leaf_in m n) (count_in m n) _ _ ds at.led) ∙ sym here.0) in
-            let second_is = taken_at H m n _ e _ es other_at.led ∙ ap Some (ap (input_beside (is_right m n) e) (path_leads H (leaf_in m n) (count_in m n) _ _ es other_at.led) ∙ sym here.1) in
-            record { leaf = m; from = a; count = n; digests = d ∷ ds; other_digests = e ∷ es; on_way = way; other_on_way = other_way; first_evaluation = first_is; second_evaluation = second_is }
+            let first_is = taken_at H m n _ d _ ds at.led
+            ∙ ap Some (ap (input_beside (is_right m n) d) (path_leads H (leaf_in m n) (count_in m n) _ _ ds at.led)
+            ∙ sym here.0) in
+            let second_is = taken_at H m n _ e _ es other_at.led
+            ∙ ap Some (ap (input_beside (is_right m n) e)
+            (path_leads H (leaf_in m n) (count_in m n) _ _ es other_at.led) ∙ sym here.1) in
+            record {
+              leaf = m;
+              from = a;
+              count = n;
+              digests = d ∷ ds;
+              other_digests = e ∷ es;
+              on_way = way;
+              other_on_way = other_way;
+              first_evaluation = first_is;
+              second_evaluation = second_is;
+            }
         | inl (inr below) ↦ deeper (inl below)
         | inr leaf ↦ deeper (inr leaf)
       ]
 
   -- so do those of two paths that lead somewhere
-  pub agreement_placed : {root other : List ℕ} (first second : List ℕ) → inclusion_root H index count (H (0 ∷ v)) path ≡ Some root → inclusion_root H index count (H (0 ∷ u)) other_path ≡ Some other
-      → Take index count (reverse path) (reverse other_path) first second → IsRecordAgreementPlaced H index count path v other_path u first second
+  pub agreement_placed : {root other : List ℕ} (first second : List ℕ) → inclusion_root H index count (H (0 ∷ v)) path
+      ≡ Some root → inclusion_root H index count (H (0 ∷ u)) other_path ≡ Some other
+      → Take index count (reverse path) (reverse other_path) first second
+      → IsRecordAgreementPlaced H index count path v other_path u first second
   agreement_placed first second is other_is take =
-      on_way index 0 count (reverse path) (reverse other_path) _ _ first second (leads_inside H index count _ _ path is).1 (leads_inside H index count _ _ other_path other_is).1 whole whole take
+      on_way index 0 count (reverse path) (reverse other_path) _ _ first second
+      (leads_inside H index count _ _ path is).1 (leads_inside H index count _ _ other_path other_is).1 whole whole
+      take
 
   -- what a divergence of two paths shows, where the values differ
-  pub record_agreement_shown : {D : Type 0} (p : Divergence D) → (v ≡ u → ⊥) → IsPathsMeeting H (H (0 ∷ v)) path (H (0 ∷ u)) other_path index count p → Shows H (IsRecordAgreementPlaced H index count path v other_path u) (inputs_of p (0 ∷ v) (0 ∷ u))
-  record_agreement_shown p apart met = shown p (λ first second take. agreement_placed first second met.first_is met.second_is (inl take)) _ _
-      (λ one. record { collides = record { differ = λ e. apart (cc); same = one.0 }; placed = agreement_placed _ _ met.first_is met.second_is (inr (refl, refl)) }) met.diverges
+  pub record_agreement_shown : {D : Type 0} (p : Divergence D) → (v ≡ u → ⊥)
+      → IsPathsMeeting H (H (0 ∷ v)) path (H (0 ∷ u)) other_path index count p
+      → Shows H (IsRecordAgreementPlaced H index count path v other_path u) (inputs_of p (0 ∷ v) (0 ∷ u))
+  record_agreement_shown p apart met =
+      shown p (λ first second take. agreement_placed first second met.first_is met.second_is (inl take)) _ _
+      (λ one. record {
+        collides = record { differ = λ e. apart (cc); same = one.0 };
+        placed = agreement_placed _ _ met.first_is met.second_is (inr (refl, refl));
+      }) met.diverges
 
 -- The root over the part beside the one that has leaf m of the n leaves from a on.
 abbrev beside_root : Digest → List (List ℕ) → ℕ → ℕ → ℕ → List ℕ
-beside_root H tree m a n = if is_right m n then root_over H tree a (front_of n) else root_over H tree (a + front_of n) (n - front_of n)
+beside_root H tree m a n = if is_right m n then root_over H tree a (front_of n) else root_over H tree (a + front_of n)
+    (n - front_of n)
 
--- A tree's own path to leaf m of the n leaves from a on: beside it stand the tree's roots. Its digests are given from the
+-- A tree's own path to leaf m of the n leaves from a on: beside it stand the tree's roots. Its digests are given from
+-- the
 -- topmost down.
 abbrev pub IsOwn : Digest → List (List ℕ) → ℕ → ℕ → ℕ → List (List ℕ) → Type 0
 IsOwn H tree m a n [] = n ≡ 1
-IsOwn H tree m a n (top ∷ below) = (1 < n) × (top ≡ beside_root H tree m a n) × IsOwn H tree (leaf_in m n) (start_in m a n) (count_in m n) below
+IsOwn H tree m a n (top ∷ below) = (1 < n) × (top ≡ beside_root H tree m a n)
+    × IsOwn H tree (leaf_in m n) (start_in m a n) (count_in m n) below
 
 module _ (H : Digest) (tree : List (List ℕ)) where
   -- the branch over the part that has the leaf and that beside it
-  own_branch : (m a n : ℕ) → 1 < n → a + n ≤ length tree → root_over H tree a n ≡ H (input_beside (is_right m n) (beside_root H tree m a n) (root_over H tree (start_in m a n) (count_in m n)))
-  own_branch m a n more within = elim (cases_lt m (front_of n)) [ inl lt ↦ rw (lt-leb (front_of n) m lt) (root_over_parts H tree a n more within) | inr le ↦ rw (le-leb (front_of n) m le) (root_over_parts H tree a n more within) ]
+  own_branch : (m a n : ℕ) → 1 < n → a + n ≤ length tree → root_over H tree a n
+      ≡ H (input_beside (is_right m n) (beside_root H tree m a n) (root_over H tree (start_in m a n) (count_in m n)))
+  own_branch m a n more within =
+      elim (cases_lt m (front_of n)) [
+        | inl lt ↦ rw (lt-leb (front_of n) m lt) (root_over_parts H tree a n more within)
+        | inr le ↦ rw (le-leb (front_of n) m le) (root_over_parts H tree a n more within)
+      ]
 
   -- it leads from the leaf's digest to the root over them
-  own_leads : (m a n : ℕ) (es : List (List ℕ)) → m < n → a + n ≤ length tree → IsOwn H tree m a n es → root_down H m n (root_over H tree (a + m) 1) es ≡ Some (root_over H tree a n)
+  own_leads : (m a n : ℕ) (es : List (List ℕ)) → m < n → a + n ≤ length tree → IsOwn H tree m a n es
+      → root_down H m n (root_over H tree (a + m) 1) es ≡ Some (root_over H tree a n)
   own_leads m a n [] inside within one = let here : a + m ≡ a = omega arith in rw (here, one) (root_one H m _ [] refl)
   own_leads m a n (top ∷ below) inside within (more, is, own) =
       let at = bounds_in m a n inside more in
       let led = own_leads (leaf_in m n) (start_in m a n) (count_in m n) below at.1 (omega (arith, at.2)) own in
-      leads_up H m n _ top _ below more (ap (λ place. root_down H (leaf_in m n) (count_in m n) (root_over H tree place 1) below) (sym at.0) ∙ led)
-      ∙ ap (λ t. Some (H (input_beside (is_right m n) t (root_over H tree (start_in m a n) (count_in m n))))) is ∙ ap Some (sym (own_branch m a n more within))
+      leads_up H m n _ top _ below more
+      (ap (λ place. root_down H (leaf_in m n) (count_in m n) (root_over H tree place 1) below) (sym at.0) ∙ led)
+      ∙ ap (λ t. Some (H (input_beside (is_right m n) t (root_over H tree (start_in m a n) (count_in m n))))) is
+      ∙ ap Some (sym (own_branch m a n more within))
 
   -- there is one
   pub own_exists : (k m a n : ℕ) → n ≤ k → m < n → (es : List (List ℕ)) × IsOwn H tree m a n es
@@ -271,100 +373,140 @@ module _ (H : Digest) (tree : List (List ℕ)) where
     | inr few ↦ ([], omega arith)
     | inl more ↦
         let at = bounds_in m a n inside more in
-        let below = own_exists k (leaf_in m n) (start_in m a n) (count_in m n) (omega (arith, at.3)) at.1 in (beside_root H tree m a n ∷ below.0, (more, refl, below.1))
+        let below = own_exists k (leaf_in m n) (start_in m a n) (count_in m n) (omega (arith, at.3)) at.1 in
+        (beside_root H tree m a n ∷ below.0, (more, refl, below.1))
   ]
 
   -- and it is the one that is made out of the tree's digests
   abbrev roots : Range → Option (List ℕ)
   roots = old_over H (own_digest H tree)
 
-  beside_is : (p : Option (List (List ℕ))) (t : Option (List ℕ)) (path : List (List ℕ)) → beside p t ≡ Some path → (below : List (List ℕ)) × (top : List ℕ) × (p ≡ Some below) × (t ≡ Some top) × (path ≡ below ++ top ∷ [])
+  beside_is : (p : Option (List (List ℕ))) (t : Option (List ℕ)) (path : List (List ℕ)) → beside p t ≡ Some path
+      → (below : List (List ℕ)) × (top : List ℕ) × (p ≡ Some below) × (t ≡ Some top) × (path ≡ below ++ top ∷ [])
   beside_is (Some p) (Some t) path is = (p, t, refl, refl, cc)
   beside_is (Some p) None path is = absurd (cc)
   beside_is None t path is = absurd (cc)
 
-  pub own_made : (k m a n : ℕ) (path : List (List ℕ)) → n ≤ k → m < n → IsAligned a n → a + n ≤ length tree → path_within roots k m (leaves_from a n) ≡ Some path → IsOwn H tree m a n (reverse path)
+  pub own_made : (k m a n : ℕ) (path : List (List ℕ)) → n ≤ k → m < n → IsAligned a n → a + n ≤ length tree
+      → path_within roots k m (leaves_from a n) ≡ Some path → IsOwn H tree m a n (reverse path)
   unfolding path_within
   own_made zero m a n path le inside aligned within is = absurd (omega arith)
   own_made (suc k) m a n path le inside aligned within is = elim (cases_lt 1 n) [
-    | inr few ↦ let nothing : Some [] ≡ Some path = rw (le-leb n 1 few) at is in let none : [] ≡ path = cc in rw (← none) (omega arith)
+    | inr few ↦ let nothing : Some [] ≡ Some path = rw (le-leb n 1 few) at is in let none : [] ≡ path = cc in
+        rw (← none) (omega arith)
     | inl more ↦
         let f = front_is_greatest n more in
         elim (cases_lt m (front_of n)) [
           | inl lt ↦
-              let (below, top, below_is, top_is, split) = beside_is _ _ path (rw (lt-leb n 1 more, lt-ltb m (front_of n) lt) at is) in
-              let far = old_own_range H tree (rest_part (leaves_from a n)) (omega arith) (rest_aligned aligned more) (omega arith) in
+              let (below, top, below_is, top_is, split) =
+              beside_is _ _ path (rw (lt-leb n 1 more, lt-ltb m (front_of n) lt) at is) in
+              let far = old_own_range H tree (rest_part (leaves_from a n)) (omega arith) (rest_aligned aligned more)
+              (omega arith) in
               let same : Some (root_over H tree (a + front_of n) (n - front_of n)) ≡ Some top = sym far ∙ top_is in
-              rw (turned path below top split, lt-leb (front_of n) m lt) (more, cc, own_made k m a (front_of n) below (omega arith) lt (front_aligned aligned (omega arith)) (omega arith) below_is)
+              rw (turned path below top split, lt-leb (front_of n) m lt) (
+                more,
+                cc,
+                own_made k m a (front_of n) below (omega arith) lt (front_aligned aligned (omega arith))
+                    (omega arith) below_is,
+              )
           | inr ge ↦
-              let (below, top, below_is, top_is, split) = beside_is _ _ path (rw (lt-leb n 1 more, le-ltb m (front_of n) ge) at is) in
-              let far = old_own_range H tree (front_part (leaves_from a n)) (omega arith) (front_aligned aligned (omega arith)) (omega arith) in
+              let (below, top, below_is, top_is, split) =
+              beside_is _ _ path (rw (lt-leb n 1 more, le-ltb m (front_of n) ge) at is) in
+              let far = old_own_range H tree (front_part (leaves_from a n)) (omega arith)
+              (front_aligned aligned (omega arith)) (omega arith) in
               let same : Some (root_over H tree a (front_of n)) ≡ Some top = sym far ∙ top_is in
-              rw (turned path below top split, le-leb (front_of n) m ge) (more, cc, own_made k (m - front_of n) (a + front_of n) (n - front_of n) below (omega arith) (omega arith) (rest_aligned aligned more) (omega arith) below_is)
+              rw (turned path below top split, le-leb (front_of n) m ge) (
+                more,
+                cc,
+                own_made k (m - front_of n) (a + front_of n) (n - front_of n) below (omega arith)
+                    (omega arith) (rest_aligned aligned more) (omega arith) below_is,
+              )
         ]
   ]
 
   -- at each range on the way it is the range's own
-  own_at : {index count : ℕ} {own : List (List ℕ)} {m a n : ℕ} {ds : List (List ℕ)} → IsOnWay index 0 count own m a n ds → IsOwn H tree index 0 count own → index < count
+  own_at : {index count : ℕ} {own : List (List ℕ)} {m a n : ℕ} {ds : List (List ℕ)} → IsOnWay index 0 count own m a n ds
+      → IsOwn H tree index 0 count own → index < count
       → (a + m ≡ index) × (m < n) × (a + n ≤ count) × IsOwn H tree m a n ds
   own_at whole own inside = (omega arith, inside, omega arith, own)
-  own_at (front m a n top below way more lt) own inside = let at = own_at way own inside in let f = front_is_greatest n more in (at.0, lt, omega arith, rw (lt-leb (front_of n) m lt) at at.3.2)
-  own_at (rest m a n top below way more le) own inside = let at = own_at way own inside in let f = front_is_greatest n more in (omega arith, omega arith, omega arith, rw (le-leb (front_of n) m le) at at.3.2)
+  own_at (front m a n top below way more lt) own inside = let at = own_at way own inside in
+      let f = front_is_greatest n more in (at.0, lt, omega arith, rw (lt-leb (front_of n) m lt) at at.3.2)
+  own_at (rest m a n top below way more le) own inside = let at = own_at way own inside in
+      let f = front_is_greatest n more in
+      (omega arith, omega arith, omega arith, rw (le-leb (front_of n) m le) at at.3.2)
 
 -- a path beside that of the tree over the entries
-module _ (H : Digest) (index : ℕ) (path : List (List ℕ)) (value : List ℕ) (entries own : List (List ℕ)) (inside : index < length entries) (made : IsOwn H (leaves_of H entries) index 0 (length entries) (reverse own)) where
-  abbrev tree : List (List ℕ)
-  tree = leaves_of H entries
+module _ (H : Digest) (index : ℕ) (path : List (List ℕ)) (value : List ℕ) (entries own : List (List ℕ))
+    (inside : index < length entries) (made : IsOwn H (leaves_of H entries) index 0 (length entries) (reverse own))
+  where
+    abbrev tree : List (List ℕ)
+    tree = leaves_of H entries
 
-  abbrev entry : List ℕ
-  entry = get_or entries index []
+    abbrev entry : List ℕ
+    entry = get_or entries index []
 
-  fits : length tree ≡ length entries
-  fits = leaves_count H entries
+    fits : length tree ≡ length entries
+    fits = leaves_count H entries
 
-  leaf : root_over H tree index 1 ≡ H (0 ∷ entry)
-  leaf = plain_digest_is H entries index 1 (omega arith) (omega arith)
+    leaf : root_over H tree index 1 ≡ H (0 ∷ entry)
+    leaf = plain_digest_is H entries index 1 (omega arith) (omega arith)
 
-  -- it leads from the entry to the root
-  pub own_met : inclusion_root H index (length entries) (H (0 ∷ entry)) own ≡ Some (root_of H tree)
-  own_met =
-      let start : 0 + index ≡ index = omega arith in
-      let from_leaf = rw (start, leaf) at (own_leads H tree index 0 (length entries) (reverse own) inside (omega (arith, fits)) made) in
-      inside_leads H index (length entries) (H (0 ∷ entry)) own inside ∙ from_leaf ∙ ap Some (plain_root H entries)
+    -- it leads from the entry to the root
+    pub own_met : inclusion_root H index (length entries) (H (0 ∷ entry)) own ≡ Some (root_of H tree)
+    own_met =
+        let start : 0 + index ≡ index = omega arith in
+        let from_leaf = rw (start, leaf) at (own_leads H tree index 0 (length entries) (reverse own) inside
+        (omega (arith, fits)) made) in
+        inside_leads H index (length entries) (H (0 ∷ entry)) own inside ∙ from_leaf ∙ ap Some (plain_root H entries)
 
-  -- so what it takes is the plain input
-  plain : (m a n : ℕ) (ds : List (List ℕ)) (second : List ℕ) → (a + m ≡ index) × (m < n) × (a + n ≤ length entries) × IsOwn H tree m a n ds → record_input H entry m n ds ≡ Some second → second ≡ plain_input H entries a n
-  plain m a n [] second at is = let one : n ≡ 1 = at.3 in let here : a ≡ index = omega arith in rw (here, one) (cc)
-  plain m a n (top ∷ below) second at is =
-      let more = at.3.0 in
-      let in_part = bounds_in m a n at.1 more in
-      let place : start_in m a n + leaf_in m n ≡ index = in_part.0 ∙ at.0 in
-      let leads = own_leads H tree (leaf_in m n) (start_in m a n) (count_in m n) below in_part.1 (omega (arith, in_part.2, fits)) at.3.2 in
-      let from : root_down H (leaf_in m n) (count_in m n) (H (0 ∷ entry)) below ≡ Some (root_over H tree (start_in m a n) (count_in m n)) = ap (λ x. root_down H (leaf_in m n) (count_in m n) x below) (sym (ap (λ i. root_over H tree i 1) place ∙ leaf)) ∙ leads in
-      let takes = sym (taken_at H m n (H (0 ∷ entry)) top _ below from) ∙ is in
-      elim (cases_lt m (front_of n)) [
-        | inl lt ↦ let top_is = rw (lt-leb (front_of n) m lt) at at.3.1 in let took = rw (lt-leb (front_of n) m lt) at takes in rw (lt-leb n 1 more, ← top_is) (cc)
-        | inr le ↦ let top_is = rw (le-leb (front_of n) m le) at at.3.1 in let took = rw (le-leb (front_of n) m le) at takes in rw (lt-leb n 1 more, ← top_is) (cc)
-      ]
+    -- so what it takes is the plain input
+    plain : (m a n : ℕ) (ds : List (List ℕ)) (second : List ℕ) → (a + m ≡ index) × (m < n) × (a + n ≤ length entries)
+        × IsOwn H tree m a n ds → record_input H entry m n ds ≡ Some second → second ≡ plain_input H entries a n
+    plain m a n [] second at is = let one : n ≡ 1 = at.3 in let here : a ≡ index = omega arith in rw (here, one) (cc)
+    plain m a n (top ∷ below) second at is =
+        let more = at.3.0 in
+        let in_part = bounds_in m a n at.1 more in
+        let place : start_in m a n + leaf_in m n ≡ index = in_part.0 ∙ at.0 in
+        let leads = own_leads H tree (leaf_in m n) (start_in m a n) (count_in m n) below in_part.1
+        (omega (arith, in_part.2, fits)) at.3.2 in
+        let from : root_down H (leaf_in m n) (count_in m n) (H (0 ∷ entry)) below
+        ≡ Some (root_over H tree (start_in m a n) (count_in m n)) =
+        ap (λ x. root_down H (leaf_in m n) (count_in m n) x below) (sym (ap (λ i. root_over H tree i 1) place ∙ leaf))
+        ∙ leads in
+        let takes = sym (taken_at H m n (H (0 ∷ entry)) top _ below from) ∙ is in
+        elim (cases_lt m (front_of n)) [
+          | inl lt ↦ let top_is = rw (lt-leb (front_of n) m lt) at at.3.1 in
+              let took = rw (lt-leb (front_of n) m lt) at takes in rw (lt-leb n 1 more, ← top_is) (cc)
+          | inr le ↦ let top_is = rw (le-leb (front_of n) m le) at at.3.1 in
+              let took = rw (le-leb (front_of n) m le) at takes in rw (lt-leb n 1 more, ← top_is) (cc)
+        ]
 
-  pub record_placed : (first second : List ℕ) → IsRecordAgreementPlaced H index (length entries) path value own entry first second → IsRecordPlaced H index path value entries first second
-  record_placed first second at = record {
-    leaf = at.leaf;
-    from = at.from;
-    count = at.count;
-    digests = at.digests;
-    on_way = at.on_way;
-    evaluation = at.first_evaluation;
-    plain = plain at.leaf at.from at.count at.other_digests second (own_at H tree at.other_on_way made inside) at.second_evaluation;
-  }
+    pub record_placed : (first second : List ℕ) → IsRecordAgreementPlaced H index (length entries) path value own entry
+        first second → IsRecordPlaced H index path value entries first second
+    record_placed first second at = record {
+      leaf = at.leaf;
+      from = at.from;
+      count = at.count;
+      digests = at.digests;
+      on_way = at.on_way;
+      evaluation = at.first_evaluation;
+      plain = plain at.leaf at.from at.count at.other_digests second (own_at H tree at.other_on_way made inside)
+          at.second_evaluation;
+    }
 
-  -- what a divergence of both shows, where the claim is false
-  pub record_shown : {D : Type 0} (p : Divergence D) → (IsRecord index value entries → ⊥) → IsPathsMeeting H (H (0 ∷ value)) path (H (0 ∷ entry)) own index (length entries) p → Shows H (IsRecordPlaced H index path value entries) (inputs_of p (0 ∷ value) (0 ∷ entry))
-  record_shown p untrue met =
-      let pair = record_agreement_shown H index (length entries) path value own entry p (λ e. untrue (sym e)) met in record { collides = pair.collides; placed = record_placed _ _ pair.placed }
+    -- what a divergence of both shows, where the claim is false
+    pub record_shown : {D : Type 0} (p : Divergence D) → (IsRecord index value entries → ⊥)
+        → IsPathsMeeting H (H (0 ∷ value)) path (H (0 ∷ entry)) own index (length entries) p
+        → Shows H (IsRecordPlaced H index path value entries) (inputs_of p (0 ∷ value) (0 ∷ entry))
+    record_shown p untrue met =
+        let pair = record_agreement_shown H index (length entries) path value own entry p (λ e. untrue (sym e)) met in
+        record { collides = pair.collides; placed = record_placed _ _ pair.placed }
 
 -- the path that the code makes of the tree over the entries
-pub own_from : (H : Digest) (index : ℕ) (entries tree own : List (List ℕ)) → tree ≡ leaves_of H entries → index < length entries → inclusion_of (old_over H (own_digest H tree)) index (length tree) ≡ Some own
+pub own_from : (H : Digest) (index : ℕ) (entries tree own : List (List ℕ)) → tree ≡ leaves_of H entries
+    → index < length entries → inclusion_of (old_over H (own_digest H tree)) index (length tree) ≡ Some own
     → IsOwn H (leaves_of H entries) index 0 (length entries) (reverse own)
 own_from H index entries tree own is inside made =
-    own_made H (leaves_of H entries) (length entries) index 0 (length entries) own (omega arith) inside (whole_aligned (length entries) refl) (omega (arith, leaves_count H entries)) (rw (is, leaves_count H entries) at made)
+    own_made H (leaves_of H entries) (length entries) index 0 (length entries) own (omega arith) inside
+    (whole_aligned (length entries) refl) (omega (arith, leaves_count H entries))
+    (rw (is, leaves_count H entries) at made)

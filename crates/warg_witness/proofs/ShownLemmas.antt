@@ -27,174 +27,241 @@ use Rattle.std.proofs.lemmas.List.Elements.{All-from_recursion, All-contains}
 use Rattle.warg_log.specs.Consistency.{LeadsTo, IsConsistent, consistency}
 
 -- what was read of a list of entries at a place, and a tree's leaf, which is the digest of its entry
-pub entry_at : {V : Type 0} (f : V → List ℕ) (entries : List V) (i : ℕ) {e : V} → i < length entries → e ≡ get_or entries i e → get_or (map f entries) i [] ≡ f e
+pub entry_at : {V : Type 0} (f : V → List ℕ) (entries : List V) (i : ℕ) {e : V} → i < length entries
+    → e ≡ get_or entries i e → get_or (map f entries) i [] ≡ f e
 entry_at f entries i {e} within is = grind (arith, get_or-map)
 
-pub leaf_at : {V : Type 0} (H : Digest) (bytes : V → List ℕ) (entries : List V) (i : ℕ) {e : V} → i < length entries → e ≡ get_or entries i e
+pub leaf_at : {V : Type 0} (H : Digest) (bytes : V → List ℕ) (entries : List V) (i : ℕ) {e : V} → i < length entries
+    → e ≡ get_or entries i e
     → get_or (leaves_of H (map bytes entries)) i [] ≡ H (0 ∷ bytes e)
 leaf_at H bytes entries i within at =
-    get_or-map (λ e. H (0 ∷ e)) (map bytes entries) i [] [] (omega (arith, length-map entries bytes)) ∙ ap (λ v. H (0 ∷ v)) (entry_at bytes entries i within at)
+    get_or-map (λ e. H (0 ∷ e)) (map bytes entries) i [] [] (omega (arith, length-map entries bytes))
+    ∙ ap (λ v. H (0 ∷ v)) (entry_at bytes entries i within at)
 
 -- a lone leaf's entry is the value's claim
-pub entry_from : {value : List ℕ} {entries : List (List ℕ)} (node : ℕ) → IsAt value entries (start_of node) (2 ^ height_of node) → IsEntry value node entries
+pub entry_from : {value : List ℕ} {entries : List (List ℕ)} (node : ℕ)
+    → IsAt value entries (start_of node) (2 ^ height_of node) → IsEntry value node entries
 entry_from node at = let low = pow_below_pow (height_of node) 1 in search (at, low, arith)
 
 -- at the target the plain input is the value's leaf only where the claim is true
-leaf_same : (H : Digest) (value : List ℕ) (entries : List (List ℕ)) (s w : ℕ) → 0 < w → ◌≡◌ {A = List ℕ} (0 ∷ value) (plain_input H entries s w) → IsAt value entries s w
+leaf_same : (H : Digest) (value : List ℕ) (entries : List (List ℕ)) (s w : ℕ) → 0 < w
+    → ◌≡◌ {A = List ℕ} (0 ∷ value) (plain_input H entries s w) → IsAt value entries s w
 leaf_same H value entries s w some e = grind (arith, nat_tests)
 
 -- the evaluation's input around a value, at the value and elsewhere
-value_here : (H : Digest) (F : Data) (v : List ℕ) (s w : ℕ) → value_input H F (leaves_from s w) v (leaves_from s w) ≡ Some (0 ∷ v)
+value_here : (H : Digest) (F : Data) (v : List ℕ) (s w : ℕ) → value_input H F (leaves_from s w) v (leaves_from s w)
+    ≡ Some (0 ∷ v)
 value_here H F v s w = grind (arith, nat_tests)
 
 value_above : (H : Digest) (F : Data) (v : List ℕ) (s w a n : ℕ) → (a ≡ s → n ≡ w → ⊥)
-    → value_input H F (leaves_from s w) v (leaves_from a n) ≡ cut_input H (with_target F (leaves_from s w) (H (0 ∷ v))) (leaves_from a n)
+    → value_input H F (leaves_from s w) v (leaves_from a n) ≡ cut_input H (with_target F (leaves_from s w) (H (0 ∷ v)))
+    (leaves_from a n)
 value_above H F v s w a n other = grind (arith, nat_tests)
 
 module _ (H : Digest) (F : Data) (entries ds : List (List ℕ)) (is : ds ≡ leaves_of H entries) (node : ℕ) where
-  pub value_placed : (value first second : List ℕ) → DivergesFrom H F (H (0 ∷ value)) ds (start_of node) (2 ^ height_of node) first second → IsValuePlaced H F value node entries first second
+  pub value_placed : (value first second : List ℕ) → DivergesFrom H F (H (0 ∷ value)) ds (start_of node)
+      (2 ^ height_of node) first second → IsValuePlaced H F value node entries first second
   value_placed value first second diverges =
       let own = own_second H entries ds is (pow_pos (height_of node)) diverges in
-      let here = value_above H F value (start_of node) (2 ^ height_of node) diverges.from diverges.count diverges.other ∙ diverges.first_input in search (own, here, diverges)
+      let here = value_above H F value (start_of node) (2 ^ height_of node) diverges.from diverges.count diverges.other
+      ∙ diverges.first_input in search (own, here, diverges)
 
   pub value_meets : (value : List ℕ) → (IsAt value entries (start_of node) (2 ^ height_of node) → ⊥)
-      → Meets H (H (0 ∷ value)) ds (start_of node) (2 ^ height_of node) → Shows H (IsValuePlaced H F value node entries) (0 ∷ value, plain_input H entries (start_of node) (2 ^ height_of node))
+      → Meets H (H (0 ∷ value)) ds (start_of node) (2 ^ height_of node) → Shows H (IsValuePlaced H F value node entries)
+      (0 ∷ value, plain_input H entries (start_of node) (2 ^ height_of node))
   value_meets value other meets =
       let part = rw (is, leaves_count H entries) at meets.part in
-      let plain = rw is at meets.same ∙ plain_digest_is H entries _ _ (pow_pos (height_of node)) (part_in part).0 in record {
-        collides = record { differ = λ e. other (leaf_same H value entries _ _ (pow_pos (height_of node)) e); same = plain };
+      let plain = rw is at meets.same ∙ plain_digest_is H entries _ _ (pow_pos (height_of node)) (part_in part).0 in
+      record {
+        collides = record {
+          differ = λ e. other (leaf_same H value entries _ _ (pow_pos (height_of node)) e);
+          same = plain;
+        };
         placed = search (part, value_here, arith);
       }
 
-  pub hash_placed : (hash first second : List ℕ) → DivergesFrom H F hash ds (start_of node) (2 ^ height_of node) first second → IsHashPlaced H F hash node entries first second
-  hash_placed hash first second diverges = let own = own_second H entries ds is (pow_pos (height_of node)) diverges in search (own, diverges)
+  pub hash_placed : (hash first second : List ℕ) → DivergesFrom H F hash ds (start_of node)
+      (2 ^ height_of node) first second → IsHashPlaced H F hash node entries first second
+  hash_placed hash first second diverges = let own = own_second H entries ds is (pow_pos (height_of node)) diverges in
+      search (own, diverges)
 
 -- what a meeting shows, where the claim is false
-module _ {D : Type 0} {H : Digest} {F : Data} {proof : InclusionClaim} {entries tree : List (List ℕ)} {start count : ℕ} {plain : List ℕ} {p : Divergence D} where
-  pub value_shown : {value : List ℕ} → IsMeeting H F proof (H (0 ∷ value)) entries tree start count plain p → (IsAt value entries start count → ⊥)
-      → Shows H (IsValuePlaced H F value proof.leaf.0 entries) (inputs_of p (0 ∷ value) (plain_input H entries start count))
+module _ {D : Type 0} {H : Digest} {F : Data} {proof : InclusionClaim} {entries tree : List (List ℕ)} {start count : ℕ}
+    {plain : List ℕ} {p : Divergence D} where
+  pub value_shown : {value : List ℕ} → IsMeeting H F proof (H (0 ∷ value)) entries tree start count plain p
+      → (IsAt value entries start count → ⊥)
+      → Shows H (IsValuePlaced H F value proof.leaf.0 entries)
+      (inputs_of p (0 ∷ value) (plain_input H entries start count))
   value_shown {value} met other =
       let apart = rw (met.start_is, met.count_is) at other in
-      rw (met.start_is, met.count_is) (shown p (value_placed H F entries tree met.tree_is proof.leaf.0 value) _ _ (value_meets H F entries tree met.tree_is proof.leaf.0 value apart) met.diverges)
+      rw (met.start_is, met.count_is) (shown p (value_placed H F entries tree met.tree_is proof.leaf.0 value) _ _
+      (value_meets H F entries tree met.tree_is proof.leaf.0 value apart) met.diverges)
 
   -- the claim is that the value is the entry of the lone leaf
-  pub value_held : {value : List ℕ} → IsMeeting H F proof (H (0 ∷ value)) entries tree start count plain p → IsAt value entries start count → IsEntry value proof.leaf.0 entries
+  pub value_held : {value : List ℕ} → IsMeeting H F proof (H (0 ∷ value)) entries tree start count plain p
+      → IsAt value entries start count → IsEntry value proof.leaf.0 entries
   value_held met at = entry_from proof.leaf.0 (rw (met.start_is, met.count_is) at at)
 
-  pub value_from : {value : List ℕ} → IsMeeting H F proof (H (0 ∷ value)) entries tree start count plain p → IsEntry value proof.leaf.0 entries → IsAt value entries start count
+  pub value_from : {value : List ℕ} → IsMeeting H F proof (H (0 ∷ value)) entries tree start count plain p
+      → IsEntry value proof.leaf.0 entries → IsAt value entries start count
   value_from met is = (met.count_is ∙ ap (λ h. 2 ^ h) is.leaf, ap (λ s. get_or entries s []) met.start_is ∙ is.same)
 
 -- two evaluations that diverge, of other values
-pub agreement_shown : {D : Type 0} (H : Digest) (F : Data) (v : List ℕ) (G : Data) (u : List ℕ) (node n : ℕ) (p : Divergence D) → (v ≡ u → ⊥) → IsDivergence H F (H (0 ∷ v)) G (H (0 ∷ u)) (start_of node) (2 ^ height_of node) 0 n p
+pub agreement_shown : {D : Type 0} (H : Digest) (F : Data) (v : List ℕ) (G : Data) (u : List ℕ) (node n : ℕ)
+    (p : Divergence D) → (v ≡ u → ⊥) → IsDivergence H F (H (0 ∷ v)) G (H (0 ∷ u)) (start_of node)
+    (2 ^ height_of node) 0 n p
     → Shows H (IsAgreementPlaced H F v G u node n) (inputs_of p (0 ∷ v) (0 ∷ u))
 agreement_shown H F v G u node n p other = shown p
     (λ _ _ diverges.
-    let first_is = value_above H F v (start_of node) (2 ^ height_of node) diverges.from diverges.count diverges.other ∙ diverges.first_input in
-    let second_is = value_above H G u (start_of node) (2 ^ height_of node) diverges.from diverges.count diverges.other ∙ diverges.second_input in search (first_is, second_is, diverges))
+    let first_is = value_above H F v (start_of node) (2 ^ height_of node) diverges.from diverges.count diverges.other
+    ∙ diverges.first_input in
+    let second_is = value_above H G u (start_of node) (2 ^ height_of node) diverges.from diverges.count diverges.other
+    ∙ diverges.second_input in search (first_is, second_is, diverges))
     _ _
-    (λ meets. record { collides = record { differ = λ e. other (cc); same = meets.same }; placed = search (meets, value_here, arith) })
+    (λ meets. record {
+      collides = record { differ = λ e. other (cc); same = meets.same };
+      placed = search (meets, value_here, arith);
+    })
 
--- The cut root and the old root of a range are one, and so are their inputs, unless it is the target; then it isn't full.
+-- The cut root and the old root of a range are one, and so are their inputs, unless it is the target; then it isn't
+-- full.
 abbrev ReadAlike : Digest → Evaluation → Range → Type 0
-ReadAlike H e r = (old_over H e.held r ≡ cut_over H e r) × ((r ≡ e.target → ⊥) → (IsFull r.count → ⊥) × (old_input H e.held r ≡ cut_input H e r))
+ReadAlike H e r = (old_over H e.held r ≡ cut_over H e r)
+    × ((r ≡ e.target → ⊥) → (IsFull r.count → ⊥) × (old_input H e.held r ≡ cut_input H e r))
 
 -- so are those around a balanced root, with the digest that is held for it
 module _ (H : Digest) (F : Data) (x : List ℕ) (s w : ℕ) where
   abbrev e : Evaluation
   e = with_target F (leaves_from s w) x
 
-  both_sides : (r : Range) → 1 < r.count → (IsFull r.count → ⊥) → (r ≡ e.target → ⊥) → old_over H F (front_part r) ≡ cut_over H e (front_part r)
+  both_sides : (r : Range) → 1 < r.count → (IsFull r.count → ⊥) → (r ≡ e.target → ⊥) → old_over H F (front_part r)
+      ≡ cut_over H e (front_part r)
       → old_over H F (rest_part r) ≡ cut_over H e (rest_part r) → ReadAlike H e r
-  both_sides r more not_full other left right = grind (arith, old_parts H F r more not_full, cut_parts H e r more other (λ is _. not_full is))
+  both_sides r more not_full other left right =
+      grind (arith, old_parts H F r more not_full, cut_parts H e r more other (λ is _. not_full is))
 
-  pub old_is_cut : F (node_over s w) ≡ Some x → {a n : ℕ} → IsRootOf s w a n → IsAligned a n → ReadAlike H e (leaves_from a n)
-  old_is_cut held (all_leaves is) aligned = (old_full H F e.target is ∙ held ∙ sym (cut_target H e), λ other. absurd (other refl))
+  pub old_is_cut : F (node_over s w) ≡ Some x → {a n : ℕ} → IsRootOf s w a n → IsAligned a n
+      → ReadAlike H e (leaves_from a n)
+  old_is_cut held (all_leaves is) aligned = (
+    old_full H F e.target is ∙ held ∙ sym (cut_target H e),
+    λ other. absurd (other refl),
+  )
   old_is_cut held (at_front n more not_full is) aligned =
       let f = front_is_greatest n more in
       let here = old_full H F e.target (f.0.0, is ∙ f.0.1) ∙ held ∙ sym (cut_target H e) in
-      both_sides (leaves_from s n) more not_full (λ same. omega (arith, counts same)) (rw (← is) here) (sym (cut_old H e _ (omega arith) (omega arith) (inr (omega arith))))
+      both_sides (leaves_from s n) more not_full (λ same. omega (arith, counts same)) (rw (← is) here)
+      (sym (cut_old H e _ (omega arith) (omega arith) (inr (omega arith))))
   old_is_cut held (in_rest a n more not_full root) aligned =
       let f = front_is_greatest n more in
       let at = root_stands root (rest_aligned aligned more) in
       let starts_at = at.around.starts in
-      both_sides (leaves_from a n) more not_full (λ same. omega (arith, starts same)) (sym (cut_old H e _ (node_some at.node) (omega arith) (inl starts_at)))
+      both_sides (leaves_from a n) more not_full (λ same. omega (arith, starts same))
+      (sym (cut_old H e _ (node_some at.node) (omega arith) (inl starts_at)))
       (old_is_cut held root (rest_aligned aligned more)).0
 
 -- a digest is held for each balanced root, and leads to both roots
-pub root_leads : {H : Digest} {F : Data} {old_tree new_tree : List (List ℕ)} {s w : ℕ} → IsConsistent H F (length old_tree) (length new_tree) (root_of H old_tree) (root_of H new_tree)
+pub root_leads : {H : Digest} {F : Data} {old_tree new_tree : List (List ℕ)} {s w : ℕ}
+    → IsConsistent H F (length old_tree) (length new_tree) (root_of H old_tree) (root_of H new_tree)
     → IsRootOf s w 0 (length old_tree) → (x : List ℕ) × LeadsToBoth H F old_tree new_tree s w x
 root_leads {H} {F} {old_tree} {new_tree} {s} {w} is root =
     let aligned = whole_aligned (length old_tree) refl in
     let at = root_stands root aligned in
     let numbers = node_bounds at.node in
     let P = LeadsTo H F (length new_tree) (root_of H new_tree) in
-    let leads = All-contains P (balanced_roots (length old_tree)) (node_over s w) (All-from_recursion P (balanced_roots (length old_tree)) is.new_root_is) (root_contained root) in
+    let leads = All-contains P (balanced_roots (length old_tree)) (node_over s w)
+    (All-from_recursion P (balanced_roots (length old_tree)) is.new_root_is) (root_contained root) in
     let to_old = sym (old_is_cut H F leads.0 s w leads.1 root aligned).0 ∙ is.old_root_is in
-    let to_new = rw (numbers.0, numbers.1) at leads.2 in (leads.0, search (root, at, is.order, leads.1, to_old, to_new, arith))
+    let to_new = rw (numbers.0, numbers.1) at leads.2 in
+    (leads.0, search (root, at, is.order, leads.1, to_old, to_new, arith))
 
 -- two trees of one digest at a range of both show where they diverge below it, or a place at which the entries differ
-pub both_shown : {D : Type 0} (H : Digest) (old new : List (List ℕ)) (place a n : ℕ) → IsPart 0 (length old) a n → IsPart 0 (length new) a n → (p : Divergence D)
-    → IsDivergence H (own_digest H (leaves_of H old)) (root_over H (leaves_of H old) place 1) (own_digest H (leaves_of H new)) (root_over H (leaves_of H new) place 1) place 1 a n p
-    → (get_or old place [] ≡ get_or new place [] → ⊥) → Shows H (IsPlacedInBoth H old new) (inputs_of p (0 ∷ get_or old place []) (0 ∷ get_or new place []))
+pub both_shown : {D : Type 0} (H : Digest) (old new : List (List ℕ)) (place a n : ℕ) → IsPart 0 (length old) a n
+    → IsPart 0 (length new) a n → (p : Divergence D)
+    → IsDivergence H (own_digest H (leaves_of H old)) (root_over H (leaves_of H old) place 1)
+    (own_digest H (leaves_of H new)) (root_over H (leaves_of H new) place 1) place 1 a n p
+    → (get_or old place [] ≡ get_or new place [] → ⊥)
+    → Shows H (IsPlacedInBoth H old new) (inputs_of p (0 ∷ get_or old place []) (0 ∷ get_or new place []))
 both_shown H old new place a n in_old in_new p diverges differ = shown p
     (λ first second at.
     let more = wider at.around at.other in
     let old_part = IsPart-trans in_old at.part in
     let new_part = IsPart-trans in_new at.part in
     let old_plain = own_input H old place 1 first old_part more at.first_input in
-    let new_plain = own_input H new place 1 second new_part more at.second_input in search (old_part, new_part, old_plain, new_plain))
+    let new_plain = own_input H new place 1 second new_part more at.second_input in
+    search (old_part, new_part, old_plain, new_plain))
     _ _
     (λ meets.
     let old_part = IsPart-trans in_old meets.part in
     let new_part = IsPart-trans in_new meets.part in
     let old_at = (part_in old_part).0 in
     let new_at = (part_in new_part).0 in record {
-      collides = record { differ = λ e. differ (cc); same = sym (plain_digest_is H old place 1 (omega arith) (omega arith)) ∙ meets.same ∙ plain_digest_is H new place 1 (omega arith) (omega arith) };
+      collides = record {
+        differ = λ e. differ (cc);
+        same = sym (plain_digest_is H old place 1 (omega arith) (omega arith)) ∙ meets.same
+            ∙ plain_digest_is H new place 1 (omega arith) (omega arith);
+      };
       placed = search (old_part, new_part);
     })
     diverges
 
-module _ {H : Digest} {F : Data} {old new old_tree new_tree : List (List ℕ)} (old_is : old_tree ≡ leaves_of H old) (new_is : new_tree ≡ leaves_of H new)
+module _ {H : Digest} {F : Data} {old new old_tree new_tree : List (List ℕ)} (old_is : old_tree ≡ leaves_of H old)
+    (new_is : new_tree ≡ leaves_of H new)
     {s w : ℕ} {x : List ℕ} (at : LeadsToBoth H F old_tree new_tree s w x) where
   -- where the evaluation diverges from the old tree or from the new one
-  pub old_placed : (first second : List ℕ) → DivergesFrom H F x old_tree s w first second → IsConsistencyPlaced H F old new first second
+  pub old_placed : (first second : List ℕ) → DivergesFrom H F x old_tree s w first second
+      → IsConsistencyPlaced H F old new first second
   old_placed first second diverges =
       let here = root_at_part at.root diverges.part diverges.around in
-      let same = (old_is_cut H F x s w at.held here (part_in diverges.part).1).1 (λ e. diverges.other (starts e) (counts e)) in
+      let same = (old_is_cut H F x s w at.held here (part_in diverges.part).1).1
+      (λ e. diverges.other (starts e) (counts e)) in
       let own = own_second H old old_tree old_is (node_some at.node) diverges in
       let evaluation = same.1 ∙ diverges.first_input in inl (search (own, same.0, evaluation))
 
-  pub new_placed : (first second : List ℕ) → DivergesFrom H F x new_tree s w first second → IsConsistencyPlaced H F old new first second
+  pub new_placed : (first second : List ℕ) → DivergesFrom H F x new_tree s w first second
+      → IsConsistencyPlaced H F old new first second
   new_placed first second diverges =
       let numbers = node_bounds at.node in
       let is_root = rw (old_is, leaves_count H old) at (root_contained at.root) in
-      let hashed = hash_placed H F new new_tree new_is (node_over s w) x first second (rw (numbers.0, numbers.1) diverges) in inr (inl (search (is_root, at.held, hashed)))
+      let hashed = hash_placed H F new new_tree new_is (node_over s w) x first second
+      (rw (numbers.0, numbers.1) diverges) in inr (inl (search (is_root, at.held, hashed)))
 
   -- where both trees have one digest at the root's range
-  pub below_shown : {D : Type 0} (place : ℕ) → IsPart 0 (length new_tree) s w → (get_or old place [] ≡ get_or new place [] → ⊥) → (p : Divergence D)
-      → IsDivergence H (own_digest H old_tree) (root_over H old_tree place 1) (own_digest H new_tree) (root_over H new_tree place 1) place 1 s w p
+  pub below_shown : {D : Type 0} (place : ℕ) → IsPart 0 (length new_tree) s w
+      → (get_or old place [] ≡ get_or new place [] → ⊥) → (p : Divergence D)
+      → IsDivergence H (own_digest H old_tree) (root_over H old_tree place 1) (own_digest H new_tree)
+      (root_over H new_tree place 1) place 1 s w p
       → Shows H (IsConsistencyPlaced H F old new) (inputs_of p (0 ∷ get_or old place []) (0 ∷ get_or new place []))
   below_shown place new_part differ p diverges =
       let old_part = (root_stands at.root (whole_aligned (length old_tree) refl)).part in
-      let pair = both_shown H old new place s w (rw (old_is, leaves_count H old) at old_part) (rw (new_is, leaves_count H new) at new_part) p (rw (old_is, new_is) at diverges) differ in
+      let pair = both_shown H old new place s w (rw (old_is, leaves_count H old) at old_part)
+      (rw (new_is, leaves_count H new) at new_part) p (rw (old_is, new_is) at diverges) differ in
       record { collides = pair.collides; placed = inr (inr pair.placed) }
 
 -- entries that differ from others at a place don't begin them
 pub differs_not_begins : (old new : List (List ℕ)) (place : ℕ) → DiffersFirst old new place → Begins old new → ⊥
-differs_not_begins old new place differs begins = differs.differ (ap (λ xs. get_or xs place []) begins ∙ get_or-take (length old) new place [] differs.within)
+differs_not_begins old new place differs begins = differs.differ (ap (λ xs. get_or xs place []) begins
+    ∙ get_or-take (length old) new place [] differs.within)
 
-pub difference_in : (H : Digest) {old new tree : List (List ℕ)} {place : ℕ} → tree ≡ leaves_of H old → DiffersFirst old new place → place < length tree
+pub difference_in : (H : Digest) {old new tree : List (List ℕ)} {place : ℕ} → tree ≡ leaves_of H old
+    → DiffersFirst old new place → place < length tree
 difference_in H {old} is differs = rw (is, leaves_count H old) differs.within
 
 -- the trees of a consistency proof, where their roots are those to which it leads
-pub consistency_met : {X : Type 0} (H : Digest) (F : Data) {m n : ℕ} (old new : List (List ℕ)) {x y : List ℕ} (old_of new_of : X → List (List ℕ)) → length old ≡ m → length new ≡ n → length new ≤ 2 ^ 63 → consistency H F m n ≡ Ok (x, y) → (met : Option X)
-    → MatchOption met ((x ≡ root_of H (leaves_of H old)) × (y ≡ root_of H (leaves_of H new)) → ⊥) (λ t. (old_of t ≡ leaves_of H old) × (new_of t ≡ leaves_of H new) × (x ≡ root_of H (leaves_of H old)) × (y ≡ root_of H (leaves_of H new)))
-    → MatchOption met (IsConsistencyMet H F m n old new → ⊥) (λ t. IsConsistencyMeeting H F m n old new (old_of t) (new_of t))
+pub consistency_met : {X : Type 0} (H : Digest) (F : Data) {m n : ℕ} (old new : List (List ℕ)) {x y : List ℕ}
+    (old_of new_of : X → List (List ℕ)) → length old ≡ m → length new ≡ n → length new ≤ 2 ^ 63 → consistency H F m n
+    ≡ Ok (x, y) → (met : Option X)
+    → MatchOption met ((x ≡ root_of H (leaves_of H old)) × (y ≡ root_of H (leaves_of H new)) → ⊥)
+    (λ t. (old_of t ≡ leaves_of H old) × (new_of t ≡ leaves_of H new) × (x ≡ root_of H (leaves_of H old))
+    × (y ≡ root_of H (leaves_of H new)))
+    → MatchOption met (IsConsistencyMet H F m n old new → ⊥)
+    (λ t. IsConsistencyMeeting H F m n old new (old_of t) (new_of t))
 consistency_met H F old new {x} {y} old_of new_of old_count new_count fits leads None other = λ met.
     let ok = consistency_then H F _ _ _ _ met.roots in
-    let same : ◌≡◌ {A = List ℕ × List ℕ} (x, y) (root_of H (leaves_of H old), root_of H (leaves_of H new)) = cc in other (ap (λ (two : List ℕ × List ℕ). two.0) same, ap (λ (two : List ℕ × List ℕ). two.1) same)
+    let same : ◌≡◌ {A = List ℕ × List ℕ} (x, y) (root_of H (leaves_of H old), root_of H (leaves_of H new)) = cc in
+    other (ap (λ (two : List ℕ × List ℕ). two.0) same, ap (λ (two : List ℕ × List ℕ). two.1) same)
 consistency_met H F {m} {n} old new old_of new_of old_count new_count fits leads (Some t) is =
-    let roots : IsConsistent H F m n (root_of H (leaves_of H old)) (root_of H (leaves_of H new)) = rw (← is.2, ← is.3) (consistency_only H F _ _ _ _ leads) in record {
+    let roots : IsConsistent H F m n (root_of H (leaves_of H old)) (root_of H (leaves_of H new)) =
+    rw (← is.2, ← is.3) (consistency_only H F _ _ _ _ leads) in record {
       met = record { old_count = old_count; new_count = new_count; roots = roots };
       old_is = is.0;
       new_is = is.1;

@@ -1,4 +1,5 @@
--- A consistency path that leads to the roots of two trees shows that the one's entries begin the other's, or collides with
+-- A consistency path that leads to the roots of two trees shows that the one's entries begin the other's, or collides
+-- with
 -- a tree, or both trees collide.
 use Rattle.std.proofs.Common.{◌≡◌, ℕ, ◌+◌, ◌-◌, ◌<◌, ◌≤◌, ◌⊎◌, inl, inr, List, [], ◌∷◌, length, reverse, slice_index_or, Option, Some, None, refl, sym, ap, subst, ◌∙◌, arith}
 use Rattle.std.proofs.lemmas.Bool.{cases_lt, lt-leb, le-leb, ne_eqb}
@@ -26,40 +27,49 @@ use Rattle.warg_witness.proofs.RangeLemmas.{part_in, leaf_node}
 use Rattle.warg_witness.proofs.PathLawLemmas.{left_parts, over_size}
 
 -- where some aren't, no roots are there without digests, and else those of a part
-no_roots : (H : List ℕ → List ℕ) (known : Option (List ℕ)) (m n : ℕ) (roots : List ℕ × List ℕ) → m < n → roots_down H known m n [] ≡ Some roots → ⊥
+no_roots : (H : List ℕ → List ℕ) (known : Option (List ℕ)) (m n : ℕ) (roots : List ℕ × List ℕ) → m < n
+    → roots_down H known m n [] ≡ Some roots → ⊥
 unfolding roots_down
 no_roots H known m n roots more is = let none = rw (ne_eqb m n (λ e. omega arith)) at is in absurd cc
 
-grown_is : (H : List ℕ → List ℕ) (below : Option (List ℕ × List ℕ)) (top o w : List ℕ) → grown H below top ≡ Some (o, w) → (x : List ℕ) × (below ≡ Some (o, x)) × (H (branch_input x top) ≡ w)
+grown_is : (H : List ℕ → List ℕ) (below : Option (List ℕ × List ℕ)) (top o w : List ℕ) → grown H below top ≡ Some (o, w)
+    → (x : List ℕ) × (below ≡ Some (o, x)) × (H (branch_input x top) ≡ w)
 grown_is H None top o w is = absurd cc
 grown_is H (Some (p, x)) top o w is =
     let both = pair_parts (p, H (branch_input x top)) (o, w) is in (x, ap (λ z. Some (z, x)) both.0, both.1)
 
-over_is : (H : List ℕ → List ℕ) (below : Option (List ℕ × List ℕ)) (top o w : List ℕ) → both_over H top below ≡ Some (o, w)
+over_is : (H : List ℕ → List ℕ) (below : Option (List ℕ × List ℕ)) (top o w : List ℕ) → both_over H top below
+    ≡ Some (o, w)
     → (y : List ℕ) × (x : List ℕ) × (below ≡ Some (y, x)) × (H (branch_input top y) ≡ o) × (H (branch_input top x) ≡ w)
 over_is H None top o w is = absurd cc
 over_is H (Some (y, x)) top o w is =
     let both = pair_parts (H (branch_input top y), H (branch_input top x)) (o, w) is in (y, x, refl, both.0, both.1)
 
 -- the new root that is reckoned has 32 bytes, where not all leaves are old
-new_size : (H : List ℕ → List ℕ) → GivesHashes H → (known : Option (List ℕ)) (m n : ℕ) (digests : List (List ℕ)) (o w : List ℕ) → m < n → roots_down H known m n digests ≡ Some (o, w) → length w ≡ 32
+new_size : (H : List ℕ → List ℕ) → GivesHashes H → (known : Option (List ℕ)) (m n : ℕ) (digests : List (List ℕ))
+    (o w : List ℕ) → m < n → roots_down H known m n digests ≡ Some (o, w) → length w ≡ 32
 new_size H gives known m n [] o w less is = absurd (no_roots H known m n _ less is)
 new_size H gives known m n (top ∷ below) o w less is = elim (cases_lt (front_of n) m) [
-  | inr le ↦ let (x, _, root) = grown_is H (roots_down H known m (front_of n) below) top o w (sym (roots_front H known m n top below less le) ∙ is) in sym (ap length root) ∙ sizes_of gives _
-  | inl lt ↦ let (y, x, _, _, root) = over_is H (roots_down H None (m - front_of n) (n - front_of n) below) top o w (sym (roots_rest H known m n top below less lt) ∙ is) in sym (ap length root) ∙ sizes_of gives _
+  | inr le ↦ let (x, _, root) = grown_is H (roots_down H known m (front_of n) below) top o w
+      (sym (roots_front H known m n top below less le) ∙ is) in sym (ap length root) ∙ sizes_of gives _
+  | inl lt ↦ let (y, x, _, _, root) = over_is H (roots_down H None (m - front_of n) (n - front_of n) below) top o w
+      (sym (roots_rest H known m n top below less lt) ∙ is) in sym (ap length root) ∙ sizes_of gives _
 ]
 
 -- what is taken at a range for the new root
-front_turn : (H : List ℕ → List ℕ) (known : Option (List ℕ)) (m n : ℕ) (top : List ℕ) (below : List (List ℕ)) (o x : List ℕ) → m ≤ front_of n → roots_down H known m (front_of n) below ≡ Some (o, x)
+front_turn : (H : List ℕ → List ℕ) (known : Option (List ℕ)) (m n : ℕ) (top : List ℕ) (below : List (List ℕ))
+    (o x : List ℕ) → m ≤ front_of n → roots_down H known m (front_of n) below ≡ Some (o, x)
     → new_turn_input H known m n top below ≡ Some (branch_input x top)
 front_turn H known m n top below o x le is = rw (le-leb m (front_of n) le, is) refl
 
-rest_turn : (H : List ℕ → List ℕ) (known : Option (List ℕ)) (m n : ℕ) (top : List ℕ) (below : List (List ℕ)) (o x : List ℕ) → front_of n < m → roots_down H None (m - front_of n) (n - front_of n) below ≡ Some (o, x)
+rest_turn : (H : List ℕ → List ℕ) (known : Option (List ℕ)) (m n : ℕ) (top : List ℕ) (below : List (List ℕ))
+    (o x : List ℕ) → front_of n < m → roots_down H None (m - front_of n) (n - front_of n) below ≡ Some (o, x)
     → new_turn_input H known m n top below ≡ Some (branch_input top x)
 rest_turn H known m n top below o x lt is = rw (lt-leb m (front_of n) lt, is) refl
 
 -- roots that are there
-leads_both : (H : List ℕ → List ℕ) (known : Option (List ℕ)) (m n : ℕ) (path : List (List ℕ)) (roots : List ℕ × List ℕ) → subproof_roots H known m n path ≡ Some roots
+leads_both : (H : List ℕ → List ℕ) (known : Option (List ℕ)) (m n : ℕ) (path : List (List ℕ)) (roots : List ℕ × List ℕ)
+    → subproof_roots H known m n path ≡ Some roots
     → (0 < m) × (m ≤ n) × (roots_down H known m n (reverse path) ≡ Some roots)
 leads_both H known m n path roots is = grind (arith, nat_tests)
 
@@ -78,56 +88,83 @@ module _ (H : List ℕ → List ℕ) (gives : GivesHashes H) (path old new : Lis
   Collide = SomeCollision H (IsTreePlaced H path old new)
 
   -- two trees of one root over a range in which the entries differ
-  both_collide : (place a n : ℕ) → IsAround place 1 a n → (slice_index_or old place [] ≡ slice_index_or new place [] → ⊥) → IsPart 0 (length old) a n → IsPart 0 (length new) a n → over old a n ≡ over new a n → Collide
+  both_collide : (place a n : ℕ) → IsAround place 1 a n → (slice_index_or old place [] ≡ slice_index_or new place []
+      → ⊥) → IsPart 0 (length old) a n → IsPart 0 (length new) a n → over old a n ≡ over new a n → Collide
   both_collide place a n around differ old_part new_part same =
       let in_old = part_in old_part in
       let in_new = part_in new_part in
-      let sizes = over_size H gives old place 1 (omega arith) (omega arith) ∙ sym (over_size H gives new place 1 (omega arith) (omega arith)) in
+      let sizes = over_size H gives old place 1 (omega arith) (omega arith)
+      ∙ sym (over_size H gives new place 1 (omega arith) (omega arith)) in
       let (p, diverges) = diverged H _ _ _ _ place 1 (sizes_of gives) sizes (leaf_node refl) in_old.1 around
-      (have_range H (leaves_of H old) (leaves_of H new) place 1 in_old.1 (omega arith) (omega (arith, leaves_count H old)) (omega (arith, leaves_count H new)) same) in
-      let pair = both_shown H old new place a n old_part new_part p diverges differ in shown_collides _ (record { collides = pair.collides; placed = inr (inr pair.placed) })
+      (have_range H (leaves_of H old) (leaves_of H new) place 1 in_old.1 (omega arith)
+      (omega (arith, leaves_count H old)) (omega (arith, leaves_count H new)) same) in
+      let pair = both_shown H old new place a n old_part new_part p diverges differ in
+      shown_collides _ (record { collides = pair.collides; placed = inr (inr pair.placed) })
 
   abbrev OnWay : Option (List ℕ) → ℕ → ℕ → ℕ → List (List ℕ) → Type 0
-  OnWay known m a n digests = IsOnGrowth (Some (root_of H (leaves_of H old))) (length old) (length new) (reverse path) known m a n digests
+  OnWay known m a n digests = IsOnGrowth (Some (root_of H (leaves_of H old))) (length old) (length new)
+      (reverse path) known m a n digests
 
   -- a branch of the evaluation is the tree's, or collides with it
-  new_fork : (known : Option (List ℕ)) (m a n : ℕ) (top : List ℕ) (below : List (List ℕ)) (l r : List ℕ) → m < n → 1 < n → a + n ≤ length new → OnWay known m a n (top ∷ below)
-      → new_turn_input H known m n top below ≡ Some (branch_input l r) → H (branch_input l r) ≡ over new a n → (branch_input l r ≡ branch_at new a n) ⊎ Collide
-  new_fork known m a n top below l r less more within way takes root = elim (same_or_not (branch_input l r) (branch_at new a n)) [
-    | inl same ↦ inl same
-    | inr differ ↦ inr (record {
-      first = _;
-      second = _;
-      collide = record { differ = differ; same = root ∙ plain_digest_is H new a n (omega arith) within ∙ ap H (sym (is_plain new a n more)) };
-      placed = let turn : IsTurn H path old new known m a n top below = record { on_way = way; more = less } in let plain = is_plain new a n more in inr (inl (search (turn, takes, plain)));
-    })
-  ]
+  new_fork : (known : Option (List ℕ)) (m a n : ℕ) (top : List ℕ) (below : List (List ℕ)) (l r : List ℕ) → m < n → 1 < n
+      → a + n ≤ length new → OnWay known m a n (top ∷ below)
+      → new_turn_input H known m n top below ≡ Some (branch_input l r) → H (branch_input l r) ≡ over new a n
+      → (branch_input l r ≡ branch_at new a n) ⊎ Collide
+  new_fork known m a n top below l r less more within way takes root =
+      elim (same_or_not (branch_input l r) (branch_at new a n)) [
+        | inl same ↦ inl same
+        | inr differ ↦ inr (record {
+          first = _;
+          second = _;
+          collide = record {
+            differ = differ;
+            same = root ∙ plain_digest_is H new a n (omega arith) within
+                ∙ ap H (sym (is_plain new a n more));
+          };
+          placed = let turn : IsTurn H path old new known m a n top below = record { on_way = way; more = less } in
+              let plain = is_plain new a n more in inr (inl (search (turn, takes, plain)));
+        })
+      ]
 
-  old_fork : (known : Option (List ℕ)) (m a n : ℕ) (top : List ℕ) (below : List (List ℕ)) (l r : List ℕ) → m < n → 1 < m → front_of n < m → a + m ≤ length old → OnWay known m a n (top ∷ below)
-      → old_turn_input H m n top below ≡ Some (branch_input l r) → H (branch_input l r) ≡ over old a m → (branch_input l r ≡ branch_at old a m) ⊎ Collide
-  old_fork known m a n top below l r less more turns within way takes root = elim (same_or_not (branch_input l r) (branch_at old a m)) [
-    | inl same ↦ inl same
-    | inr differ ↦ inr (record {
-      first = _;
-      second = _;
-      collide = record { differ = differ; same = root ∙ plain_digest_is H old a m (omega arith) within ∙ ap H (sym (is_plain old a m more)) };
-      placed = let turn : IsTurn H path old new known m a n top below = record { on_way = way; more = less } in let plain = is_plain old a m more in inl (search (turn, turns, takes, plain));
-    })
-  ]
+  old_fork : (known : Option (List ℕ)) (m a n : ℕ) (top : List ℕ) (below : List (List ℕ)) (l r : List ℕ) → m < n → 1 < m
+      → front_of n < m → a + m ≤ length old → OnWay known m a n (top ∷ below)
+      → old_turn_input H m n top below ≡ Some (branch_input l r) → H (branch_input l r) ≡ over old a m
+      → (branch_input l r ≡ branch_at old a m) ⊎ Collide
+  old_fork known m a n top below l r less more turns within way takes root =
+      elim (same_or_not (branch_input l r) (branch_at old a m)) [
+        | inl same ↦ inl same
+        | inr differ ↦ inr (record {
+          first = _;
+          second = _;
+          collide = record {
+            differ = differ;
+            same = root ∙ plain_digest_is H old a m (omega arith) within
+                ∙ ap H (sym (is_plain old a m more));
+          };
+          placed = let turn : IsTurn H path old new known m a n top below = record { on_way = way; more = less } in
+              let plain = is_plain old a m more in inl (search (turn, turns, takes, plain));
+        })
+      ]
 
   -- the new root of a part has 32 bytes: it is reckoned, or the old one where all leaves are old
-  part_size : (digests : List (List ℕ)) (known : Option (List ℕ)) (m a n : ℕ) (x : List ℕ) → 0 < m → m ≤ n → a + m ≤ length old → roots_down H known m n digests ≡ Some (over old a m, x) → length x ≡ 32
+  part_size : (digests : List (List ℕ)) (known : Option (List ℕ)) (m a n : ℕ) (x : List ℕ) → 0 < m → m ≤ n
+      → a + m ≤ length old → roots_down H known m n digests ≡ Some (over old a m, x) → length x ≡ 32
   part_size digests known m a n x some order within is = elim (cases_lt m n) [
     | inl less ↦ new_size H gives known m n digests (over old a m) x less is
-    | inr all ↦ sym (ap length (all_old H known m n digests (over old a m) x (omega (arith, all, order)) is)) ∙ over_size H gives old a m some within
+    | inr all ↦ sym (ap length (all_old H known m n digests (over old a m) x (omega (arith, all, order)) is))
+        ∙ over_size H gives old a m some within
   ]
 
   module _ (place : ℕ) (differ : slice_index_or old place [] ≡ slice_index_or new place [] → ⊥) where
-    level : (digests : List (List ℕ)) (known : Option (List ℕ)) (m a n : ℕ) → n ≡ m → IsAround place 1 a m → IsPart 0 (length old) a m → IsPart 0 (length new) a n → roots_down H known m n digests ≡ Some (over old a m, over new a n) → Collide
+    level : (digests : List (List ℕ)) (known : Option (List ℕ)) (m a n : ℕ) → n ≡ m → IsAround place 1 a m
+        → IsPart 0 (length old) a m → IsPart 0 (length new) a n → roots_down H known m n digests
+        ≡ Some (over old a m, over new a n) → Collide
     level digests known m a n equal around old_part new_part leads =
-        let one = all_old H known m n digests _ _ (sym equal) leads in both_collide place a m around differ old_part (subst (λ k. IsPart 0 (length new) a k) equal new_part) (one ∙ ap (over new a) equal)
+        let one = all_old H known m n digests _ _ (sym equal) leads in both_collide place a m around differ old_part
+        (subst (λ k. IsPart 0 (length new) a k) equal new_part) (one ∙ ap (over new a) equal)
 
-    down : (digests : List (List ℕ)) (known : Option (List ℕ)) (m a n : ℕ) → m ≤ n → IsAround place 1 a m → IsPart 0 (length old) a m → IsPart 0 (length new) a n → OnWay known m a n digests
+    down : (digests : List (List ℕ)) (known : Option (List ℕ)) (m a n : ℕ) → m ≤ n → IsAround place 1 a m
+        → IsPart 0 (length old) a m → IsPart 0 (length new) a n → OnWay known m a n digests
         → roots_down H known m n digests ≡ Some (over old a m, over new a n) → Collide
     down [] known m a n order around old_part new_part way leads = elim (cases_lt m n) [
       | inl less ↦ absurd (no_roots H known m n _ less leads)
@@ -142,39 +179,63 @@ module _ (H : List ℕ → List ℕ) (gives : GivesHashes H) (path old new : Lis
           let in_old = (part_in old_part).0 in
           elim (cases_lt (front_of n) m) [
             | inr le ↦
-                let (x, below_is, root) = grown_is H (roots_down H known m (front_of n) below) top _ _ (sym (roots_front H known m n top below less le) ∙ leads) in
-                elim (new_fork known m a n top below x top less more in_new way (front_turn H known m n top below _ x le below_is) root) [
+                let (x, below_is, root) = grown_is H (roots_down H known m (front_of n) below) top _ _
+                (sym (roots_front H known m n top below less le) ∙ leads) in
+                elim (new_fork known m a n top below x top less more in_new way
+                (front_turn H known m n top below _ x le below_is) root) [
                   | inr collision ↦ collision
                   | inl same ↦
-                      let parts = branch_parts x top _ _ (part_size below known m a (front_of n) x (omega arith) le in_old below_is ∙ sym (over_size H gives new a (front_of n) (omega arith) (omega arith))) same in
-                      down below known m a (front_of n) le around old_part (part_front a n new_part more) (front known m a n top below way less le) (below_is ∙ ap (λ w. Some (over old a m, w)) parts.0)
+                      let parts = branch_parts x top _ _
+                      (part_size below known m a (front_of n) x (omega arith) le in_old below_is
+                      ∙ sym (over_size H gives new a (front_of n) (omega arith) (omega arith))) same in
+                      down below known m a (front_of n) le around old_part (part_front a n new_part more)
+                      (front known m a n top below way less le)
+                      (below_is ∙ ap (λ w. Some (over old a m, w)) parts.0)
                 ]
             | inl lt ↦
                 let fronts = same_front m n more lt order in
-                let (y, x, below_is, old_root, new_root) = over_is H (roots_down H None (m - front_of n) (n - front_of n) below) top _ _ (sym (roots_rest H known m n top below less lt) ∙ leads) in
-                elim (old_fork known m a n top below top y less (omega arith) lt in_old way (ap (where_both branch_input (Some top)) (ap old_of below_is)) old_root) [
+                let (y, x, below_is, old_root, new_root) =
+                over_is H (roots_down H None (m - front_of n) (n - front_of n) below) top _ _
+                (sym (roots_rest H known m n top below less lt) ∙ leads) in
+                elim (old_fork known m a n top below top y less (omega arith) lt in_old way
+                (ap (where_both branch_input (Some top)) (ap old_of below_is)) old_root) [
                   | inr collision ↦ collision
-                  | inl old_same ↦ elim (new_fork known m a n top below top x less more in_new way (rest_turn H known m n top below y x lt below_is) new_root) [
-                    | inr collision ↦ collision
-                    | inl new_same ↦
-                        let right = new_size H gives None (m - front_of n) (n - front_of n) below y x (omega arith) below_is ∙ sym (over_size H gives new (a + front_of n) (n - front_of n) (omega arith) (omega arith)) in
-                        let new_parts = left_parts top x (over new a (front_of n)) (over new (a + front_of n) (n - front_of n)) right new_same in
-                        let left = ap length new_parts.0 ∙ over_size H gives new a (front_of n) (omega arith) (omega arith) ∙ sym (over_size H gives old a (front_of n) (omega arith) (omega arith)) in
-                        let old_parts = branch_parts top y (over old a (front_of n)) (over old (a + front_of n) (m - front_of n)) left (rw fronts at old_same) in
-                        elim (cases_lt place (a + front_of n)) [
-                          | inl here ↦ both_collide place a (front_of n) (omega arith) differ (rw fronts at (part_front a m old_part (omega arith))) (part_front a n new_part more) (sym old_parts.0 ∙ new_parts.0)
-                          | inr there ↦ down below None (m - front_of n) (a + front_of n) (n - front_of n) (omega arith) (omega arith) (rw fronts at (part_rest a m old_part (omega arith))) (part_rest a n new_part more)
-                              (rest known m a n top below way less lt) (below_is ∙ ap (λ z. Some (z, x)) old_parts.1 ∙ ap (λ z. Some (over old (a + front_of n) (m - front_of n), z)) new_parts.1)
-                        ]
-                  ]
+                  | inl old_same ↦ elim (new_fork known m a n top below top x less more in_new way
+                      (rest_turn H known m n top below y x lt below_is) new_root) [
+                        | inr collision ↦ collision
+                        | inl new_same ↦
+                            let right = new_size H gives None (m - front_of n) (n - front_of n) below y x
+                            (omega arith) below_is ∙ sym (over_size H gives new (a + front_of n) (n - front_of n)
+                            (omega arith) (omega arith)) in
+                            let new_parts = left_parts top x (over new a (front_of n))
+                            (over new (a + front_of n) (n - front_of n)) right new_same in
+                            let left = ap length new_parts.0 ∙ over_size H gives new a (front_of n) (omega arith)
+                            (omega arith) ∙ sym (over_size H gives old a (front_of n) (omega arith) (omega arith)) in
+                            let old_parts = branch_parts top y (over old a (front_of n))
+                            (over old (a + front_of n) (m - front_of n)) left (rw fronts at old_same) in
+                            elim (cases_lt place (a + front_of n)) [
+                              | inl here ↦ both_collide place a (front_of n) (omega arith) differ
+                                  (rw fronts at (part_front a m old_part (omega arith))) (part_front a n new_part more)
+                                  (sym old_parts.0 ∙ new_parts.0)
+                              | inr there ↦ down below None (m - front_of n) (a + front_of n) (n - front_of n) (omega arith)
+                                  (omega arith) (rw fronts at (part_rest a m old_part (omega arith)))
+                                  (part_rest a n new_part more)
+                                  (rest known m a n top below way less lt) (below_is ∙ ap (λ z. Some (z, x)) old_parts.1
+                                  ∙ ap (λ z. Some (over old (a + front_of n) (m - front_of n), z)) new_parts.1)
+                            ]
+                      ]
                 ]
           ]
     ]
 
-pub tree_collides : (H : List ℕ → List ℕ) → GivesHashes H → (digests old new : List (List ℕ)) → IsTreeMet H digests old new → ¬ Begins old new → SomeCollision H (IsTreePlaced H digests old new)
+pub tree_collides : (H : List ℕ → List ℕ) → GivesHashes H → (digests old new : List (List ℕ))
+    → IsTreeMet H digests old new → ¬ Begins old new → SomeCollision H (IsTreePlaced H digests old new)
 tree_collides H gives digests old new met untrue =
-    let (some, order, leads) = leads_both H (Some (root_of H (leaves_of H old))) (length old) (length new) digests _ met in
+    let (some, order, leads) = leads_both H (Some (root_of H (leaves_of H old))) (length old)
+    (length new) digests _ met in
     let differs = difference old new order untrue in
-    let roots : roots_down H (Some (root_of H (leaves_of H old))) (length old) (length new) (reverse digests) ≡ Some (root_over H (leaves_of H old) 0 (length old), root_over H (leaves_of H new) 0 (length new)) =
+    let roots : roots_down H (Some (root_of H (leaves_of H old))) (length old) (length new) (reverse digests)
+    ≡ Some (root_over H (leaves_of H old) 0 (length old), root_over H (leaves_of H new) 0 (length new)) =
     rw (plain_root H old, plain_root H new) leads in
-    down H gives digests old new differs.0 differs.2 (reverse digests) _ (length old) 0 (length new) order (omega (arith, differs.1)) part_whole part_whole whole roots
+    down H gives digests old new differs.0 differs.2 (reverse digests) _ (length old) 0 (length new) order
+    (omega (arith, differs.1)) part_whole part_whole whole roots

@@ -9,11 +9,14 @@ use Rattle.warg_witness.specs.declared.divergence.Divergence.TheVariants.{Target
 use Rattle.warg_witness.proofs.ClimbLemmas.{beside_parts, parts_placed, up_parts}
 
 -- at the bottom
-pub no_turns : {D : Type 0} {H : List ℕ → List ℕ} {x y first second : List ℕ} {p : Divergence D} → first ≡ x → second ≡ y → p ≡ Target → IsClimb H x [] y [] first second p
-no_turns first second target = rw (first, second, target) (record { first_is = refl; second_is = refl; diverges = λ same. (same, refl) })
+pub no_turns : {D : Type 0} {H : List ℕ → List ℕ} {x y first second : List ℕ} {p : Divergence D} → first ≡ x
+    → second ≡ y → p ≡ Target → IsClimb H x [] y [] first second p
+no_turns first second target = rw (first, second, target)
+    (record { first_is = refl; second_is = refl; diverges = λ same. (same, refl) })
 
 -- one turn up
-pub turn_up : {D : Type 0} {H : List ℕ → List ℕ} {b : Bool} {x y u v d e f g : List ℕ} {ss ts : List Turn} {p q : Divergence D} → IsClimb H x ss y ts d e p → IsUp H b d u e v p f g q
+pub turn_up : {D : Type 0} {H : List ℕ → List ℕ} {b : Bool} {x y u v d e f g : List ℕ} {ss ts : List Turn}
+    {p q : Divergence D} → IsClimb H x ss y ts d e p → IsUp H b d u e v p f g q
     → IsClimb H x (record { right = b; beside = u } ∷ ss) y (record { right = b; beside = v } ∷ ts) f g q
 turn_up {H = H} {b} {x} {y} {u} {v} {ss = ss} {ts} {p} climb up =
     let first = ap (λ d. input_beside b u d) climb.first_is in
@@ -23,11 +26,14 @@ turn_up {H = H} {b} {x} {y} {u} {v} {ss = ss} {ts} {p} climb up =
       first_is = up.first_is ∙ ap H first;
       second_is = up.second_is ∙ ap H second;
       diverges = up_parts (AreTaken H x (s ∷ ss) y (t ∷ ts)) ((x ≡ y) × ((s ∷ ss) ≡ (t ∷ ts))) up
-          (λ same beside. parts_placed H p (λ _ _ is. inr is) (λ is. (is.0, ap (λ (u : List ℕ). record { right = b; beside = u } ∷ ss) beside ∙ ap (λ ts. t ∷ ts) is.1)) (climb.diverges same)) (inl (first, second));
+          (λ same beside. parts_placed H p (λ _ _ is. inr is)
+          (λ is. (is.0, ap (λ (u : List ℕ). record { right = b; beside = u } ∷ ss) beside ∙ ap (λ ts. t ∷ ts) is.1))
+          (climb.diverges same)) (inl (first, second));
     }
 
 -- two ways of the same sides to one root are one, from digests of one length, or collide at one of their turns
-pub two_ways : (H : List ℕ → List ℕ) → HasSize H → (x y : List ℕ) → length x ≡ 32 → length y ≡ 32 → (ss ts : List Turn) → map (λ (s : Turn). s.right) ss ≡ map (λ (t : Turn). t.right) ts
+pub two_ways : (H : List ℕ → List ℕ) → HasSize H → (x y : List ℕ) → length x ≡ 32 → length y ≡ 32 → (ss ts : List Turn)
+    → map (λ (s : Turn). s.right) ss ≡ map (λ (t : Turn). t.right) ts
     → climbed H x ss ≡ climbed H y ts → ((x ≡ y) × (ss ≡ ts)) ⊎ SomeCollision H (AreTaken H x ss y ts)
 two_ways H gives x y size other [] [] sides same = inl (same, refl)
 two_ways H gives x y size other [] (t ∷ ts) sides same = absurd cc
@@ -36,15 +42,26 @@ two_ways H gives x y size other (s ∷ ss) (t ∷ ts) sides same =
     let here : s.right ≡ t.right = cc in
     let rest : map (λ (s : Turn). s.right) ss ≡ map (λ (t : Turn). t.right) ts = cc in
     elim (same_or_not (taken s (climbed H x ss)) (taken t (climbed H y ts))) [
-      | inr differ ↦ inr (record { first = _; second = _; collide = record { differ = differ; same = same }; placed = inl (refl, refl) })
+      | inr differ ↦ inr (record {
+        first = _;
+        second = _;
+        collide = record { differ = differ; same = same };
+        placed = inl (refl, refl);
+      })
       | inl equal ↦
-          let parts = beside_parts t.right (climbed_size H gives x size ss ∙ sym (climbed_size H gives y other ts)) (ap (λ b. input_beside b s.beside (climbed H x ss)) (sym here) ∙ equal) in
+          let parts = beside_parts t.right (climbed_size H gives x size ss ∙ sym (climbed_size H gives y other ts))
+          (ap (λ b. input_beside b s.beside (climbed H x ss)) (sym here) ∙ equal) in
           elim (two_ways H gives x y size other ss ts rest parts.0) [
-            | inl one ↦ inl (one.0, ap (λ b. record { right = b; beside = s.beside } ∷ ss) here ∙ ap (λ u. record { right = t.right; beside = u } ∷ ss) parts.1 ∙ ap (λ ts. t ∷ ts) one.1)
+            | inl one ↦ inl (
+              one.0,
+              ap (λ b. record { right = b; beside = s.beside } ∷ ss) here
+                  ∙ ap (λ u. record { right = t.right; beside = u } ∷ ss) parts.1 ∙ ap (λ ts. t ∷ ts) one.1,
+            )
             | inr c ↦ inr (record { first = c.first; second = c.second; collide = c.collide; placed = inr c.placed })
           ]
     ]
   where
-    climbed_size : (H : List ℕ → List ℕ) → HasSize H → (x : List ℕ) → length x ≡ 32 → (ss : List Turn) → length (climbed H x ss) ≡ 32
+    climbed_size : (H : List ℕ → List ℕ) → HasSize H → (x : List ℕ) → length x ≡ 32 → (ss : List Turn)
+        → length (climbed H x ss) ≡ 32
     climbed_size H gives x size [] = size
     climbed_size H gives x size (s ∷ ss) = gives _

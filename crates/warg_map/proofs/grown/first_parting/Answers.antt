@@ -15,20 +15,29 @@ loop-leaf-preserved g c =
     let e = c.leaf-item.result in
     let shared = c.shared_bits-shared.ensures in
     let same = sym (shared.same ∙ ap (λ k. bits_from k c.args.from c.shared_bits-shared.result) c.key.ensures) in
-    rw (take_more c.deref-leaf-items.result.now c.loop-leaf.leaf-index e c.loop-leaf-test.true, ← c.leaf-item.is) (record {
+    rw (take_more c.deref-leaf-items.result.now c.loop-leaf.leaf-index e c.loop-leaf-test.true, ← c.leaf-item.is)
+    (record {
       at_most = omega (arith, shared.at_most, c.loop-leaf.invariant.at_most);
-      same = all_push _ _ e (all_weaken _ _ (λ x. bits_from-fewer x.key c.args.key.now c.args.from c.shared_bits-shared.result c.loop-leaf.shared shared.at_most) _ c.loop-leaf.invariant.same) same;
-      apart = apart_step c.args.key.now c.args.from c.args.len c.loop-leaf.shared c.shared_bits-shared.result _ e c.loop-leaf.invariant.apart shared.at_most (rw c.key.ensures at shared.apart);
+      same = all_push _ _ e (all_weaken _ _
+          (λ x. bits_from-fewer x.key c.args.key.now c.args.from c.shared_bits-shared.result c.loop-leaf.shared
+          shared.at_most) _ c.loop-leaf.invariant.same) same;
+      apart = apart_step c.args.key.now c.args.from c.args.len c.loop-leaf.shared c.shared_bits-shared.result _ e
+          c.loop-leaf.invariant.apart shared.at_most (rw c.key.ensures at shared.apart);
     })
 
 pub returns-then-shared-len : goal.returns-then-shared-len
 returns-then-shared-len g c =
-    let all = take_all c.loop-leaf.leaf-index c.deref-leaf-items.result.now c.loop-leaf-test.false ∙ c.deref-leaf-items.ensures.value in
-    (refl, subst (λ n. ShareBits c.args.key.now c.args.from n c.args.leaves.items) c.if-shared-len.true (rw all at c.loop-leaf.invariant.same))
+    let all = take_all c.loop-leaf.leaf-index c.deref-leaf-items.result.now c.loop-leaf-test.false
+    ∙ c.deref-leaf-items.ensures.value in (
+      refl,
+      subst (λ n. ShareBits c.args.key.now c.args.from n c.args.leaves.items) c.if-shared-len.true
+          (rw all at c.loop-leaf.invariant.same),
+    )
 
 pub returns : goal.returns
 returns g c =
-    let all = take_all c.loop-leaf.leaf-index c.deref-leaf-items.result.now c.loop-leaf-test.false ∙ c.deref-leaf-items.ensures.value in
+    let all = take_all c.loop-leaf.leaf-index c.deref-leaf-items.result.now c.loop-leaf-test.false
+    ∙ c.deref-leaf-items.ensures.value in
     let less : c.loop-leaf.shared < c.args.len = omega (arith, c.loop-leaf.invariant.at_most, c.if-shared-len.false) in
     let apart = rw all at c.loop-leaf.invariant.apart in
     record {

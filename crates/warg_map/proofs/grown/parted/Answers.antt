@@ -9,6 +9,8 @@ loop-leaf-init g c = (c.new-near.ensures.items, c.new-far.ensures.items)
 
 pub loop-leaf-preserved : goal.loop-leaf-preserved
 loop-leaf-preserved g c = (
-  rw (on_side-append c.args.at _ c.loop-leaf.yielded (c.in-Some.leaf ∷ []), ← c.loop-leaf.invariant.0) c.in_ok-push_by_side.ensures.0,
-  rw (on_side-append c.args.at _ c.loop-leaf.yielded (c.in-Some.leaf ∷ []), ← c.loop-leaf.invariant.1) c.in_ok-push_by_side.ensures.1,
+  rw (on_side-append c.args.at _ c.loop-leaf.yielded (c.in-Some.leaf ∷ []), ← c.loop-leaf.invariant.0)
+      c.in_ok-push_by_side.ensures.0,
+  rw (on_side-append c.args.at _ c.loop-leaf.yielded (c.in-Some.leaf ∷ []), ← c.loop-leaf.invariant.1)
+      c.in_ok-push_by_side.ensures.1,
 )

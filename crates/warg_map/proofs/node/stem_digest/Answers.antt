@@ -19,7 +19,15 @@ loop-above-preserved g c =
     let up : c.args.from + (c.args.len - n) ≡ i + 1 = omega arith in
     let at : c.args.from + (c.args.len - 1 - n) ≡ i = omega arith in
     let z : k + n + 1 ≡ k + (n + 1) = omega arith in (
-      rw (c.branch-hash.ensures, c.side_at.ensures, at, c.loop-above.invariant.1, c.loop-above.invariant.0, up, stem_root-more g.D.SupportedDigest.digest k c.args.below.now c.args.key.now i n),
+      rw (
+        c.branch-hash.ensures,
+        c.side_at.ensures,
+        at,
+        c.loop-above.invariant.1,
+        c.loop-above.invariant.0,
+        up,
+        stem_root-more g.D.SupportedDigest.digest k c.args.below.now c.args.key.now i n,
+      ),
       rw (c.empty_above-empty.ensures, z),
     )
 

@@ -13,5 +13,6 @@ unfolding bits_from
 loop-shared-preserved g c =
     let i = c.args.from in
     let n = c.loop-shared.shared in
-    let same = sym c.side_at.ensures ∙ same_bit _ _ (sym c.ne.ensures ∙ c.if-ne.false) ∙ c.side_at-in-loop-shared.ensures in
+    let same = sym c.side_at.ensures ∙ same_bit _ _ (sym c.ne.ensures ∙ c.if-ne.false)
+    ∙ c.side_at-in-loop-shared.ensures in
     rw (bits_from-append c.args.a.now i n 1, bits_from-append c.args.b.now i n 1, same, c.loop-shared.invariant)

@@ -8,7 +8,9 @@ use Rattle.warg_map.proofs.premises.absent_root_at_prefix.Goals as goal
 
 pub returns-clause-bits : goal.returns-clause-bits
 unfolding proof_value empty_root root_of_levels
-returns-clause-bits c = λ law. let beside : SameList (1 ∷ 0 ∷ 0 ∷ []) (1 ∷ 7 ∷ 0 ∷ []) = law own seven [] one_bit (Some (7 ∷ []) ∷ []) (beside_proof own (7 ∷ [])) ∙ beside_root in let byte : SameNumber 0 7 = cc in omega arith
+returns-clause-bits c = λ law. let beside : SameList (1 ∷ 0 ∷ 0 ∷ []) (1 ∷ 7 ∷ 0 ∷ []) = law own seven [] one_bit
+    (Some (7 ∷ []) ∷ []) (beside_proof own (7 ∷ [])) ∙ beside_root in let byte : SameNumber 0 7 = cc in omega arith
 
 pub returns-clause-proof : goal.returns-clause-proof
-returns-clause-proof c = λ law. peers_matter (empty_root own 0) (law own empty [] all_bits (with_top 5) prefix_256 ∙ sym (law own empty [] all_bits (with_top 6) prefix_256))
+returns-clause-proof c = λ law. peers_matter (empty_root own 0) (law own empty [] all_bits (with_top 5) prefix_256
+    ∙ sym (law own empty [] all_bits (with_top 6) prefix_256))

@@ -8,8 +8,16 @@ use Rattle.warg_map.proofs.premises.any_order.Goals as goal
 
 pub returns-clause-permutation : goal.returns-clause-permutation
 unfolding inserted
-returns-clause-permutation c = λ law. let held : SameDigest None (Some (0 ∷ [])) = sym (get-empty bits_cmp (key_bits own [])) ∙ ap (λ m. get m (key_bits own [])) (law own empty [] (([], []) ∷ []) (λ i j d below within. absurd (omega arith))) ∙ get-insert_same empty (key_bits own []) (0 ∷ []) in cc
+returns-clause-permutation c = λ law. let held : SameDigest None (Some (0 ∷ [])) =
+    sym (get-empty bits_cmp (key_bits own [])) ∙ ap (λ m. get m (key_bits own []))
+    (law own empty [] (([], []) ∷ []) (λ i j d below within. absurd (omega arith)))
+    ∙ get-insert_same empty (key_bits own []) (0 ∷ []) in cc
 
 pub returns-clause-distinct : goal.returns-clause-distinct
 unfolding inserted
-returns-clause-distinct c = λ law. let bits = key_bits own [] in let first = insert empty bits (0 ∷ []) in let second = insert empty bits (0 ∷ 0 ∷ []) in let held : SameDigest (Some (0 ∷ 0 ∷ [])) (Some (0 ∷ [])) = sym (get-insert_same first bits (0 ∷ 0 ∷ [])) ∙ ap (λ m. get m bits) (law own empty (([], []) ∷ ([], 0 ∷ []) ∷ []) (([], 0 ∷ []) ∷ ([], []) ∷ []) (record { moves = (0, 1) ∷ []; below = (omega arith, omega arith, tt); is = refl })) ∙ get-insert_same second bits (0 ∷ []) in cc
+returns-clause-distinct c = λ law. let bits = key_bits own [] in let first = insert empty bits (0 ∷ []) in
+    let second = insert empty bits (0 ∷ 0 ∷ []) in let held : SameDigest (Some (0 ∷ 0 ∷ [])) (Some (0 ∷ [])) =
+    sym (get-insert_same first bits (0 ∷ 0 ∷ []))
+    ∙ ap (λ m. get m bits) (law own empty (([], []) ∷ ([], 0 ∷ []) ∷ []) (([], 0 ∷ []) ∷ ([], []) ∷ [])
+    (record { moves = (0, 1) ∷ []; below = (omega arith, omega arith, tt); is = refl }))
+    ∙ get-insert_same second bits (0 ∷ []) in cc

@@ -4,4 +4,6 @@ use Rattle.warg_map.proofs.PremiseLemmas.{own, below, all_bits, bits_256, leaf_m
 use Rattle.warg_map.proofs.premises.one_root.Goals as goal
 
 pub returns : goal.returns
-returns c = λ law. let same : SameList [] (0 ∷ []) = leaf_matters _ _ _ all_bits (own_root own true below [] bits_256 ∙ law own (insert empty all_bits []) (insert empty all_bits (0 ∷ [])) ∙ sym (own_root own true below (0 ∷ []) bits_256)) in cc
+returns c = λ law. let same : SameList [] (0 ∷ []) = leaf_matters _ _ _ all_bits (own_root own true below [] bits_256
+    ∙ law own (insert empty all_bits []) (insert empty all_bits (0 ∷ []))
+    ∙ sym (own_root own true below (0 ∷ []) bits_256)) in cc

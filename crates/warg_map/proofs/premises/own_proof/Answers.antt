@@ -7,7 +7,10 @@ pub returns-clause-bits : goal.returns-clause-bits
 returns-clause-bits c = λ law. one_level [] (law own (lone []) one_bit _ [] (lone_proof own true [] [])).1
 
 pub returns-clause-proof : goal.returns-clause-proof
-returns-clause-proof c = λ law. peers_matter [] ((law own empty all_bits (with_top 5) [] bits_256).1 ∙ sym (law own empty all_bits (with_top 6) [] bits_256).1)
+returns-clause-proof c = λ law. peers_matter [] ((law own empty all_bits (with_top 5) [] bits_256).1
+    ∙ sym (law own empty all_bits (with_top 6) [] bits_256).1)
 
 pub returns-clause-held : goal.returns-clause-held
-returns-clause-held c = λ law. let m = insert empty all_bits [] in let p = lone_proof own true below [] in let same : SameList [] (0 ∷ []) = leaf_matters _ _ _ all_bits ((law own m all_bits _ [] bits_256 p).0 ∙ sym (law own m all_bits _ (0 ∷ []) bits_256 p).0) in cc
+returns-clause-held c = λ law. let m = insert empty all_bits [] in let p = lone_proof own true below [] in
+    let same : SameList [] (0 ∷ []) = leaf_matters _ _ _ all_bits ((law own m all_bits _ [] bits_256 p).0
+    ∙ sym (law own m all_bits _ (0 ∷ []) bits_256 p).0) in cc

@@ -11,13 +11,16 @@ pub returns-in-Some-lone : goal.returns-in-Some-lone
 returns-in-Some-lone g c =
     let H = g.D.SupportedDigest.digest in
     let lone = c.in-Some-lone.lone in
-    let there : c.in-Some.slot.now.lone ≡ Some lone = sym (ap (λ (x : SlotAt). x.lone) c.slot.view_is) ∙ c.in-Some-lone.is in
+    let there : c.in-Some.slot.now.lone ≡ Some lone = sym (ap (λ (x : SlotAt). x.lone) c.slot.view_is)
+    ∙ c.in-Some-lone.is in
     let key : c.lone.inside.key ≡ lone.0 = ap (λ (l : List ℕ × List ℕ). l.0) c.lone.view_is in
     let leaf : c.lone.inside.leaf ≡ lone.1 = ap (λ (l : List ℕ × List ℕ). l.1) c.lone.view_is in
     let digest : c.slot.inside.digest ≡ c.in-Some.slot.now.digest = ap (λ (x : SlotAt). x.digest) c.slot.view_is in
-    let root : c.lone_tree.result ≡ lone_root H lone.0 lone.1 (slot_height c.args.depth) = rw key at (c.lone_tree.ensures lone.1 (leaf ∙ lone_root-none H c.lone.inside.key lone.1)) in
+    let root : c.lone_tree.result ≡ lone_root H lone.0 lone.1 (slot_height c.args.depth) =
+    rw key at (c.lone_tree.ensures lone.1 (leaf ∙ lone_root-none H c.lone.inside.key lone.1)) in
     let decide = hashes_decide _ _ _ c.eq.ensures in
-    let P : List ℕ × List ℕ → Type 0 = λ l. lone_root H l.0 l.1 (slot_height c.args.depth) ≡ c.in-Some.slot.now.digest in
+    let P : List ℕ × List ℕ → Type 0 = λ l. lone_root H l.0 l.1 (slot_height c.args.depth)
+    ≡ c.in-Some.slot.now.digest in
     rw c.in-Some.is (
       λ t other is. subst P (some_same (sym there ∙ is)) (sym root ∙ decide.0 t ∙ digest),
       λ h. decide.1 (root ∙ h lone there ∙ sym digest),

@@ -12,5 +12,11 @@ returns-clause-ok g c =
     let key : c.last.inside.key ≡ last.key = ap (λ (x : ChangeAt). x.key) c.last.view_is in
     let leaf : c.last.inside.leaf ≡ last.leaf = ap (λ (x : ChangeAt). x.leaf) c.last.view_is in
     let number : c.last.inside.version ≡ last.version = ap (λ (x : ChangeAt). x.version) c.last.view_is in
-    let root : c.lone_tree.result ≡ lone_root H last.key last.leaf (slot_height c.args.depth) = rw key at (c.lone_tree.ensures last.leaf (leaf ∙ lone_root-none H c.last.inside.key last.leaf)) in
-    λ i. record { byte = c.args.byte; version = number i; digest = root i; lone = Some ((c.copied.ensures ∙ key) i, (c.copied-2.ensures ∙ leaf) i) }
+    let root : c.lone_tree.result ≡ lone_root H last.key last.leaf (slot_height c.args.depth) =
+    rw key at (c.lone_tree.ensures last.leaf (leaf ∙ lone_root-none H c.last.inside.key last.leaf)) in
+    λ i. record {
+      byte = c.args.byte;
+      version = number i;
+      digest = root i;
+      lone = Some ((c.copied.ensures ∙ key) i, (c.copied-2.ensures ∙ leaf) i);
+    }

@@ -20,7 +20,8 @@ returns-clause-ok g c =
     let key : c.lone.inside.key ≡ lone.0 = ap (λ (l : List ℕ × List ℕ). l.0) c.lone.view_is in
     let leaf : c.lone.inside.leaf ≡ lone.1 = ap (λ (l : List ℕ × List ℕ). l.1) c.lone.view_is in
     let number : c.slot.inside.version ≡ c.args.slot.now.version = ap (λ (x : SlotAt). x.version) c.slot.view_is in
-    let root : c.lone_tree.result ≡ lone_root H c.lone.inside.key lone.1 (slot_height depth) = c.lone_tree.ensures lone.1 (leaf ∙ lone_root-none H c.lone.inside.key lone.1) in
+    let root : c.lone_tree.result ≡ lone_root H c.lone.inside.key lone.1 (slot_height depth) =
+    c.lone_tree.ensures lone.1 (leaf ∙ lone_root-none H c.lone.inside.key lone.1) in
     c.in_ok-put_behind.ensures.ok ∙ (λ i. c.new-page.ensures i ++ record {
       byte = slice_index ((c.bytes-2.ensures.value ∙ key) i) depth;
       version = number i;

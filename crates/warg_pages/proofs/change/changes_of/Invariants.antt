@@ -6,5 +6,8 @@ use Rattle.warg_pages.proofs.change.changes_of.Given as goal
 abbrev pub invariant-loop-insertion : goal.invariant-loop-insertion
 invariant-loop-insertion g l = record {
   number : l.version ≡ l.count + l.insertion-index;
-  changes : l.changes.items ++ changes_from g.D.SupportedDigest.digest l.version (pair_bytes g.K.VisitBytes.bytes g.V.VisitBytes.bytes (drop l.insertion-index l.insertions)) ≡ changes_from g.D.SupportedDigest.digest l.count (pair_bytes g.K.VisitBytes.bytes g.V.VisitBytes.bytes l.insertions);
+  changes : l.changes.items ++ changes_from g.D.SupportedDigest.digest l.version
+      (pair_bytes g.K.VisitBytes.bytes g.V.VisitBytes.bytes (drop l.insertion-index l.insertions))
+      ≡ changes_from g.D.SupportedDigest.digest l.count
+      (pair_bytes g.K.VisitBytes.bytes g.V.VisitBytes.bytes l.insertions);
 }

@@ -5,6 +5,12 @@ use Rattle.warg_pages.proofs.climb.lone_tree.Goals as goal
 pub loop-height-preserved : goal.loop-height-preserved
 loop-height-preserved g c =
     let H = g.D.SupportedDigest.digest in record {
-      value = λ leaf is. rw (c.branch-value.ensures, c.side_at.ensures, c.loop-height.invariant.empty, c.loop-height.invariant.value leaf is) (lone_root-more H c.args.key.now leaf c.loop-height.height (omega arith));
+      value = λ leaf is. rw (
+        c.branch-value.ensures,
+        c.side_at.ensures,
+        c.loop-height.invariant.empty,
+        c.loop-height.invariant.value leaf is,
+      )
+          (lone_root-more H c.args.key.now leaf c.loop-height.height (omega arith));
       empty = c.empty_above-empty.ensures;
     }

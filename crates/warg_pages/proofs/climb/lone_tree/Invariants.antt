@@ -5,6 +5,7 @@ use Rattle.warg_pages.proofs.climb.lone_tree.Given as goal
 
 abbrev pub invariant-loop-height : goal.invariant-loop-height
 invariant-loop-height g l = record {
-  value : (leaf : List ℕ) → l.digest ≡ lone_root g.D.SupportedDigest.digest l.key leaf l.fn.from → l.value ≡ lone_root g.D.SupportedDigest.digest l.key leaf l.height;
+  value : (leaf : List ℕ) → l.digest ≡ lone_root g.D.SupportedDigest.digest l.key leaf l.fn.from
+      → l.value ≡ lone_root g.D.SupportedDigest.digest l.key leaf l.height;
   empty : l.empty ≡ empty_root g.D.SupportedDigest.digest l.height;
 }

@@ -10,4 +10,5 @@ bytes-preserved g c =
     let laid = rw c.laid_out.ensures at c.in_ok-write.ensures.bytes in
     let digits = rw c.in_radix.ensures at laid in
     let written = rw (hex_byte false byte (omega (arith, c.type_inv.prefix c.bytes.byte-index))) at digits in
-    written ∙ ap (λ t. t ++ byte_path byte) c.bytes.invariant ∙ path_more byte_path (codes "map/") c.args.prefix.now c.bytes.byte-index c.bytes-test.true
+    written ∙ ap (λ t. t ++ byte_path byte) c.bytes.invariant
+    ∙ path_more byte_path (codes "map/") c.args.prefix.now c.bytes.byte-index c.bytes-test.true

@@ -10,10 +10,13 @@ use Rattle.warg_pages.proofs.peers.peer_beside.Goals as goal
 
 pub root_of_range-requires-clause-ascend : goal.root_of_range-requires-clause-ascend
 root_of_range-requires-clause-ascend g c =
-    rw (c.split_at-2.ensures.front, c.split_at.ensures.back) (Ascends-take c.count_below-2.result _ (Ascends-drop c.count_below.result c.args.slots.now c.requires.page.ascend))
+    rw (c.split_at-2.ensures.front, c.split_at.ensures.back)
+    (Ascends-take c.count_below-2.result _
+    (Ascends-drop c.count_below.result c.args.slots.now c.requires.page.ascend))
 
 pub root_of_range-requires-clause-range : goal.root_of_range-requires-clause-range
-root_of_range-requires-clause-range g c = rw c.start_beside-first.ensures (beside_bytes c.args.byte c.args.height (omega arith) c.requires.height)
+root_of_range-requires-clause-range g c = rw c.start_beside-first.ensures
+    (beside_bytes c.args.byte c.args.height (omega arith) c.requires.height)
 
 pub returns-then-is_empty : goal.returns-then-is_empty
 returns-then-is_empty g c =
@@ -23,9 +26,11 @@ returns-then-is_empty g c =
     let xs = c.args.slots.now in
     let high : first + 1 * 2 ^ k % 2 ^ 64 ≡ first + 2 ^ k = ap (λ x. first + x) (shifted k c.requires.height) in
     let above = rw (high, c.split_at.ensures.back) at c.count_below-2.ensures.above in
-    let none : length c.split_at-2.result.0.now ≡ 0 = eqb-true (length c.split_at-2.result.0.now) 0 (sym c.is_empty.ensures ∙ c.if-is_empty.true) in
+    let none : length c.split_at-2.result.0.now ≡ 0 = eqb-true (length c.split_at-2.result.0.now) 0
+    (sym c.is_empty.ensures ∙ c.if-is_empty.true) in
     let there = rw (c.split_at-2.ensures.front, c.split_at.ensures.back) at none in
-    let no : stands_among xs first k ≡ false = none_among first k c.count_below.result c.count_below-2.result xs c.count_below.ensures.below above there in
+    let no : stands_among xs first k ≡ false = none_among first k c.count_below.result c.count_below-2.result xs
+    c.count_below.ensures.below above there in
     sym (ap (λ t. then_some t (page_peer H c.args.depth xs c.args.byte k)) (rw c.start_beside-first.ensures at no))
 
 pub returns : goal.returns
@@ -40,8 +45,12 @@ returns g c =
     let from = c.count_below.ensures.above in
     let some = some_slots c.split_at-2.result.0.now (sym c.is_empty.ensures ∙ c.if-is_empty.false) in
     let there = rw (c.split_at-2.ensures.front, c.split_at.ensures.back) at some in
-    let yes : stands_among xs first k ≡ true = some_among first k c.count_below.result c.count_below-2.result xs from below there c.count_below.ensures.below in
-    let root : c.root_of_range.result ≡ page_peer H c.args.depth xs c.args.byte k = rw (c.root_of_range.ensures, c.split_at-2.ensures.front, c.split_at.ensures.back) (
-    root_over-part H (slot_height c.args.depth) first k c.count_below.result c.count_below-2.result xs c.count_below.ensures.below above
+    let yes : stands_among xs first k ≡ true = some_among first k c.count_below.result c.count_below-2.result xs from
+    below there c.count_below.ensures.below in
+    let root : c.root_of_range.result ≡ page_peer H c.args.depth xs c.args.byte k =
+    rw (c.root_of_range.ensures, c.split_at-2.ensures.front, c.split_at.ensures.back) (
+    root_over-part H (slot_height c.args.depth) first k c.count_below.result c.count_below-2.result xs
+    c.count_below.ensures.below above
     ∙ ap (λ f. root_over H (digest_at H (slot_height c.args.depth) xs) f k) c.start_beside-first.ensures) in
-    ap Some root ∙ sym (ap (λ t. then_some t (page_peer H c.args.depth xs c.args.byte k)) (rw c.start_beside-first.ensures at yes))
+    ap Some root ∙ sym (ap (λ t. then_some t (page_peer H c.args.depth xs c.args.byte k))
+    (rw c.start_beside-first.ensures at yes))

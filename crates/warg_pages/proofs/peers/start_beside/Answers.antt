@@ -9,8 +9,12 @@ pub returns : goal.returns
 returns c =
     let run = c.args.byte / 2 ^ c.args.height in
     let within = beside_bytes c.args.byte c.args.height (omega arith) c.requires in
-    let is : c.if-run-eq0.beside * 2 ^ c.args.height ≡ first_beside c.args.byte c.args.height = elim c.if-run-eq0.branch [
-      | then-run-eq0 w ↦ ap (λ x. x * 2 ^ c.args.height) (w.beside-is ∙ sym (cond-true _ _ _ (eq-eqb (run % 2) 0 w.if-run-eq0.true)))
-      | else-run-eq0 w ↦ ap (λ x. x * 2 ^ c.args.height) (w.beside-is ∙ sym (cond-false _ _ _ (false_from_ne_true _ (λ e. w.if-run-eq0.false (eqb-true (run % 2) 0 e)))))
+    let is : c.if-run-eq0.beside * 2 ^ c.args.height ≡ first_beside c.args.byte c.args.height =
+    elim c.if-run-eq0.branch [
+      | then-run-eq0 w ↦ ap (λ x. x * 2 ^ c.args.height)
+          (w.beside-is ∙ sym (cond-true _ _ _ (eq-eqb (run % 2) 0 w.if-run-eq0.true)))
+      | else-run-eq0 w ↦ ap (λ x. x * 2 ^ c.args.height)
+          (w.beside-is ∙ sym (cond-false _ _ _
+          (false_from_ne_true _ (λ e. w.if-run-eq0.false (eqb-true (run % 2) 0 e)))))
     ] in
     rw is (omega arith)

@@ -10,6 +10,7 @@ pub returns : goal.returns
 returns c = λ law. elim (law marked lone_key lone_bits 32 with_ones marked_hashes lone_length ones_page lone_root) [
   | inl same ↦ ones_differ 32 (subst (λ (page : List SlotAt). HaveSameDigests marked 32 with_ones page) lone_page same)
   | inr c ↦
-      let at = subst (λ (page : List SlotAt). SomeCollision marked (AreInputsAt marked 32 with_ones page)) lone_page c in
+      let at = subst (λ (page : List SlotAt). SomeCollision marked (AreInputsAt marked 32 with_ones page)) lone_page
+      c in
       ones_apart 32 at.first at.second at.placed at.collide
 ]

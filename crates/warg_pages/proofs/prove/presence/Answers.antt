@@ -12,4 +12,5 @@ loop-at-preserved g c =
       | in-Some w ↦ w.peer-is ∙ w.copied-peer.ensures ∙ sym (ap (λ o. unwrap_or o empty) w.in-Some.is)
       | in-None w ↦ w.peer-is ∙ w.empty_tree-peer.ensures ∙ sym (ap (λ o. unwrap_or o empty) w.in-None.is)
     ] in
-    rw (c.in_ok-push-2.ensures.items, c.loop-at.invariant, peer) (presence_more H c.args.peers.now c.loop-at.at c.index-peers-at.result c.loop-at-test.true c.index-peers-at.is)
+    rw (c.in_ok-push-2.ensures.items, c.loop-at.invariant, peer)
+    (presence_more H c.args.peers.now c.loop-at.at c.index-peers-at.result c.loop-at-test.true c.index-peers-at.is)

@@ -4,4 +4,5 @@ use Rattle.warg_pages.proofs.FinalPeers.{lone_peer}
 use Rattle.warg_pages.proofs.prove.presence.Given as goal
 
 abbrev pub invariant-loop-at : goal.invariant-loop-at
-invariant-loop-at g l = l.filled.items ≡ lone_peer g.D.SupportedDigest.digest l.peers ++ filled_from g.D.SupportedDigest.digest 0 (take l.at l.peers)
+invariant-loop-at g l = l.filled.items ≡ lone_peer g.D.SupportedDigest.digest l.peers
+    ++ filled_from g.D.SupportedDigest.digest 0 (take l.at l.peers)

@@ -8,22 +8,28 @@ pub returns-then-version-ne0-clause-ok : goal.returns-then-version-ne0-clause-ok
 returns-then-version-ne0-clause-ok g c =
     let H = g.D.SupportedDigest.digest in
     let some : ¬ (c.args.version ≡ 0) = λ z. c.if-version-ne0.true z in
-    if_ok c.descend.result _ _ c.descend.ensures.ok (λ held way. whole_way H _ c.args.root.now c.args.key.now c.args.version c.descend.new.peers.items way.0 held (omega arith) some (way.1 ∙ ap (λ os. os ++ way.0) c.requires) way.2)
+    if_ok c.descend.result _ _ c.descend.ensures.ok
+    (λ held way. whole_way H _ c.args.root.now c.args.key.now c.args.version c.descend.new.peers.items way.0 held
+    (omega arith) some (way.1 ∙ ap (λ os. os ++ way.0) c.requires) way.2)
 
 pub returns-then-version-ne0-clause-err : goal.returns-then-version-ne0-clause-err
 returns-then-version-ne0-clause-err g c =
     let H = g.D.SupportedDigest.digest in
     let some : ¬ (c.args.version ≡ 0) = λ z. c.if-version-ne0.true z in
-    if_err c.descend.result _ _ c.descend.ensures.err (λ e. of_source e (λ fault es own. fault es (own_at_root H _ c.args.root.now c.args.key.now c.args.version es (omega arith) some own)))
+    if_err c.descend.result _ _ c.descend.ensures.err
+    (λ e. of_source e (λ fault es own. fault es (own_at_root H _ c.args.root.now c.args.key.now c.args.version es
+    (omega arith) some own)))
 
 pub returns-then-ne-clause-err : goal.returns-then-ne-clause-err
 returns-then-ne-clause-err g c = λ es own.
     let H = g.D.SupportedDigest.digest in
     let none : c.args.version ≡ 0 = let z = c.if-version-ne0.false in omega arith in
-    no_empty_way H _ c.args.root.now c.args.version es none (λ e. other_hashes _ _ _ c.ne.ensures c.if-ne.true (e ∙ sym c.empty_tree.ensures)) own
+    no_empty_way H _ c.args.root.now c.args.version es none
+    (λ e. other_hashes _ _ _ c.ne.ensures c.if-ne.true (e ∙ sym c.empty_tree.ensures)) own
 
 pub returns-clause-ok : goal.returns-clause-ok
 returns-clause-ok g c =
     let H = g.D.SupportedDigest.digest in
     let none : c.args.version ≡ 0 = let z = c.if-version-ne0.false in omega arith in
-    empty_way H _ c.args.root.now c.args.key.now c.args.version c.args.peers.now.items none c.requires (same_hashes _ _ _ c.ne.ensures c.if-ne.false ∙ c.empty_tree.ensures)
+    empty_way H _ c.args.root.now c.args.key.now c.args.version c.args.peers.now.items none c.requires
+    (same_hashes _ _ _ c.ne.ensures c.if-ne.false ∙ c.empty_tree.ensures)

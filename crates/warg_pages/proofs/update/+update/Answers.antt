@@ -31,9 +31,11 @@ slot_after-returns-in_ok-digest-in-Below-clause-ok g t c =
       λ old more own.
           let update = step.5 old more own in
           let updated = done.2 old more update in
-          let P : List ℕ → Type 0 = λ p. IsOwnUpdate H bytes_at p below.version below.digest below.page below.changes.items old more in
+          let P : List ℕ → Type 0 = λ p. IsOwnUpdate H bytes_at p below.version below.digest below.page
+          below.changes.items old more in
           let Q : List ℕ → Type 0 = λ p. IsUpdated H old more p c.in_ok-digest-in-Below.digest done.0 in
-          slot_of_page H bytes_at prefix byte below.version below.digest c.in_ok-digest-in-Below.digest below.page below.changes.items done.0 old more (subst P step.0 update) (subst Q step.0 updated),
+          slot_of_page H bytes_at prefix byte below.version below.digest c.in_ok-digest-in-Below.digest below.page
+          below.changes.items done.0 old more (subst P step.0 update) (subst Q step.0 updated),
       λ root count more are stood.
           let next = next_changes H g.met.D.SupportedDigest.is_digest prefix changes byte count more c.requires.short
           lt are in
@@ -42,13 +44,19 @@ slot_after-returns-in_ok-digest-in-Below-clause-ok g t c =
     )
 
 pub slot_after-returns-in_ok-digest-in-Below-clause-kept : goal.slot_after-returns-in_ok-digest-in-Below-clause-kept
-slot_after-returns-in_ok-digest-in-Below-clause-kept g t c = λ none. (let step = rw c.in-Below.is at c.in_ok-slot.ensures.ok in absurd (step.4 none))
+slot_after-returns-in_ok-digest-in-Below-clause-kept g t c =
+    λ none. (let step = rw c.in-Below.is at c.in_ok-slot.ensures.ok in absurd (step.4 none))
 
 pub slot_after-returns-in-Whole-clause-ok : goal.slot_after-returns-in-Whole-clause-ok
 slot_after-returns-in-Whole-clause-ok g t c =
     let H = g.D.SupportedDigest.digest in
-    let step = rw c.in-Whole.is at c.in_ok-slot.ensures.ok in
-    ([], sym (append-nil c.args.changed.now.items), step.2, λ root count more are stood. All-nil (ChangesWhatStood H root more))
+    let step = rw c.in-Whole.is at c.in_ok-slot.ensures.ok in (
+      [],
+      sym (append-nil c.args.changed.now.items),
+      step.2,
+      λ root count more are stood. All-nil
+          (ChangesWhatStood H root more),
+    )
 
 pub update_page-loop-byte-init : goal.update_page-loop-byte-init
 unfolding numbers
@@ -56,7 +64,17 @@ update_page-loop-byte-init g t c =
     let H = g.D.SupportedDigest.digest in
     let none = c.new-page.ensures in record {
       below = rw none (λ k d lt. absurd (omega arith));
-      changed = ([], sym (append-nil c.args.changed.now.items), λ old more own. (none, none_among H old more (GoesBelow c.args.update.prefix.items 0) (λ prefix kind changes. let low = kind.2 in omega arith)), λ root count more are stood. All-nil (ChangesWhatStood H root more));
+      changed = (
+        [],
+        sym (append-nil c.args.changed.now.items),
+        λ old more own. (
+          none,
+          none_among H old more (GoesBelow c.args.update.prefix.items 0)
+              (λ prefix kind changes. let low = kind.2 in omega arith),
+        ),
+        λ root count more are stood. All-nil
+            (ChangesWhatStood H root more),
+      );
       split = (let lists = rw (c.as_slice-depth.ensures.value, c.as_slice.ensures.value) at
           c.in_ok-lists.ensures.ok in (lists.0, λ s low lt. lists.1 s lt));
       kept = λ s lt quiet. absurd (omega arith);
@@ -70,24 +88,29 @@ update_page-loop-byte-preserved g t c =
     let put = c.in_ok-put_behind.ensures.ok in
     let before = c.loop-byte.invariant.changed in
     let step = c.in_ok-slot.ensures.ok in record {
-      below = rw put (slots_below c.loop-byte.page c.in_ok-slot.slot byte c.loop-byte.invariant.below c.in_ok-slot.ensures.byte);
+      below = rw put (slots_below c.loop-byte.page c.in_ok-slot.slot byte c.loop-byte.invariant.below
+          c.in_ok-slot.ensures.byte);
       changed = (
         before.0 ++ step.0,
         step.1 ∙ ap (λ l. l ++ step.0) before.1 ∙ append_assoc c.args.changed.now.items before.0 step.0,
         λ old more own.
             let front = before.2 old more own in
             let here = step.2 old more own.own in (
-              put ∙ (λ i. front.0 i ++ cons_option (here.is_slot i) []) ∙ sym (slots-more (slot_of H (old ++ more) (bits_of_bytes prefix)) byte),
+              put ∙ (λ i. front.0 i ++ cons_option (here.is_slot i) [])
+                  ∙ sym (slots-more (slot_of H (old ++ more) (bits_of_bytes prefix)) byte),
               next_among H old more prefix byte before.0 step.0 front.1 here.changed,
             ),
-        λ root count more are stood. All-append (ChangesWhatStood H root more) before.0 step.0 (before.3 root count more are stood) (step.3 root count more are stood),
+        λ root count more are stood. All-append (ChangesWhatStood H root more) before.0 step.0
+            (before.3 root count more are stood) (step.3 root count more are stood),
       );
       split = (
         c.loop-byte.invariant.split.0,
         λ s low lt d. let other : s ≢ byte = omega arith in rw get_or-set_other
             (c.loop-byte.invariant.split.1 s (omega arith) lt d),
       );
-      kept = rw put (kept_more c.args.update.page c.loop-byte.page c.in_ok-slot.slot byte (length prefix) c.args.update.changes.items c.loop-byte.invariant.below c.in_ok-slot.ensures.byte c.loop-byte.invariant.kept c.in_ok-slot.ensures.kept);
+      kept = rw put (kept_more c.args.update.page c.loop-byte.page c.in_ok-slot.slot byte
+          (length prefix) c.args.update.changes.items c.loop-byte.invariant.below c.in_ok-slot.ensures.byte
+          c.loop-byte.invariant.kept c.in_ok-slot.ensures.kept);
     }
 
 -- a slot goes behind those of lower bytes
@@ -113,33 +136,49 @@ update_page-returns-clause-ok g t c =
     let prefix = c.args.update.prefix.items in
     let before = c.loop-byte.invariant.changed in
     let end : c.loop-byte.byte ≡ 256 = omega arith in
-    let digest : c.page_roots-before.result.1 ≡ page_digest H (length prefix) c.loop-byte.page = rw (c.slots-2.ensures.value, c.as_slice-depth.ensures.value) at c.page_roots-before.ensures.after in
+    let digest : c.page_roots-before.result.1 ≡ page_digest H (length prefix) c.loop-byte.page =
+    rw (c.slots-2.ensures.value, c.as_slice-depth.ensures.value) at c.page_roots-before.ensures.after in
     let name = c.into_prefix.ensures in
     let added = c.in_ok-add_page.ensures.ok in
-    let one : List ChangedPageAt = record { prefix = prefix; version = c.args.update.version; page = c.loop-byte.page } ∷ [] in (
+    let one : List ChangedPageAt = record { prefix = prefix; version = c.args.update.version; page = c.loop-byte.page }
+    ∷ [] in (
       before.0 ++ one,
-      added ∙ (λ i. before.1 i ++ record { prefix = (name i).items; version = c.args.update.version; page = c.loop-byte.page } ∷ []) ∙ append_assoc c.args.changed.now.items before.0 one,
+      added ∙ (λ i. before.1 i ++ record {
+        prefix = (name i).items;
+        version = c.args.update.version;
+        page = c.loop-byte.page;
+      } ∷ []) ∙ append_assoc c.args.changed.now.items before.0 one,
       λ old more own.
           let done = rw end at (before.2 old more own) in
           let P : List ℕ → Type 0 = λ d. IsUpdated H old more prefix d (before.0 ++ one) in
-          subst P (sym digest) (page_updated H bytes_at prefix c.args.update.version c.args.update.digest c.args.update.page c.args.update.changes.items c.loop-byte.page before.0 old more c.requires own done.0 done.1),
+          subst P (sym digest) (page_updated H bytes_at prefix c.args.update.version c.args.update.digest
+          c.args.update.page c.args.update.changes.items c.loop-byte.page before.0 old more c.requires own done.0
+          done.1),
       λ root count more named are.
-          let before_is : c.page_roots-before.result.0 ≡ page_digest H (length prefix) c.args.update.page = rw (c.slots.ensures.value, c.as_slice-depth.ensures.value) at c.page_roots-before.ensures.before in
+          let before_is : c.page_roots-before.result.0 ≡ page_digest H (length prefix) c.args.update.page =
+          rw (c.slots.ensures.value, c.as_slice-depth.ensures.value) at c.page_roots-before.ensures.before in
           let stood = named c.args.update.page (sym before_is ∙ same_hashes _ _ _ c.ne.ensures c.if-ne.false) in
           All-append (ChangesWhatStood H root more) before.0 one (before.3 root count more are stood)
-          (All-cons (ChangesWhatStood H root more) _ [] (page_stood H g.met.D.SupportedDigest.is_digest root prefix c.args.update.version count more c.args.update.page c.loop-byte.page c.args.update.changes.items c.requires are stood (rw end at c.loop-byte.invariant.kept)) (All-nil (ChangesWhatStood H root more))),
+          (All-cons (ChangesWhatStood H root more) _ []
+          (page_stood H g.met.D.SupportedDigest.is_digest root prefix c.args.update.version count more
+          c.args.update.page c.loop-byte.page c.args.update.changes.items c.requires are stood
+          (rw end at c.loop-byte.invariant.kept)) (All-nil (ChangesWhatStood H root more))),
     )
 
 pub update_page-returns-then-ne-clause-err : goal.update_page-returns-then-ne-clause-err
 update_page-returns-then-ne-clause-err g t c = λ old more own.
     let H = g.D.SupportedDigest.digest in
     let prefix = c.args.update.prefix.items in
-    let before : c.page_roots-before.result.0 ≡ page_digest H (length prefix) c.args.update.page = rw (c.slots.ensures.value, c.as_slice-depth.ensures.value) at c.page_roots-before.ensures.before in
-    other_hashes _ _ _ c.ne.ensures c.if-ne.true (before ∙ digest_before H _ prefix c.args.update.version c.args.update.digest c.args.update.page c.args.update.changes.items old more c.requires own)
+    let before : c.page_roots-before.result.0 ≡ page_digest H (length prefix) c.args.update.page =
+    rw (c.slots.ensures.value, c.as_slice-depth.ensures.value) at c.page_roots-before.ensures.before in
+    other_hashes _ _ _ c.ne.ensures c.if-ne.true
+    (before ∙ digest_before H _ prefix c.args.update.version c.args.update.digest c.args.update.page
+    c.args.update.changes.items old more c.requires own)
 
 pub update_page-returns-clause-digest : goal.update_page-returns-clause-digest
 update_page-returns-clause-digest g t c =
     let H = g.D.SupportedDigest.digest in
     let prefix = c.args.update.prefix.items in
-    let before : c.page_roots-before.result.0 ≡ page_digest H (length prefix) c.args.update.page = rw (c.slots.ensures.value, c.as_slice-depth.ensures.value) at c.page_roots-before.ensures.before in
+    let before : c.page_roots-before.result.0 ≡ page_digest H (length prefix) c.args.update.page =
+    rw (c.slots.ensures.value, c.as_slice-depth.ensures.value) at c.page_roots-before.ensures.before in
     sym before ∙ same_hashes _ _ _ c.ne.ensures c.if-ne.false

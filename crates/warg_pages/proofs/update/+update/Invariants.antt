@@ -17,11 +17,16 @@ abbrev pub invariant-update_page-loop-byte : goal.invariant-update_page-loop-byt
 invariant-update_page-loop-byte g l = record {
   below : All (λ x. x.byte < l.byte) l.page;
   changed : (added : List ChangedPageAt) × (l.changed.items ≡ l.fn.changed.items ++ added)
-      × ((old more : List (List ℕ × List ℕ)) → IsOwnUpdate g.D.SupportedDigest.digest (g.P.Pages.bytes_at l.pages) l.update.prefix.items l.update.version l.update.digest l.update.page l.update.changes.items old more
-      → (l.page ≡ filter_map (slot_of g.D.SupportedDigest.digest (old ++ more) (bits_of_bytes l.update.prefix.items)) (numbers 0 l.byte)) × AreChangedAmong g.D.SupportedDigest.digest old more (GoesBelow l.update.prefix.items l.byte) added)
+      × ((old more : List (List ℕ × List ℕ)) → IsOwnUpdate g.D.SupportedDigest.digest
+      (g.P.Pages.bytes_at l.pages) l.update.prefix.items l.update.version l.update.digest l.update.page
+      l.update.changes.items old more
+      → (l.page ≡ filter_map (slot_of g.D.SupportedDigest.digest (old ++ more) (bits_of_bytes l.update.prefix.items))
+      (numbers 0 l.byte)) × AreChangedAmong g.D.SupportedDigest.digest old more
+      (GoesBelow l.update.prefix.items l.byte) added)
       × ChangeWhatStood g.D.SupportedDigest.digest l.update.prefix.items l.update.page l.update.changes.items added;
   split : (vec_len l.lists ≡ 256) × ((s : ℕ) → l.byte ≤ s → s < 256
       → HoldsAt (λ list. list.items ≡ filter (goes_to (length l.update.prefix.items) s) l.update.changes.items)
       l.lists.items s);
-  kept : (s : ℕ) → s < l.byte → filter (goes_to (length l.update.prefix.items) s) l.update.changes.items ≡ [] → slot_at l.page s ≡ slot_at l.update.page s;
+  kept : (s : ℕ) → s < l.byte → filter (goes_to (length l.update.prefix.items) s) l.update.changes.items ≡ []
+      → slot_at l.page s ≡ slot_at l.update.page s;
 }

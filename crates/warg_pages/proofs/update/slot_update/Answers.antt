@@ -113,7 +113,8 @@ returns-clause-ok g c =
     let is = last_there g (goal.at.returns-clause-ok g c).After-last ∙ ap option_copied c.in-Some.is in
     let alone = iff_false (stays_alone g (goal.at.returns-clause-ok g c).After-stays_alone) c.if-stays_alone.false in
     let ok = rw (c.as_slice-prefix.ensures.value, c.slot-slot.ensures) at c.in_ok-below.ensures.ok in
-    let few : length (prefix ++ byte ∷ []) < 32 = let n = length-append prefix (byte ∷ []) in let low = ok.0 in omega arith in
+    let few : length (prefix ++ byte ∷ []) < 32 = let n = length-append prefix (byte ∷ []) in let low = ok.0 in
+    omega arith in
     rw (ok.1, ok.2, ok.3, ok.4, c.requires.there, number) (
       refl,
       few,

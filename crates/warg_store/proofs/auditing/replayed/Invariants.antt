@@ -8,5 +8,6 @@ abbrev pub invariant-bundles : goal.invariant-bundles
 invariant-bundles g l = record {
   has : HasEntries l.log;
   faults : g.F.Folder.faults l.fn.folder ≤ g.F.Folder.faults l.folder;
-  staging : l.use_as ≡ Stage → g.F.Folder.IsFaithful → IsStaging (g.F.Folder.seen l.folder) (g.F.Folder.may_leave l.folder);
+  staging : l.use_as ≡ Stage → g.F.Folder.IsFaithful
+      → IsStaging (g.F.Folder.seen l.folder) (g.F.Folder.may_leave l.folder);
 }

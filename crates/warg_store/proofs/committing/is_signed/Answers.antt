@@ -10,8 +10,11 @@ pub returns-in-Some-clause-signed : goal.returns-in-Some-clause-signed
 returns-in-Some-clause-signed g c = λ faithful.
     c.has_signatures.ensures
     ∙ signed_read (g.F.Folder.seen c.args.folder.now checkpoint) c.as_slice.result.now MOST_TEXT refl
-    (ap (λ (l : List ℕ). Some l) c.as_slice.ensures.value ∙ sym (ap (option_map (λ (v : Vec ℕ Global). v.items)) c.in-Some.is) ∙ c.in_ok-bytes.ensures.found faithful)
+    (ap (λ (l : List ℕ). Some l) c.as_slice.ensures.value
+    ∙ sym (ap (option_map (λ (v : Vec ℕ Global). v.items)) c.in-Some.is) ∙ c.in_ok-bytes.ensures.found faithful)
 
 pub returns-in-None-clause-signed : goal.returns-in-None-clause-signed
 returns-in-None-clause-signed g c = λ faithful.
-    unsigned_is (g.F.Folder.seen c.args.folder.now checkpoint) (read_none _ MOST_TEXT (sym (ap (option_map (λ (v : Vec ℕ Global). v.items)) c.in-None.is) ∙ c.in_ok-bytes.ensures.found faithful))
+    unsigned_is (g.F.Folder.seen c.args.folder.now checkpoint)
+    (read_none _ MOST_TEXT (sym (ap (option_map (λ (v : Vec ℕ Global). v.items)) c.in-None.is)
+    ∙ c.in_ok-bytes.ensures.found faithful))

@@ -8,8 +8,12 @@ use Rattle.warg_store.proofs.committing.move_all.Given as goal
 
 abbrev pub invariant-names : goal.invariant-names
 invariant-names g l = record {
-  moved : g.F.Folder.IsFaithful → (n : List ℕ) → is_served n ≡ true → Contains (map (λ name. string_bytes name) (take l.name-index l.names)) (staged n) → g.F.Folder.seen l.folder (staged n) ≡ None;
-  crash : g.F.Folder.IsFaithful → (c : Files) → g.F.Folder.may_leave l.folder c → IsMoving (g.F.Folder.seen l.fn.folder) c;
+  moved : g.F.Folder.IsFaithful → (n : List ℕ) → is_served n ≡ true
+      → Contains (map (λ name. string_bytes name) (take l.name-index l.names)) (staged n)
+      → g.F.Folder.seen l.folder (staged n) ≡ None;
+  crash : g.F.Folder.IsFaithful → (c : Files) → g.F.Folder.may_leave l.folder c
+      → IsMoving (g.F.Folder.seen l.fn.folder) c;
   faults : g.F.Folder.faults l.fn.folder ≤ g.F.Folder.faults l.folder;
-  time : g.F.Folder.IsFaithful → LeavesOnly g.F.Folder.moment g.F.Folder.left_since l.fn.folder l.folder (IsMoving (g.F.Folder.seen l.fn.folder));
+  time : g.F.Folder.IsFaithful → LeavesOnly g.F.Folder.moment g.F.Folder.left_since l.fn.folder l.folder
+      (IsMoving (g.F.Folder.seen l.fn.folder));
 }

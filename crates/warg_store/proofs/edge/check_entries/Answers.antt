@@ -22,13 +22,32 @@ returns-then-not-is_leaf-clause-whole c = λ log short is same digests.
     let none : Bor (List ℕ) = record { ref_ptr = (0, 0); now = [] } in
     let entry : List ℕ = (get_or slice place none).now in
     let part : List (List ℕ) = take t.width (drop (256 * t.number) log.entries) in
-    let here : es ≡ part = bundle_same es part (ap (λ (l : List (Bor (List ℕ))). bundle_of (map (λ e. e.now) l)) c.as_slice-entry-items.ensures.value ∙ sym c.in_ok-entries.ensures.entries ∙ same) in
+    let here : es ≡ part = bundle_same es part
+    (ap (λ (l : List (Bor (List ℕ))). bundle_of (map (λ e. e.now) l)) c.as_slice-entry-items.ensures.value
+    ∙ sym c.in_ok-entries.ensures.entries ∙ same) in
     let inside : place < length slice = omega (arith, c.entries-test.true, c.as_slice-entry-items.ensures.len) in
-    let wide : place < t.width = omega (arith, inside, ap (λ (l : List (Bor (List ℕ))). length l) c.as_slice-entry-items.ensures.value, c.in_ok-entries.ensures.count) in
-    let all : c.as_slice.result.now ≡ tile_digests sha256 (leaves_of sha256 log.entries) t = c.as_slice.ensures.value ∙ digests in
-    let own : entry ≡ get_or part place [] = sym (get_or-map (λ (e : Bor (List ℕ)). e.now) slice place none [] inside) ∙ ap (λ (l : List (List ℕ)). get_or l place []) here in
-    let leaf : get_or c.as_slice.result.now place [] ≡ leaf_digest sha256 entry = ap (λ (l : List (List ℕ)). get_or l place []) all ∙ tile_leaf log t place is wide ∙ ap (leaf_digest sha256) (sym own) in
-    let held : place < length c.as_slice.result.now = omega (arith, wide, ap (λ (l : List (List ℕ)). length l) all, length-map-range_with_len (λ i. root_of sha256 (leaves_below (node_in t i) (leaves_of sha256 log.entries))) 0 t.width) in
+    let wide : place < t.width = omega (
+      arith,
+      inside,
+      ap (λ (l : List (Bor (List ℕ))). length l) c.as_slice-entry-items.ensures.value,
+      c.in_ok-entries.ensures.count,
+    ) in
+    let all : c.as_slice.result.now ≡ tile_digests sha256 (leaves_of sha256 log.entries) t = c.as_slice.ensures.value
+    ∙ digests in
+    let own : entry ≡ get_or part place [] = sym (get_or-map (λ (e : Bor (List ℕ)). e.now) slice place none [] inside)
+    ∙ ap (λ (l : List (List ℕ)). get_or l place []) here in
+    let leaf : get_or c.as_slice.result.now place [] ≡ leaf_digest sha256 entry =
+    ap (λ (l : List (List ℕ)). get_or l place []) all ∙ tile_leaf log t place is wide
+    ∙ ap (leaf_digest sha256) (sym own) in
+    let held : place < length c.as_slice.result.now = omega (
+      arith,
+      wide,
+      ap (λ (l : List (List ℕ)). length l) all,
+      length-map-range_with_len (λ i. root_of sha256 (leaves_below (node_in t i) (leaves_of sha256 log.entries))) 0
+          t.width,
+    ) in
     let lookup = c.get.ensures.lookup in
-    let found : option_copied c.get.result ≡ Some (leaf_digest sha256 entry) = got c.get.result (leaf_digest sha256 entry) (lookup.2 held) (lookup.4 (omega arith) (leaf_digest sha256 entry) ∙ get_or_default c.as_slice.result.now place (leaf_digest sha256 entry) [] held ∙ leaf) in
+    let found : option_copied c.get.result ≡ Some (leaf_digest sha256 entry) =
+    got c.get.result (leaf_digest sha256 entry) (lookup.2 held) (lookup.4 (omega arith) (leaf_digest sha256 entry)
+    ∙ get_or_default c.as_slice.result.now place (leaf_digest sha256 entry) [] held ∙ leaf) in
     absurd (let is : c.is_leaf.result ≡ true = c.is_leaf.ensures found in cc (is, c.if-not-is_leaf.true))

@@ -7,4 +7,11 @@ pub returns-then-len-width-clause-whole : goal.returns-then-len-width-clause-who
 returns-then-len-width-clause-whole c = λ log short is same.
     let es : List (List ℕ) = map (λ (e : Bor (List ℕ)). e.now) c.in-Ok.entries.items in
     let count = bundle_count log c.args.tile.now es is (sym c.in-Ok.ensures.ok ∙ same) in
-    absurd (omega (arith, count, length-map c.in-Ok.entries.items (λ (e : Bor (List ℕ)). e.now), c.if-len-width.true, c.len.ensures, c.width.ensures.value))
+    absurd (omega (
+      arith,
+      count,
+      length-map c.in-Ok.entries.items (λ (e : Bor (List ℕ)). e.now),
+      c.if-len-width.true,
+      c.len.ensures,
+      c.width.ensures.value,
+    ))

@@ -37,7 +37,8 @@ levels-preserved g c =
       | then-count-ne0+in_ok-read_tile+in_ok-push w ↦ record {
         faults = subst (λ (f : g.row.F.Denot). g.F.Folder.faults c.args.folder.now ≤ g.F.Folder.faults f)
             (sym w.folder-is) (omega (arith, c.levels.invariant.faults, w.in_ok-read_tile.ensures.cause.later));
-        ready = λ faithful was. subst (λ (f : g.row.F.Denot). IsStaging (seen f) (g.F.Folder.may_leave f)) (sym w.folder-is) (w.in_ok-read_tile.ensures.ready faithful (c.levels.invariant.ready faithful was));
+        ready = λ faithful was. subst (λ (f : g.row.F.Denot). IsStaging (seen f) (g.F.Folder.may_leave f))
+            (sym w.folder-is) (w.in_ok-read_tile.ensures.ready faithful (c.levels.invariant.ready faithful was));
         run = λ faithful. subst (λ (f : g.row.F.Denot). LeavesOnly g.F.Folder.moment g.F.Folder.left_since
             c.args.folder.now f (g.F.Folder.may_leave c.args.folder.now)) (sym w.folder-is)
             (then_reads _ _ _ g.met.F.Folder.counts_now _ _ _ _ (c.levels.invariant.run faithful)
@@ -45,33 +46,49 @@ levels-preserved g c =
         seen = λ faithful. ap seen w.folder-is ∙ w.read_tile.ensures.seen faithful ∙ c.levels.invariant.seen faithful;
         edge = λ faithful log size has.
             let read = w.in_ok-read_tile.field-0 in
-            let some : 0 < length log.entries / 2 ^ (8 * level) % 256 = subst (λ n. 0 < n / 2 ^ (8 * level) % 256) size (omega (arith, w.if-count-ne0.true)) in
-            let there = level_there log (seen c.levels.folder) c.args.log_length level w.new-tile.result c.levels-test.true size w.new-tile.ensures.level w.new-tile.ensures.number w.new-tile.ensures.width (omega (arith, w.if-count-ne0.true)) (subst (HasFiles log) (sym (c.levels.invariant.seen faithful)) has) in
+            let some : 0 < length log.entries / 2 ^ (8 * level) % 256 = subst (λ n. 0 < n / 2 ^ (8 * level) % 256) size
+            (omega (arith, w.if-count-ne0.true)) in
+            let there = level_there log (seen c.levels.folder) c.args.log_length level w.new-tile.result
+            c.levels-test.true size w.new-tile.ensures.level w.new-tile.ensures.number w.new-tile.ensures.width
+            (omega (arith, w.if-count-ne0.true))
+            (subst (HasFiles log) (sym (c.levels.invariant.seen faithful)) has) in
             let tile = there.0 in
-            let digests : read.digests.items ≡ tile_digests sha256 (leaves_of sha256 log.entries) (last_tile (length log.entries) level) =
+            let digests : read.digests.items ≡ tile_digests sha256 (leaves_of sha256 log.entries)
+            (last_tile (length log.entries) level) =
             w.in_ok-read_tile.ensures.read faithful log there.1
             ∙ ap (tile_digests sha256 (leaves_of sha256 log.entries)) tile in
             subst (λ l. ArePartsTo log (level + 1) l)
-            (sym (ap (λ (v : Vec (StoredTile Sha256 Global) Global). map with_digests v.items) w.edge-is ∙ ap (map with_digests) w.in_ok-push.ensures.items ∙ map-append with_digests c.levels.edge.items (read ∷ [])
-            ∙ ap (λ (t : TileAt). map with_digests c.levels.edge.items ++ (t, read.digests.items) ∷ []) (w.in_ok-read_tile.ensures.tile ∙ tile)))
-            (part_some log level (map with_digests c.levels.edge.items) read.digests.items some digests (c.levels.invariant.edge faithful log size has));
+            (sym (ap (λ (v : Vec (StoredTile Sha256 Global) Global). map with_digests v.items) w.edge-is
+            ∙ ap (map with_digests) w.in_ok-push.ensures.items ∙ map-append with_digests c.levels.edge.items
+            (read ∷ [])
+            ∙ ap (λ (t : TileAt). map with_digests c.levels.edge.items ++ (t, read.digests.items) ∷ [])
+            (w.in_ok-read_tile.ensures.tile ∙ tile)))
+            (part_some log level (map with_digests c.levels.edge.items) read.digests.items some digests
+            (c.levels.invariant.edge faithful log size has));
       }
       | else-count-ne0 w ↦ record {
         faults = subst (λ (f : g.row.F.Denot). g.F.Folder.faults c.args.folder.now ≤ g.F.Folder.faults f)
             (sym w.folder-is) c.levels.invariant.faults;
-        ready = λ faithful was. subst (λ (f : g.row.F.Denot). IsStaging (seen f) (g.F.Folder.may_leave f)) (sym w.folder-is) (c.levels.invariant.ready faithful was);
+        ready = λ faithful was. subst (λ (f : g.row.F.Denot). IsStaging (seen f) (g.F.Folder.may_leave f))
+            (sym w.folder-is) (c.levels.invariant.ready faithful was);
         run = λ faithful. subst (λ (f : g.row.F.Denot). LeavesOnly g.F.Folder.moment g.F.Folder.left_since
             c.args.folder.now f (g.F.Folder.may_leave c.args.folder.now)) (sym w.folder-is)
             (c.levels.invariant.run faithful);
         seen = λ faithful. ap seen w.folder-is ∙ c.levels.invariant.seen faithful;
         edge = λ faithful log size has.
-            let none : length log.entries / 2 ^ (8 * level) % 256 ≡ 0 = subst (λ n. n / 2 ^ (8 * level) % 256 ≡ 0) size (omega (arith, w.if-count-ne0.false)) in
-            subst (λ (v : Vec (StoredTile Sha256 Global) Global). ArePartsTo log (level + 1) (map with_digests v.items)) (sym w.edge-is)
-            (part_none log level (map with_digests c.levels.edge.items) none (c.levels.invariant.edge faithful log size has));
+            let none : length log.entries / 2 ^ (8 * level) % 256 ≡ 0 = subst (λ n. n / 2 ^ (8 * level) % 256 ≡ 0) size
+            (omega (arith, w.if-count-ne0.false)) in
+            subst (λ (v : Vec (StoredTile Sha256 Global) Global). ArePartsTo log (level + 1) (map with_digests v.items))
+            (sym w.edge-is)
+            (part_none log level (map with_digests c.levels.edge.items) none
+            (c.levels.invariant.edge faithful log size has));
       }
     ]
 
 pub returns-in_err-read_tile-clause-whole : goal.returns-in_err-read_tile-clause-whole
 returns-in_err-read_tile-clause-whole g c = λ faithful log size has.
-    let there = level_there log (g.F.Folder.seen c.levels.folder) c.args.log_length c.levels.level c.new-tile.result c.levels-test.true size c.new-tile.ensures.level c.new-tile.ensures.number c.new-tile.ensures.width (omega (arith, c.if-count-ne0.true)) (subst (HasFiles log) (sym (c.levels.invariant.seen faithful)) has) in
-    err_same (IsNoFault ⊥) c.in_err-read_tile.field-0.0 c.from_residual.result c.from_residual.ensures.1 (c.in_err-read_tile.ensures.whole faithful log there.1)
+    let there = level_there log (g.F.Folder.seen c.levels.folder) c.args.log_length c.levels.level c.new-tile.result
+    c.levels-test.true size c.new-tile.ensures.level c.new-tile.ensures.number c.new-tile.ensures.width
+    (omega (arith, c.if-count-ne0.true)) (subst (HasFiles log) (sym (c.levels.invariant.seen faithful)) has) in
+    err_same (IsNoFault ⊥) c.in_err-read_tile.field-0.0 c.from_residual.result c.from_residual.ensures.1
+    (c.in_err-read_tile.ensures.whole faithful log there.1)

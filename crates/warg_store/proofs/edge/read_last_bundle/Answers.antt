@@ -24,34 +24,50 @@ returns-in_ok-check_entries-in-Some-clause-bundle g c = λ faithful log can has 
     let stored = c.in-Some.stored.now in
     let with_digests : StoredTile Sha256 Global → TileAt × List (List ℕ) = λ t. (t.tile, t.digests.items) in
     let front = front_is c.args.edge.now stored c.in-Some.ensures.value in
-    let part = part_of log (map with_digests c.args.edge.now) (with_digests stored) (map with_digests front.0) can are (ap (map with_digests) front.1) in
+    let part = part_of log (map with_digests c.args.edge.now) (with_digests stored) (map with_digests front.0) can are
+    (ap (map with_digests) front.1) in
     let level : stored.tile.level ≡ 0 = omega (arith, c.level.ensures.value, c.if-level-eq0.true) in
-    c.in_ok-bytes-in-Some.ensures.read faithful log can.short (omega (arith, part.1)) (has.bundle stored.tile (record { level = level; exists = part.0 }))
+    c.in_ok-bytes-in-Some.ensures.read faithful log can.short (omega (arith, part.1))
+    (has.bundle stored.tile (record { level = level; exists = part.0 }))
     ∙ last_bundle_is log stored.tile level part.0 part.1
 
 pub returns-in_default-clause-bundle : goal.returns-in_default-clause-bundle
 returns-in_default-clause-bundle g c = λ faithful log can has are.
     c.new.ensures.items
-    ∙ no_last_bundle log (bundles_full log (λ (t : StoredTile Sha256 Global). t.tile) (λ (t : StoredTile Sha256 Global). t.digests.items) c.args.edge.now are
+    ∙ no_last_bundle log (bundles_full log (λ (t : StoredTile Sha256 Global). t.tile)
+    (λ (t : StoredTile Sha256 Global). t.digests.items) c.args.edge.now are
     (λ y is level. elim c.in_default.branch [
       | in_default-via-in-Some+else-level-eq0 w ↦
           let value = w.in-Some.ensures.value in
           let same : w.in-Some.stored.now ≡ y = cc in
-          absurd (omega (arith, w.if-level-eq0.false, w.level.ensures.value, ap (λ (t : StoredTile Sha256 Global). t.tile.level) same, level))
+          absurd (omega (
+            arith,
+            w.if-level-eq0.false,
+            w.level.ensures.value,
+            ap (λ (t : StoredTile Sha256 Global). t.tile.level) same,
+            level,
+          ))
       | in_default-via-in_default w ↦ let none = w.in_default.ensures.value in cc
     ]))
 
--- The bundle below the first partial tile, where that is of level 0, is one of the log, and the tile has the log's digests.
-module _ (log : LogOf) (edge front : List (StoredTile Sha256 Global)) (stored : StoredTile Sha256 Global) (first : edge ≡ stored ∷ front) (can : CanBeKept log) (are : ArePartsOf log edge) where
+-- The bundle below the first partial tile, where that is of level 0, is one of the log, and the tile has the log's
+-- digests.
+module _ (log : LogOf) (edge front : List (StoredTile Sha256 Global)) (stored : StoredTile Sha256 Global)
+    (first : edge ≡ stored ∷ front) (can : CanBeKept log) (are : ArePartsOf log edge) where
   abbrev with_digests : StoredTile Sha256 Global → TileAt × List (List ℕ)
   with_digests t = (t.tile, t.digests.items)
 
   bundle_in : stored.tile.level ≡ 0 → IsBundleIn log stored.tile
-  bundle_in level = record { level = level; exists = (part_of log (map with_digests edge) (with_digests stored) (map with_digests front) can are (ap (map with_digests) first)).0 }
+  bundle_in level = record {
+    level = level;
+    exists = (part_of log (map with_digests edge) (with_digests stored) (map with_digests front) can are
+        (ap (map with_digests) first)).0;
+  }
 
   own_digests : stored.digests.items ≡ tile_digests sha256 (leaves_of sha256 log.entries) stored.tile
   own_digests = own_tile sha256 (leaves_of sha256 log.entries) stored.digests.items stored.tile
-      (subst (AllByRecursion (λ (x : TileAt × List (List ℕ)). IsTileBy (own_digest sha256 (leaves_of sha256 log.entries)) x.0 x.1)) (ap (map with_digests) first) are.digests).0
+      (subst (AllByRecursion (λ (x : TileAt × List (List ℕ)). IsTileBy
+      (own_digest sha256 (leaves_of sha256 log.entries)) x.0 x.1)) (ap (map with_digests) first) are.digests).0
 
 pub returns-in_err-bytes-in-Some-clause-whole : goal.returns-in_err-bytes-in-Some-clause-whole
 returns-in_err-bytes-in-Some-clause-whole g c = λ faithful log can has are.
@@ -59,7 +75,8 @@ returns-in_err-bytes-in-Some-clause-whole g c = λ faithful log can has are.
     let front = front_is c.args.edge.now stored c.in-Some.ensures.value in
     let level : stored.tile.level ≡ 0 = omega (arith, c.level.ensures.value, c.if-level-eq0.true) in
     err_same (IsNoFault ⊥) c.in_err-bytes-in-Some.field-0.0 c.from_residual.result c.from_residual.ensures.1
-    (c.in_err-bytes-in-Some.ensures.whole faithful log (has.bundle stored.tile (bundle_in log c.args.edge.now front.0 stored front.1 can are level)))
+    (c.in_err-bytes-in-Some.ensures.whole faithful log
+    (has.bundle stored.tile (bundle_in log c.args.edge.now front.0 stored front.1 can are level)))
 
 pub returns-in_err-check_entries-in-Some-clause-whole : goal.returns-in_err-check_entries-in-Some-clause-whole
 returns-in_err-check_entries-in-Some-clause-whole g c = λ faithful log can has are.
@@ -67,8 +84,10 @@ returns-in_err-check_entries-in-Some-clause-whole g c = λ faithful log can has 
     let front = front_is c.args.edge.now stored c.in-Some.ensures.value in
     let level : stored.tile.level ≡ 0 = omega (arith, c.level.ensures.value, c.if-level-eq0.true) in
     let is = bundle_in log c.args.edge.now front.0 stored front.1 can are level in
-    let bytes = c.in_ok-bytes-in-Some.ensures.read faithful log can.short (width_at_most (length log.entries) stored.tile is.exists) (has.bundle stored.tile is) in
-    err_same (IsNoFault ⊥) c.in_err-check_entries-in-Some.field-0.0 c.from_residual-in_err-check_entries-in-Some.result c.from_residual-in_err-check_entries-in-Some.ensures.1
+    let bytes = c.in_ok-bytes-in-Some.ensures.read faithful log can.short
+    (width_at_most (length log.entries) stored.tile is.exists) (has.bundle stored.tile is) in
+    err_same (IsNoFault ⊥) c.in_err-check_entries-in-Some.field-0.0 c.from_residual-in_err-check_entries-in-Some.result
+    c.from_residual-in_err-check_entries-in-Some.ensures.1
     (c.in_err-check_entries-in-Some.ensures.whole log can.short is (c.as_slice.ensures.value ∙ bytes)
     (own_digests log c.args.edge.now front.0 stored front.1 can are))
 

@@ -13,25 +13,40 @@ returns-in-Some-clause-own g c faithful log files count below own = own
 
 pub returns-in-Some-hash_for-clause-own : goal.returns-in-Some-hash_for-clause-own
 returns-in-Some-hash_for-clause-own g c faithful log files count below own =
-    let wide = leaf_in log c.args.index c.args.log_length c.new-tile.result c.tile_at.result count c.requires below c.new-tile.ensures.level c.new-tile.ensures.number c.new-tile.ensures.width c.tile_at.ensures.level c.tile_at.ensures.of in
+    let wide = leaf_in log c.args.index c.args.log_length c.new-tile.result c.tile_at.result count c.requires below
+    c.new-tile.ensures.level c.new-tile.ensures.number c.new-tile.ensures.width c.tile_at.ensures.level
+    c.tile_at.ensures.of in
     c.in_ok-fetch_one.ensures.own faithful log files wide own
 
 pub returns-in_err-fetch_one-clause-whole : goal.returns-in_err-fetch_one-clause-whole
 returns-in_err-fetch_one-clause-whole g c = λ faithful log files count below.
-    let wide = leaf_in log c.args.index c.args.log_length c.new-tile.result c.tile_at.result count c.requires below c.new-tile.ensures.level c.new-tile.ensures.number c.new-tile.ensures.width c.tile_at.ensures.level c.tile_at.ensures.of in
-    err_same (IsNoFault ⊥) c.in_err-fetch_one.field-0.0 c.from_residual.result c.from_residual.ensures.1 (c.in_err-fetch_one.ensures.whole faithful log files wide)
+    let wide = leaf_in log c.args.index c.args.log_length c.new-tile.result c.tile_at.result count c.requires below
+    c.new-tile.ensures.level c.new-tile.ensures.number c.new-tile.ensures.width c.tile_at.ensures.level
+    c.tile_at.ensures.of in
+    err_same (IsNoFault ⊥) c.in_err-fetch_one.field-0.0 c.from_residual.result c.from_residual.ensures.1
+    (c.in_err-fetch_one.ensures.whole faithful log files wide)
 
 pub returns-in-Some-clause-leaf : goal.returns-in-Some-clause-leaf
 returns-in-Some-clause-leaf g c = λ faithful log files count below own.
-    fetched_leaf log c.args.fetched.now c.args.index c.leaf-leaf.result.0 c.in-Some.digest (omega (arith, c.leaf-leaf.ensures)) own (omega (arith, count, below)) (sym c.hash_for.ensures ∙ c.in-Some.is)
+    fetched_leaf log c.args.fetched.now c.args.index c.leaf-leaf.result.0 c.in-Some.digest
+    (omega (arith, c.leaf-leaf.ensures)) own (omega (arith, count, below)) (sym c.hash_for.ensures ∙ c.in-Some.is)
 
 pub returns-in-Some-hash_for-clause-leaf : goal.returns-in-Some-hash_for-clause-leaf
 returns-in-Some-hash_for-clause-leaf g c = λ faithful log files count below own.
-    let wide = leaf_in log c.args.index c.args.log_length c.new-tile.result c.tile_at.result count c.requires below c.new-tile.ensures.level c.new-tile.ensures.number c.new-tile.ensures.width c.tile_at.ensures.level c.tile_at.ensures.of in
-    fetched_leaf log c.fetch_one.new.fetched c.args.index c.leaf-leaf.result.0 c.in-Some-hash_for.digest (omega (arith, c.leaf-leaf.ensures)) (c.in_ok-fetch_one.ensures.own faithful log files wide own) (omega (arith, count, below)) (sym c.hash_for-2.ensures ∙ c.in-Some-hash_for.is)
+    let wide = leaf_in log c.args.index c.args.log_length c.new-tile.result c.tile_at.result count c.requires below
+    c.new-tile.ensures.level c.new-tile.ensures.number c.new-tile.ensures.width c.tile_at.ensures.level
+    c.tile_at.ensures.of in
+    fetched_leaf log c.fetch_one.new.fetched c.args.index c.leaf-leaf.result.0 c.in-Some-hash_for.digest
+    (omega (arith, c.leaf-leaf.ensures)) (c.in_ok-fetch_one.ensures.own faithful log files wide own)
+    (omega (arith, count, below)) (sym c.hash_for-2.ensures ∙ c.in-Some-hash_for.is)
 
 pub returns-in-None-clause-whole : goal.returns-in-None-clause-whole
 returns-in-None-clause-whole g c = λ faithful log files count below.
-    let has : has_below c.tile_at.result c.leaf-leaf.result.0 ≡ true = ap (has_below c.tile_at.result) (let at : c.leaf-leaf.result.0 ≡ 2 * c.args.index = omega (arith, c.leaf-leaf.ensures) in at)
-    ∙ leaf_given c.tile_at.result c.args.index (c.tile_at.ensures.level ∙ c.new-tile.ensures.level) (c.tile_at.ensures.number ∙ c.new-tile.ensures.number) (omega (arith, c.tile_at.ensures.width, c.new-tile.ensures.width)) in
-    absurd (some_none (digest_by sha256 c.fetch_one.new.fetched c.leaf-leaf.result.0) (given_some c.args.fetched.now c.tile_at.result c.fetch_one.new.fetched c.leaf-leaf.result.0 c.in_ok-fetch_one.ensures.gives has) (sym c.hash_for-2.ensures ∙ c.in-None.is))
+    let has : has_below c.tile_at.result c.leaf-leaf.result.0 ≡ true = ap (has_below c.tile_at.result)
+    (let at : c.leaf-leaf.result.0 ≡ 2 * c.args.index = omega (arith, c.leaf-leaf.ensures) in at)
+    ∙ leaf_given c.tile_at.result c.args.index (c.tile_at.ensures.level ∙ c.new-tile.ensures.level)
+    (c.tile_at.ensures.number ∙ c.new-tile.ensures.number)
+    (omega (arith, c.tile_at.ensures.width, c.new-tile.ensures.width)) in
+    absurd (some_none (digest_by sha256 c.fetch_one.new.fetched c.leaf-leaf.result.0)
+    (given_some c.args.fetched.now c.tile_at.result c.fetch_one.new.fetched c.leaf-leaf.result.0
+    c.in_ok-fetch_one.ensures.gives has) (sym c.hash_for-2.ensures ∙ c.in-None.is))

@@ -9,7 +9,9 @@ pub returns-clause-any_moment : goal.returns-clause-any_moment
 returns-clause-any_moment g c = λ faithful served old next keeps extends are_staged says named.
     let first = g.F.Folder.seen c.args.folder.now in
     let idle = (c.requires.staging faithful first (g.met.F.Folder.seen_may_stay c.args.folder.now)).no_mark in
-    weaker _ _ _ _ _ _ (c.commit.ensures.any_moment faithful) (λ e was. between_committing served old next first keeps extends are_staged c.args.text.now says named idle e was)
+    weaker _ _ _ _ _ _ (c.commit.ensures.any_moment faithful)
+    (λ e was. between_committing served old next first keeps extends are_staged c.args.text.now says named idle e
+    was)
 
 pub returns-clause-next : goal.returns-clause-next
 returns-clause-next g c = λ faithful. on_ok_weaker c.commit.result

@@ -7,7 +7,8 @@ use Rattle.warg_store.proofs.log.stage_new.Goals as goal
 
 pub returns-then-exists_at_length-clause-staged : goal.returns-then-exists_at_length-clause-staged
 returns-then-exists_at_length-clause-staged g c = λ faithful.
-    old_tile c.args.older (c.args.stored.now.tile, c.args.stored.now.digests.items) (g.F.Folder.seen c.args.folder.now) (c.exists_at_length.ensures.0 c.if-exists_at_length.true)
+    old_tile c.args.older (c.args.stored.now.tile, c.args.stored.now.digests.items) (g.F.Folder.seen c.args.folder.now)
+    (c.exists_at_length.ensures.0 c.if-exists_at_length.true)
 
 pub returns-then-exists_at_length-clause-any_moment : goal.returns-then-exists_at_length-clause-any_moment
 returns-then-exists_at_length-clause-any_moment g c = λ faithful.
@@ -16,5 +17,7 @@ returns-then-exists_at_length-clause-any_moment g c = λ faithful.
 pub returns-clause-staged : goal.returns-clause-staged
 returns-clause-staged g c = λ faithful.
     on_ok_weaker c.stage_tile.result
-    (λ is. is ∙ new_tile c.args.older (c.args.stored.now.tile, c.args.stored.now.digests.items) (g.F.Folder.seen c.args.folder.now) (λ old. apart (sym (c.exists_at_length.ensures.1 old) ∙ c.if-exists_at_length.false)))
+    (λ is. is ∙ new_tile c.args.older (c.args.stored.now.tile, c.args.stored.now.digests.items)
+    (g.F.Folder.seen c.args.folder.now)
+    (λ old. apart (sym (c.exists_at_length.ensures.1 old) ∙ c.if-exists_at_length.false)))
     (c.stage_tile.ensures.staged faithful)

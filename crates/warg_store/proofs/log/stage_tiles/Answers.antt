@@ -12,11 +12,17 @@ pub tiles-preserved : goal.tiles-preserved
 tiles-preserved g c =
     let first = g.F.Folder.seen c.args.folder.now in
     record {
-      staged = λ faithful. one_more (StoredTile Sha256 Global) (λ t. (t.tile, t.digests.items)) c.args.older c.args.tiles.now c.tiles.stored-index c.stored-item.result (omega arith) c.stored-item.is
-          first (g.F.Folder.seen c.tiles.folder) (g.F.Folder.seen c.stage_new.new.folder) (c.tiles.invariant.staged faithful) (c.in_ok-stage_new.ensures.staged faithful);
+      staged = λ faithful. one_more (StoredTile Sha256 Global) (λ t. (t.tile, t.digests.items)) c.args.older
+          c.args.tiles.now c.tiles.stored-index c.stored-item.result (omega arith) c.stored-item.is
+          first (g.F.Folder.seen c.tiles.folder) (g.F.Folder.seen c.stage_new.new.folder)
+          (c.tiles.invariant.staged faithful) (c.in_ok-stage_new.ensures.staged faithful);
       staging = c.stage_new.ensures.staging;
       faults = omega (arith, c.tiles.invariant.faults, c.stage_new.ensures.cause.later);
-      time = λ faithful. then _ _ _ _ _ _ _ _ (c.tiles.invariant.time faithful) (c.stage_new.ensures.any_moment faithful) (λ e was. was)
+      time = λ faithful. then _ _ _ _ _ _ _ _ (c.tiles.invariant.time faithful)
+          (c.stage_new.ensures.any_moment faithful) (λ e was. was)
           (λ e was. beside_back first (g.F.Folder.seen c.tiles.folder) e
-          (λ n isnt. ap (λ (f : Files). f n) (c.tiles.invariant.staged faithful) ∙ staged_outside (new_files c.args.older (map (λ (t : StoredTile Sha256 Global). (t.tile, t.digests.items)) (take c.tiles.stored-index c.args.tiles.now))) first n isnt) was);
+          (λ n isnt. ap (λ (f : Files). f n) (c.tiles.invariant.staged faithful)
+          ∙ staged_outside (new_files c.args.older
+          (map (λ (t : StoredTile Sha256 Global). (t.tile, t.digests.items))
+          (take c.tiles.stored-index c.args.tiles.now))) first n isnt) was);
     }

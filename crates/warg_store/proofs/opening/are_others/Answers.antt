@@ -7,6 +7,9 @@ use Rattle.warg_store.proofs.opening.are_others.Goals as goal
 
 pub names-preserved : goal.names-preserved
 names-preserved c = record {
-  others = All-more (λ (x : String Global). (string_bytes x ≢ checkpoint) × (string_bytes x ≢ mark)) c.args.names.now c.names.name-index c.name-item.result (omega arith) c.names.invariant.others
-      (subst (λ (n : List ℕ). (n ≢ checkpoint) × (n ≢ mark)) (c.as_str.ensures.value ∙ ap (λ (x : String Global). string_bytes x) c.name-item.is) (c.is_of_log.ensures c.if-is_of_log.false));
+  others = All-more (λ (x : String Global). (string_bytes x ≢ checkpoint) × (string_bytes x ≢ mark)) c.args.names.now
+      c.names.name-index c.name-item.result (omega arith) c.names.invariant.others
+      (subst (λ (n : List ℕ). (n ≢ checkpoint) × (n ≢ mark))
+      (c.as_str.ensures.value ∙ ap (λ (x : String Global). string_bytes x) c.name-item.is)
+      (c.is_of_log.ensures c.if-is_of_log.false));
 }

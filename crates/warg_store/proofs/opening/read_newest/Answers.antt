@@ -12,30 +12,36 @@ pub returns-in-Some-state-2-clause-text : goal.returns-in-Some-state-2-clause-te
 returns-in-Some-state-2-clause-text g c faithful =
     IfOk-weaker c.newest_of.result _ _ (λ text newest log serves.
     let first = c.read_text.ensures.seen faithful in
-    let found = c.in_ok-served.ensures.text faithful (said_of log) serves.checkpoint.0 (kept_said log serves.can) (ap (λ (f : Files). f checkpoint) first ∙ serves.checkpoint.1) in
-    newest log (subst (Serves log) (sym (c.read_text-2.ensures.seen faithful ∙ first)) serves) (cc (found, c.in-Some.is))) (c.newest_of.ensures.text faithful)
+    let found = c.in_ok-served.ensures.text faithful (said_of log) serves.checkpoint.0 (kept_said log serves.can)
+    (ap (λ (f : Files). f checkpoint) first ∙ serves.checkpoint.1) in
+    newest log (subst (Serves log) (sym (c.read_text-2.ensures.seen faithful ∙ first)) serves)
+    (cc (found, c.in-Some.is))) (c.newest_of.ensures.text faithful)
 
 pub returns-in-None-state-clause-text : goal.returns-in-None-state-clause-text
 returns-in-None-state-clause-text g c faithful log serves =
-    let found = c.in_ok-served.ensures.text faithful (said_of log) serves.checkpoint.0 (kept_said log serves.can) (ap (λ (f : Files). f checkpoint) (c.read_text.ensures.seen faithful) ∙ serves.checkpoint.1) in
+    let found = c.in_ok-served.ensures.text faithful (said_of log) serves.checkpoint.0 (kept_said log serves.can)
+    (ap (λ (f : Files). f checkpoint) (c.read_text.ensures.seen faithful) ∙ serves.checkpoint.1) in
     cc (found, c.in-Some.is)
 
 pub returns-in_err-state-clause-whole : goal.returns-in_err-state-clause-whole
 returns-in_err-state-clause-whole g c = λ faithful served log has.
     err_same (IsNoFault ⊥) c.in_err-state.field-0.0 c.from_residual.result c.from_residual.ensures.1
-    (⊎_elim (λ keeps. c.in_err-state.ensures.whole faithful (said_of log) None (kept_said log keeps.can) keeps.state) (λ without. c.in_err-state.ensures.absent faithful without.1) has)
+    (⊎_elim (λ keeps. c.in_err-state.ensures.whole faithful (said_of log) None (kept_said log keeps.can) keeps.state)
+    (λ without. c.in_err-state.ensures.absent faithful without.1) has)
 
 pub returns-in_err-served-clause-whole : goal.returns-in_err-served-clause-whole
 returns-in_err-served-clause-whole g c = λ faithful served log has.
     let serves = has_serves served log (g.F.Folder.seen c.args.folder.now) has in
     err_same (IsNoFault ⊥) c.in_err-served.field-0.0 c.from_residual-in_err-served.result
     c.from_residual-in_err-served.ensures.1
-    (c.in_err-served.ensures.whole faithful (said_of served) serves.checkpoint.0 (kept_said served serves.can) (ap (λ (f : Files). f checkpoint) (c.read_text.ensures.seen faithful) ∙ serves.checkpoint.1))
+    (c.in_err-served.ensures.whole faithful (said_of served) serves.checkpoint.0 (kept_said served serves.can)
+    (ap (λ (f : Files). f checkpoint) (c.read_text.ensures.seen faithful) ∙ serves.checkpoint.1))
 
 pub returns-in_default-clause-whole : goal.returns-in_default-clause-whole
 returns-in_default-clause-whole g c = λ faithful served log has.
     let serves = has_serves served log (g.F.Folder.seen c.args.folder.now) has in
-    let found = c.in_ok-served.ensures.text faithful (said_of served) serves.checkpoint.0 (kept_said served serves.can) (ap (λ (f : Files). f checkpoint) (c.read_text.ensures.seen faithful) ∙ serves.checkpoint.1) in
+    let found = c.in_ok-served.ensures.text faithful (said_of served) serves.checkpoint.0 (kept_said served serves.can)
+    (ap (λ (f : Files). f checkpoint) (c.read_text.ensures.seen faithful) ∙ serves.checkpoint.1) in
     absurd (cc (found, c.in_default.is))
 
 pub returns-in-Some-state-2-clause-whole : goal.returns-in-Some-state-2-clause-whole

@@ -8,19 +8,25 @@ use Rattle.warg_store.proofs.opening.read_served.Goals as goal
 
 pub returns-in-Some-clause-text : goal.returns-in-Some-clause-text
 returns-in-Some-clause-text g c = λ faithful log serves.
-    let both : ◌≡◌ {A = Option Said} (Some c.in-Some.text) (Some (said_of log)) = sym c.in-Some.is ∙ c.in_ok-text.ensures.text faithful (said_of log) serves.checkpoint.0 (kept_said log serves.can) serves.checkpoint.1 in
+    let both : ◌≡◌ {A = Option Said} (Some c.in-Some.text) (Some (said_of log)) = sym c.in-Some.is
+    ∙ c.in_ok-text.ensures.text faithful (said_of log) serves.checkpoint.0
+    (kept_said log serves.can) serves.checkpoint.1 in
     cc (both)
 
 pub returns-in-Some-clause-said : goal.returns-in-Some-clause-said
 returns-in-Some-clause-said g c = λ faithful said behind can there.
-    let both : ◌≡◌ {A = Option Said} (Some c.in-Some.text) (Some said) = sym c.in-Some.is ∙ c.in_ok-text.ensures.text faithful said behind can there in
+    let both : ◌≡◌ {A = Option Said} (Some c.in-Some.text) (Some said) = sym c.in-Some.is
+    ∙ c.in_ok-text.ensures.text faithful said behind can there in
     cc (both)
 
 pub returns-in_err-text-clause-whole : goal.returns-in_err-text-clause-whole
 returns-in_err-text-clause-whole g c = λ faithful log serves.
-    err_same (IsNoFault ⊥) c.in_err-text.field-0.0 c.from_residual.result c.from_residual.ensures.1 (c.in_err-text.ensures.whole faithful (said_of log) serves.checkpoint.0 (kept_said log serves.can) serves.checkpoint.1)
+    err_same (IsNoFault ⊥) c.in_err-text.field-0.0 c.from_residual.result c.from_residual.ensures.1
+    (c.in_err-text.ensures.whole faithful (said_of log) serves.checkpoint.0
+    (kept_said log serves.can) serves.checkpoint.1)
 
 pub returns-in-None-clause-whole : goal.returns-in-None-clause-whole
 returns-in-None-clause-whole g c = λ faithful log serves.
-    let found = c.in_ok-text.ensures.text faithful (said_of log) serves.checkpoint.0 (kept_said log serves.can) serves.checkpoint.1 in
+    let found = c.in_ok-text.ensures.text faithful (said_of log) serves.checkpoint.0
+    (kept_said log serves.can) serves.checkpoint.1 in
     absurd (cc (found, c.in-None.is))

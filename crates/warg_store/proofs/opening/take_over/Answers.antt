@@ -14,46 +14,66 @@ use Rattle.warg_store.proofs.opening.take_over.Goals as goal
 pub returns-clause-text : goal.returns-clause-text
 returns-clause-text g c = λ faithful log serves.
     let seen = g.F.Folder.seen in
-    let both : ◌≡◌ (Some c.in-Some.served) (Some (said_of log)) = sym c.in-Some.is ∙ c.in_ok-served.ensures.text faithful (said_of log) serves.checkpoint.0 (kept_said log serves.can) serves.checkpoint.1 in
+    let both : ◌≡◌ (Some c.in-Some.served) (Some (said_of log)) = sym c.in-Some.is
+    ∙ c.in_ok-served.ensures.text faithful (said_of log) serves.checkpoint.0
+    (kept_said log serves.can) serves.checkpoint.1 in
     let said : c.in-Some.served ≡ said_of log = cc (both) in
     let same = c.read_edge.ensures.seen faithful ∙ c.read_text.ensures.seen faithful in
-    let bytes : c.as_slice-2.result.now ≡ checkpoint_of log = c.as_slice-2.ensures.value ∙ c.in_ok-bytes.ensures ∙ ap text_of said in (
+    let bytes : c.as_slice-2.result.now ≡ checkpoint_of log = c.as_slice-2.ensures.value ∙ c.in_ok-bytes.ensures
+    ∙ ap text_of said in (
       said,
       subst (Keeps log log)
-          (sym (c.in_ok-replace.ensures.replaced faithful ∙ ap (λ (b : List ℕ). put (state, b) (seen c.read_edge.new.folder)) bytes ∙ ap (λ (f : Files). put (state, checkpoint_of log) f) same))
+          (sym (c.in_ok-replace.ensures.replaced faithful
+          ∙ ap (λ (b : List ℕ). put (state, b) (seen c.read_edge.new.folder)) bytes
+          ∙ ap (λ (f : Files). put (state, checkpoint_of log) f) same))
           (taken_over log (seen c.args.folder.now) serves),
     )
 
 pub returns-in_err-edge-clause-whole : goal.returns-in_err-edge-clause-whole
 returns-in_err-edge-clause-whole g c = λ faithful log serves.
-    let both : ◌≡◌ (Some c.in-Some.served) (Some (said_of log)) = sym c.in-Some.is ∙ c.in_ok-served.ensures.text faithful (said_of log) serves.checkpoint.0 (kept_said log serves.can) serves.checkpoint.1 in
+    let both : ◌≡◌ (Some c.in-Some.served) (Some (said_of log)) = sym c.in-Some.is
+    ∙ c.in_ok-served.ensures.text faithful (said_of log) serves.checkpoint.0
+    (kept_said log serves.can) serves.checkpoint.1 in
     let said : c.in-Some.served ≡ said_of log = cc (both) in
-    let size : c.length.result ≡ length log.entries = c.length.ensures ∙ c.checkpoint-checkpoint.ensures.length ∙ ap (λ (s : Said). s.length) said in
-    err_same (IsNoFault ⊥) c.in_err-edge.field-0.0 c.from_residual-in_err-edge.result c.from_residual-in_err-edge.ensures.1
-    (c.in_err-edge.ensures.whole faithful log size (subst (HasFiles log) (sym (c.read_text.ensures.seen faithful)) serves.holds))
+    let size : c.length.result ≡ length log.entries = c.length.ensures ∙ c.checkpoint-checkpoint.ensures.length
+    ∙ ap (λ (s : Said). s.length) said in
+    err_same (IsNoFault ⊥) c.in_err-edge.field-0.0 c.from_residual-in_err-edge.result
+    c.from_residual-in_err-edge.ensures.1
+    (c.in_err-edge.ensures.whole faithful log size
+    (subst (HasFiles log) (sym (c.read_text.ensures.seen faithful)) serves.holds))
 
 pub returns-in_err-open_edge-clause-whole : goal.returns-in_err-open_edge-clause-whole
 returns-in_err-open_edge-clause-whole g c = λ faithful log serves.
-    let both : ◌≡◌ (Some c.in-Some.served) (Some (said_of log)) = sym c.in-Some.is ∙ c.in_ok-served.ensures.text faithful (said_of log) serves.checkpoint.0 (kept_said log serves.can) serves.checkpoint.1 in
+    let both : ◌≡◌ (Some c.in-Some.served) (Some (said_of log)) = sym c.in-Some.is
+    ∙ c.in_ok-served.ensures.text faithful (said_of log) serves.checkpoint.0
+    (kept_said log serves.can) serves.checkpoint.1 in
     let said : c.in-Some.served ≡ said_of log = cc (both) in
-    let size : c.length.result ≡ length log.entries = c.length.ensures ∙ c.checkpoint-checkpoint.ensures.length ∙ ap (λ (s : Said). s.length) said in
-    let parts = c.in_ok-edge.ensures.edge faithful log size (subst (HasFiles log) (sym (c.read_text.ensures.seen faithful)) serves.holds) in
-    let says = same_said c.checkpoint-checkpoint.result (said_of log) (c.checkpoint-checkpoint.ensures.root ∙ ap (λ (s : Said). s.root) said) (c.checkpoint-checkpoint.ensures.length ∙ ap (λ (s : Said). s.length) said) in
-    err_same (IsNoFault ⊥) c.in_err-open_edge.field-0.0 c.from_residual-in_err-open_edge.result c.from_residual-in_err-open_edge.ensures.1
+    let size : c.length.result ≡ length log.entries = c.length.ensures ∙ c.checkpoint-checkpoint.ensures.length
+    ∙ ap (λ (s : Said). s.length) said in
+    let parts = c.in_ok-edge.ensures.edge faithful log size
+    (subst (HasFiles log) (sym (c.read_text.ensures.seen faithful)) serves.holds) in
+    let says = same_said c.checkpoint-checkpoint.result (said_of log) (c.checkpoint-checkpoint.ensures.root
+    ∙ ap (λ (s : Said). s.root) said) (c.checkpoint-checkpoint.ensures.length ∙ ap (λ (s : Said). s.length) said) in
+    err_same (IsNoFault ⊥) c.in_err-open_edge.field-0.0 c.from_residual-in_err-open_edge.result
+    c.from_residual-in_err-open_edge.ensures.1
     (c.in_err-open_edge.ensures.whole log says (subst (ArePartsOf log) (sym c.as_slice.ensures.value) parts))
 
 pub returns-in_err-served-clause-whole : goal.returns-in_err-served-clause-whole
 returns-in_err-served-clause-whole g c = λ faithful log serves.
-    err_same (IsNoFault ⊥) c.in_err-served.field-0.0 c.from_residual.result c.from_residual.ensures.1 (c.in_err-served.ensures.whole faithful (said_of log) serves.checkpoint.0 (kept_said log serves.can) serves.checkpoint.1)
+    err_same (IsNoFault ⊥) c.in_err-served.field-0.0 c.from_residual.result c.from_residual.ensures.1
+    (c.in_err-served.ensures.whole faithful (said_of log) serves.checkpoint.0
+    (kept_said log serves.can) serves.checkpoint.1)
 
 pub returns-in_default-clause-whole : goal.returns-in_default-clause-whole
 returns-in_default-clause-whole g c = λ faithful log serves.
-    let found = c.in_ok-served.ensures.text faithful (said_of log) serves.checkpoint.0 (kept_said log serves.can) serves.checkpoint.1 in
+    let found = c.in_ok-served.ensures.text faithful (said_of log) serves.checkpoint.0
+    (kept_said log serves.can) serves.checkpoint.1 in
     absurd (cc (found, c.in_default.is))
 
 pub returns-clause-agrees : goal.returns-clause-agrees
 returns-clause-agrees g c = λ faithful served behind can there.
-    let both : ◌≡◌ (Some c.in-Some.served) (Some served) = sym c.in-Some.is ∙ c.in_ok-served.ensures.text faithful served behind can there in
+    let both : ◌≡◌ (Some c.in-Some.served) (Some served) = sym c.in-Some.is
+    ∙ c.in_ok-served.ensures.text faithful served behind can there in
     let same : c.in-Some.served ≡ served = cc (both) in
     subst (AgreesWith c.in-Some.served) same (agrees_self c.in-Some.served)
 

@@ -9,7 +9,8 @@ pub returns : goal.returns
 returns c = λ yes. (
   omega arith,
   subst (IsTileOf c.args.kept)
-      (same_tile c.new.result (full_of c.args.tile.now) (c.new.ensures.level ∙ c.level.ensures.value) (c.new.ensures.number ∙ c.number.ensures.value) c.new.ensures.width)
+      (same_tile c.new.result (full_of c.args.tile.now) (c.new.ensures.level ∙ c.level.ensures.value)
+      (c.new.ensures.number ∙ c.number.ensures.value) c.new.ensures.width)
       (c.is_tile_of-2.ensures.0 yes),
   (λ is. apart (sym (c.is_tile_of.ensures.1 is) ∙ c.if-is_tile_of.false)),
 )

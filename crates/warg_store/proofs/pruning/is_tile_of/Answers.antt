@@ -6,5 +6,10 @@ use Rattle.warg_store.proofs.pruning.is_tile_of.Goals as goal
 pub returns-then-level-ge8 : goal.returns-then-level-ge8
 returns-then-level-ge8 c = (
   (λ yes. absurd (false≢true yes)),
-  (λ is. absurd (omega (arith, low_level c.args.length c.args.tile.now c.requires is, c.if-level-ge8.true, c.level.ensures.value))),
+  (λ is. absurd (omega (
+    arith,
+    low_level c.args.length c.args.tile.now c.requires is,
+    c.if-level-ge8.true,
+    c.level.ensures.value,
+  ))),
 )

@@ -10,39 +10,62 @@ pub returns-in_err-names-clause-any_moment : goal.returns-in_err-names-clause-an
 returns-in_err-names-clause-any_moment g c = λ faithful served log keeps staging.
     let s = g.F.Folder.seen c.args.folder.now in
     let P = IsPruning c.args.kept c.length-served.result s in
-    let size : c.length-served.result ≡ length served.entries = c.length-served.ensures ∙ c.checkpoint-2.ensures.length ∙ ap (λ (x : Said). x.length) (c.in_ok-read_served.ensures.text faithful served keeps.serves) in
-    let read = read_twice _ _ _ c.args.folder.now c.read_served.new.folder c.list.new.self P (g.met.F.Folder.only_now c.args.folder.now) (c.read_served.ensures.time faithful) (c.list.ensures.time faithful)
-    (c.read_served.ensures.crash faithful) (c.list.ensures.crash faithful) (λ d left. begun c.args.kept c.length-served.result s d (staging d left)) in
-    subst (λ n. LeavesOnly g.F.Folder.moment g.F.Folder.left_since c.args.folder.now c.list.new.self (IsPruning c.args.kept n s)) size read.0
+    let size : c.length-served.result ≡ length served.entries = c.length-served.ensures ∙ c.checkpoint-2.ensures.length
+    ∙ ap (λ (x : Said). x.length) (c.in_ok-read_served.ensures.text faithful served keeps.serves) in
+    let read = read_twice _ _ _ c.args.folder.now c.read_served.new.folder c.list.new.self P
+    (g.met.F.Folder.only_now c.args.folder.now) (c.read_served.ensures.time faithful) (c.list.ensures.time faithful)
+    (c.read_served.ensures.crash faithful) (c.list.ensures.crash faithful)
+    (λ d left. begun c.args.kept c.length-served.result s d (staging d left)) in
+    subst (λ n. LeavesOnly g.F.Folder.moment g.F.Folder.left_since c.args.folder.now c.list.new.self
+    (IsPruning c.args.kept n s)) size read.0
 
 pub returns-in_err-removed-clause-any_moment : goal.returns-in_err-removed-clause-any_moment
 returns-in_err-removed-clause-any_moment g c = λ faithful served log keeps staging.
     let s = g.F.Folder.seen c.args.folder.now in
     let P = IsPruning c.args.kept c.length-served.result s in
-    let size : c.length-served.result ≡ length served.entries = c.length-served.ensures ∙ c.checkpoint-2.ensures.length ∙ ap (λ (x : Said). x.length) (c.in_ok-read_served.ensures.text faithful served keeps.serves) in
-    let read = read_twice _ _ _ c.args.folder.now c.read_served.new.folder c.list.new.self P (g.met.F.Folder.only_now c.args.folder.now) (c.read_served.ensures.time faithful) (c.list.ensures.time faithful)
-    (c.read_served.ensures.crash faithful) (c.list.ensures.crash faithful) (λ d left. begun c.args.kept c.length-served.result s d (staging d left)) in
-    let each = then g.F.Folder.moment g.F.Folder.left_since c.args.folder.now c.list.new.self c.prune_each.new.folder P P P read.0 (c.prune_each.ensures.any_moment faithful s read.1) (λ e p. p) (λ e p. p) in
-    subst (λ n. LeavesOnly g.F.Folder.moment g.F.Folder.left_since c.args.folder.now c.prune_each.new.folder (IsPruning c.args.kept n s)) size each
+    let size : c.length-served.result ≡ length served.entries = c.length-served.ensures ∙ c.checkpoint-2.ensures.length
+    ∙ ap (λ (x : Said). x.length) (c.in_ok-read_served.ensures.text faithful served keeps.serves) in
+    let read = read_twice _ _ _ c.args.folder.now c.read_served.new.folder c.list.new.self P
+    (g.met.F.Folder.only_now c.args.folder.now) (c.read_served.ensures.time faithful) (c.list.ensures.time faithful)
+    (c.read_served.ensures.crash faithful) (c.list.ensures.crash faithful)
+    (λ d left. begun c.args.kept c.length-served.result s d (staging d left)) in
+    let each = then g.F.Folder.moment g.F.Folder.left_since c.args.folder.now c.list.new.self c.prune_each.new.folder P
+    P P read.0 (c.prune_each.ensures.any_moment faithful s read.1) (λ e p. p) (λ e p. p) in
+    subst (λ n. LeavesOnly g.F.Folder.moment g.F.Folder.left_since c.args.folder.now c.prune_each.new.folder
+    (IsPruning c.args.kept n s)) size each
 
 pub returns-in_err-sync-clause-any_moment : goal.returns-in_err-sync-clause-any_moment
 returns-in_err-sync-clause-any_moment g c = λ faithful served log keeps staging.
     let s = g.F.Folder.seen c.args.folder.now in
     let P = IsPruning c.args.kept c.length-served.result s in
-    let size : c.length-served.result ≡ length served.entries = c.length-served.ensures ∙ c.checkpoint-2.ensures.length ∙ ap (λ (x : Said). x.length) (c.in_ok-read_served.ensures.text faithful served keeps.serves) in
-    let read = read_twice _ _ _ c.args.folder.now c.read_served.new.folder c.list.new.self P (g.met.F.Folder.only_now c.args.folder.now) (c.read_served.ensures.time faithful) (c.list.ensures.time faithful)
-    (c.read_served.ensures.crash faithful) (c.list.ensures.crash faithful) (λ d left. begun c.args.kept c.length-served.result s d (staging d left)) in
-    let each = then g.F.Folder.moment g.F.Folder.left_since c.args.folder.now c.list.new.self c.prune_each.new.folder P P P read.0 (c.prune_each.ensures.any_moment faithful s read.1) (λ e p. p) (λ e p. p) in
-    let sync = goes_on _ _ _ c.args.folder.now c.prune_each.new.folder c.sync.new.self P each (c.sync.ensures.time faithful) (λ e left. c.prune_each.ensures.crash faithful s e read.1 (c.sync.ensures.crash faithful e left)) in
-    subst (λ n. LeavesOnly g.F.Folder.moment g.F.Folder.left_since c.args.folder.now c.sync.new.self (IsPruning c.args.kept n s)) size sync
+    let size : c.length-served.result ≡ length served.entries = c.length-served.ensures ∙ c.checkpoint-2.ensures.length
+    ∙ ap (λ (x : Said). x.length) (c.in_ok-read_served.ensures.text faithful served keeps.serves) in
+    let read = read_twice _ _ _ c.args.folder.now c.read_served.new.folder c.list.new.self P
+    (g.met.F.Folder.only_now c.args.folder.now) (c.read_served.ensures.time faithful) (c.list.ensures.time faithful)
+    (c.read_served.ensures.crash faithful) (c.list.ensures.crash faithful)
+    (λ d left. begun c.args.kept c.length-served.result s d (staging d left)) in
+    let each = then g.F.Folder.moment g.F.Folder.left_since c.args.folder.now c.list.new.self c.prune_each.new.folder P
+    P P read.0 (c.prune_each.ensures.any_moment faithful s read.1) (λ e p. p) (λ e p. p) in
+    let sync = goes_on _ _ _ c.args.folder.now c.prune_each.new.folder c.sync.new.self P each
+    (c.sync.ensures.time faithful)
+    (λ e left. c.prune_each.ensures.crash faithful s e read.1 (c.sync.ensures.crash faithful e left)) in
+    subst (λ n. LeavesOnly g.F.Folder.moment g.F.Folder.left_since c.args.folder.now c.sync.new.self
+    (IsPruning c.args.kept n s)) size sync
 
 pub returns-clause-any_moment : goal.returns-clause-any_moment
 returns-clause-any_moment g c = λ faithful served log keeps staging.
     let s = g.F.Folder.seen c.args.folder.now in
     let P = IsPruning c.args.kept c.length-served.result s in
-    let size : c.length-served.result ≡ length served.entries = c.length-served.ensures ∙ c.checkpoint-2.ensures.length ∙ ap (λ (x : Said). x.length) (c.in_ok-read_served.ensures.text faithful served keeps.serves) in
-    let read = read_twice _ _ _ c.args.folder.now c.read_served.new.folder c.list.new.self P (g.met.F.Folder.only_now c.args.folder.now) (c.read_served.ensures.time faithful) (c.list.ensures.time faithful)
-    (c.read_served.ensures.crash faithful) (c.list.ensures.crash faithful) (λ d left. begun c.args.kept c.length-served.result s d (staging d left)) in
-    let each = then g.F.Folder.moment g.F.Folder.left_since c.args.folder.now c.list.new.self c.prune_each.new.folder P P P read.0 (c.prune_each.ensures.any_moment faithful s read.1) (λ e p. p) (λ e p. p) in
-    let sync = goes_on _ _ _ c.args.folder.now c.prune_each.new.folder c.sync.new.self P each (c.sync.ensures.time faithful) (λ e left. c.prune_each.ensures.crash faithful s e read.1 (c.sync.ensures.crash faithful e left)) in
-    subst (λ n. LeavesOnly g.F.Folder.moment g.F.Folder.left_since c.args.folder.now c.sync.new.self (IsPruning c.args.kept n s)) size sync
+    let size : c.length-served.result ≡ length served.entries = c.length-served.ensures ∙ c.checkpoint-2.ensures.length
+    ∙ ap (λ (x : Said). x.length) (c.in_ok-read_served.ensures.text faithful served keeps.serves) in
+    let read = read_twice _ _ _ c.args.folder.now c.read_served.new.folder c.list.new.self P
+    (g.met.F.Folder.only_now c.args.folder.now) (c.read_served.ensures.time faithful) (c.list.ensures.time faithful)
+    (c.read_served.ensures.crash faithful) (c.list.ensures.crash faithful)
+    (λ d left. begun c.args.kept c.length-served.result s d (staging d left)) in
+    let each = then g.F.Folder.moment g.F.Folder.left_since c.args.folder.now c.list.new.self c.prune_each.new.folder P
+    P P read.0 (c.prune_each.ensures.any_moment faithful s read.1) (λ e p. p) (λ e p. p) in
+    let sync = goes_on _ _ _ c.args.folder.now c.prune_each.new.folder c.sync.new.self P each
+    (c.sync.ensures.time faithful)
+    (λ e left. c.prune_each.ensures.crash faithful s e read.1 (c.sync.ensures.crash faithful e left)) in
+    subst (λ n. LeavesOnly g.F.Folder.moment g.F.Folder.left_since c.args.folder.now c.sync.new.self
+    (IsPruning c.args.kept n s)) size sync

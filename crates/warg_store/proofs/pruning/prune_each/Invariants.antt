@@ -8,8 +8,12 @@ use Rattle.warg_store.proofs.pruning.prune_each.Given as goal
 abbrev pub invariant-names : goal.invariant-names
 invariant-names g l = record {
   faults : g.F.Folder.faults l.fn.folder ≤ g.F.Folder.faults l.folder;
-  crash : g.F.Folder.IsFaithful → (s c : Files) → ((d : Files) → g.F.Folder.may_leave l.fn.folder d → IsPruning l.kept l.served s d) → g.F.Folder.may_leave l.folder c → IsPruning l.kept l.served s c;
-  time : g.F.Folder.IsFaithful → (s : Files) → ((d : Files) → g.F.Folder.may_leave l.fn.folder d → IsPruning l.kept l.served s d)
+  crash : g.F.Folder.IsFaithful → (s c : Files)
+      → ((d : Files) → g.F.Folder.may_leave l.fn.folder d → IsPruning l.kept l.served s d)
+      → g.F.Folder.may_leave l.folder c → IsPruning l.kept l.served s c;
+  time : g.F.Folder.IsFaithful → (s : Files)
+      → ((d : Files) → g.F.Folder.may_leave l.fn.folder d → IsPruning l.kept l.served s d)
       → LeavesOnly g.F.Folder.moment g.F.Folder.left_since l.fn.folder l.folder (IsPruning l.kept l.served s);
-  staged : g.F.Folder.IsFaithful → (n : List ℕ) → is_staged n ≡ true → g.F.Folder.seen l.folder n ≡ g.F.Folder.seen l.fn.folder n;
+  staged : g.F.Folder.IsFaithful → (n : List ℕ) → is_staged n ≡ true → g.F.Folder.seen l.folder n
+      ≡ g.F.Folder.seen l.fn.folder n;
 }

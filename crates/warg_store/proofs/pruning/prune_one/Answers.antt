@@ -13,10 +13,14 @@ returns-in_err-remove-clause-crash g c = λ faithful s e all left.
     let from = c.remove.ensures.crash faithful e left in
     let full = string_bytes c.in-Some.named.full in
     let paths : HasFull c.args.name.now c.in-Some.named.tile full =
-    subst (λ (o : Option Named). IfSome o (λ named. HasFull c.args.name.now named.tile (string_bytes named.full))) c.in-Some.is c.in_ok-named.ensures in
+    subst (λ (o : Option Named). IfSome o (λ named. HasFull c.args.name.now named.tile (string_bytes named.full)))
+    c.in-Some.is c.in_ok-named.ensures in
     let there : IsSome (now full) =
-    some_read (now full) c.in-Some-2.field-0.items 1 (sym (ap (option_map (λ (v : Vec ℕ Global). v.items)) c.in-Some-2.is) ∙ c.in_ok-read.ensures.found faithful ∙ ap (λ n. option_map (take 1) (now n)) c.as_str.ensures.value) in
-    gone_one c.args.kept c.args.served s now from.0 e c.args.name.now full c.in-Some.named.tile paths (c.is_spare.ensures c.if-not-is_spare.false) there (all now (g.met.F.Folder.seen_may_stay c.args.folder.now))
+    some_read (now full) c.in-Some-2.field-0.items 1
+    (sym (ap (option_map (λ (v : Vec ℕ Global). v.items)) c.in-Some-2.is) ∙ c.in_ok-read.ensures.found faithful
+    ∙ ap (λ n. option_map (take 1) (now n)) c.as_str.ensures.value) in
+    gone_one c.args.kept c.args.served s now from.0 e c.args.name.now full c.in-Some.named.tile paths
+    (c.is_spare.ensures c.if-not-is_spare.false) there (all now (g.met.F.Folder.seen_may_stay c.args.folder.now))
     (all from.0 (c.read.ensures.crash faithful from.0 from.1)) from.2
 
 pub returns-clause-crash : goal.returns-clause-crash
@@ -25,22 +29,28 @@ returns-clause-crash g c = λ faithful s e all left.
     let from = c.remove.ensures.crash faithful e left in
     let full = string_bytes c.in-Some.named.full in
     let paths : HasFull c.args.name.now c.in-Some.named.tile full =
-    subst (λ (o : Option Named). IfSome o (λ named. HasFull c.args.name.now named.tile (string_bytes named.full))) c.in-Some.is c.in_ok-named.ensures in
+    subst (λ (o : Option Named). IfSome o (λ named. HasFull c.args.name.now named.tile (string_bytes named.full)))
+    c.in-Some.is c.in_ok-named.ensures in
     let there : IsSome (now full) =
-    some_read (now full) c.in-Some-2.field-0.items 1 (sym (ap (option_map (λ (v : Vec ℕ Global). v.items)) c.in-Some-2.is) ∙ c.in_ok-read.ensures.found faithful ∙ ap (λ n. option_map (take 1) (now n)) c.as_str.ensures.value) in
-    gone_one c.args.kept c.args.served s now from.0 e c.args.name.now full c.in-Some.named.tile paths (c.is_spare.ensures c.if-not-is_spare.false) there (all now (g.met.F.Folder.seen_may_stay c.args.folder.now))
+    some_read (now full) c.in-Some-2.field-0.items 1
+    (sym (ap (option_map (λ (v : Vec ℕ Global). v.items)) c.in-Some-2.is) ∙ c.in_ok-read.ensures.found faithful
+    ∙ ap (λ n. option_map (take 1) (now n)) c.as_str.ensures.value) in
+    gone_one c.args.kept c.args.served s now from.0 e c.args.name.now full c.in-Some.named.tile paths
+    (c.is_spare.ensures c.if-not-is_spare.false) there (all now (g.met.F.Folder.seen_may_stay c.args.folder.now))
     (all from.0 (c.read.ensures.crash faithful from.0 from.1)) from.2
 
 pub returns-in_err-remove-clause-any_moment : goal.returns-in_err-remove-clause-any_moment
 returns-in_err-remove-clause-any_moment g c = λ faithful s all.
     let P = IsPruning c.args.kept c.args.served s in
     goes_on _ _ _ c.args.folder.now c.read.new.self c.remove.new.self P
-    (begins _ _ _ c.args.folder.now c.read.new.self P (g.met.F.Folder.only_now c.args.folder.now) (c.read.ensures.time faithful) all (λ e left. all e (c.read.ensures.crash faithful e left)))
+    (begins _ _ _ c.args.folder.now c.read.new.self P (g.met.F.Folder.only_now c.args.folder.now)
+    (c.read.ensures.time faithful) all (λ e left. all e (c.read.ensures.crash faithful e left)))
     (c.remove.ensures.time faithful) (λ e left. returns-in_err-remove-clause-crash g c faithful s e all left)
 
 pub returns-clause-any_moment : goal.returns-clause-any_moment
 returns-clause-any_moment g c = λ faithful s all.
     let P = IsPruning c.args.kept c.args.served s in
     goes_on _ _ _ c.args.folder.now c.read.new.self c.remove.new.self P
-    (begins _ _ _ c.args.folder.now c.read.new.self P (g.met.F.Folder.only_now c.args.folder.now) (c.read.ensures.time faithful) all (λ e left. all e (c.read.ensures.crash faithful e left)))
+    (begins _ _ _ c.args.folder.now c.read.new.self P (g.met.F.Folder.only_now c.args.folder.now)
+    (c.read.ensures.time faithful) all (λ e left. all e (c.read.ensures.crash faithful e left)))
     (c.remove.ensures.time faithful) (λ e left. returns-clause-crash g c faithful s e all left)

@@ -13,14 +13,19 @@ returns-clause-whole g c = λ faithful log of some below own root.
     let ds = leaves_of sha256 log.entries in
     let same : c.in-Some.root ≡ root_of sha256 (take c.args.log_length ds) = cc (root, c.in-Some.is) in
     let first : c.new-old.result.root ≡ root_of sha256 (take c.args.log_length ds) = c.new-old.ensures.root ∙ same in
-    let count : ◌≡◌ {A = ℕ} c.args.checkpoint.now.length (length log.entries) = ap (λ (r : RootAndLength). r.length) of.said in
+    let count : ◌≡◌ {A = ℕ} c.args.checkpoint.now.length (length log.entries) =
+    ap (λ (r : RootAndLength). r.length) of.said in
     absurd (elim (cases_lt c.args.log_length c.args.checkpoint.now.length) [
       | inl less ↦
-          let is : c.in_ok-is_beginning.field-0 ≡ true = c.in_ok-is_beginning.ensures.is faithful log of own (omega (arith, c.new-old.ensures.length, some)) (omega (arith, c.new-old.ensures.length, less))
+          let is : c.in_ok-is_beginning.field-0 ≡ true = c.in_ok-is_beginning.ensures.is faithful log of own
+          (omega (arith, c.new-old.ensures.length, some)) (omega (arith, c.new-old.ensures.length, less))
           (first ∙ ap (λ n. root_of sha256 (take n ds)) (sym c.new-old.ensures.length)) in
           cc (is, c.if-branch.false)
       | inr whole ↦
-          let last : c.new-old.result.root ≡ c.args.checkpoint.now.root = first ∙ whole_root log c.args.log_length (omega (arith, whole, count)) ∙ sym (ap (λ (r : RootAndLength). r.root) of.said) in
-          let size : c.new-old.result.length ≡ c.args.checkpoint.now.length = omega (arith, c.new-old.ensures.length, whole, below) in
-          apart (sym (same_checkpoint c.new-old.result.root c.args.checkpoint.now.root c.new-old.result.length c.args.checkpoint.now.length last size) ∙ sym c.if-eq.ensures)
+          let last : c.new-old.result.root ≡ c.args.checkpoint.now.root = first ∙ whole_root log c.args.log_length
+          (omega (arith, whole, count)) ∙ sym (ap (λ (r : RootAndLength). r.root) of.said) in
+          let size : c.new-old.result.length ≡ c.args.checkpoint.now.length =
+          omega (arith, c.new-old.ensures.length, whole, below) in
+          apart (sym (same_checkpoint c.new-old.result.root c.args.checkpoint.now.root c.new-old.result.length
+          c.args.checkpoint.now.length last size) ∙ sym c.if-eq.ensures)
     ])

@@ -23,21 +23,24 @@ returns-clause-own g c faithful log files count =
 
 pub returns-in_err-leaf-clause-whole : goal.returns-in_err-leaf-clause-whole
 returns-in_err-leaf-clause-whole g c = λ faithful log of.
-    let size : length log.entries ≡ c.length-length.result = sym (c.length-length.ensures ∙ ap (λ (r : RootAndLength). r.length) of.said) in
+    let size : length log.entries ≡ c.length-length.result =
+    sym (c.length-length.ensures ∙ ap (λ (r : RootAndLength). r.length) of.said) in
     err_no_fault _ c.in_err-leaf.field-0.0 c.from_residual.result c.from_residual.ensures.1
     (c.in_err-leaf.ensures.whole faithful log of.holds size (omega (arith, c.if-log_length-length.false)))
 
 pub returns-in_err-path-clause-whole : goal.returns-in_err-path-clause-whole
 returns-in_err-path-clause-whole g c = λ faithful log of.
     let below : c.args.index < c.args.log_length = omega (arith, c.if-index-log_length.false) in
-    err_no_fault _ c.in_err-path.field-0.0 c.from_residual-in_err-path.result c.from_residual-in_err-path.ensures.1 (c.in_err-path.ensures.whole (path_memory c.inclusion_path.result
+    err_no_fault _ c.in_err-path.field-0.0 c.from_residual-in_err-path.result c.from_residual-in_err-path.ensures.1
+    (c.in_err-path.ensures.whole (path_memory c.inclusion_path.result
     (λ e. omega (arith, c.inclusion_path.ensures.out_of_range.0 e, below))
     (λ e. some_none _ (inclusion_known sha256 (digest_by sha256 c.fetch_inclusion.new.tiles) c.args.index
     c.args.log_length below c.in_ok-leaf.ensures.known) (c.inclusion_path.ensures.not_known.0 e).1)))
 
 pub returns-in_err-check_root-clause-whole : goal.returns-in_err-check_root-clause-whole
 returns-in_err-check_root-clause-whole g c = λ faithful log of.
-    let size : length log.entries ≡ c.length-length.result = sym (c.length-length.ensures ∙ ap (λ (r : RootAndLength). r.length) of.said) in
+    let size : length log.entries ≡ c.length-length.result =
+    sym (c.length-length.ensures ∙ ap (λ (r : RootAndLength). r.length) of.said) in
     let inside : c.args.log_length ≤ c.length-length.result = omega (arith, c.if-log_length-length.false) in
     let below : c.args.index < c.args.log_length = omega (arith, c.if-index-log_length.false) in
     let none = subst (AreOwn log) (sym c.new-tiles.ensures) tt in
@@ -46,7 +49,8 @@ returns-in_err-check_root-clause-whole g c = λ faithful log of.
     (IfOk-at_ok _ c.in_ok-path.ensures.path c.inclusion_path.ensures.ok).1 in
     let root = inclusion_leads log c.args.index c.args.log_length c.in_ok-leaf.leaf c.in_ok-path.path.items below
     (omega (arith, inside, size)) (c.in_ok-leaf.ensures.leaf faithful log of.holds size inside none) path in
-    err_no_fault _ c.in_err-check_root.field-0.0 c.from_residual-in_err-check_root.result c.from_residual-in_err-check_root.ensures.1
+    err_no_fault _ c.in_err-check_root.field-0.0 c.from_residual-in_err-check_root.result
+    c.from_residual-in_err-check_root.ensures.1
     (c.in_err-check_root.ensures.whole faithful log
     (record {
       can = of.can;

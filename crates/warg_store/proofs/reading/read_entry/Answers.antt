@@ -13,14 +13,20 @@ pub returns-in-Some-clause-own : goal.returns-in-Some-clause-own
 returns-in-Some-clause-own g c faithful log files short count =
     let t : TileAt = c.new-tile.result in
     let place = c.args.index % 256 in
-    let bounds = entry_tile log t c.args.index c.args.log_length count c.requires c.new-tile.ensures.level c.new-tile.ensures.number (c.new-tile.ensures.width ∙ c.min.ensures) in
+    let bounds = entry_tile log t c.args.index c.args.log_length count c.requires c.new-tile.ensures.level
+    c.new-tile.ensures.number (c.new-tile.ensures.width ∙ c.min.ensures) in
     let read = c.in_ok-bytes.ensures.read faithful log short bounds.most (files.bundle t bounds.is_in) in
     let found = c.in-Some.ensures.lookup in
     let slice : List (Bor (List ℕ)) = c.as_slice-2.result.now in
     let es : List (List ℕ) = map (λ (e : Bor (List ℕ)). e.now) slice in
     let entry : List ℕ = c.in-Some.entry.now.now in
-    let at : slice_get slice place ≡ Some c.in-Some.entry.now = slice_get_read slice (length slice) place c.in-Some.entry.now refl found.3.0 found.1 in
-    let got : slice_get es place ≡ Some entry = slice_get-map (λ (e : Bor (List ℕ)). e.now) slice place ∙ ap (option_map (λ (e : Bor (List ℕ)). e.now)) at in
-    let bytes : bundle_of es ≡ bundle_bytes log t = ap (λ (l : List (Bor (List ℕ))). bundle_of (map (λ e. e.now) l)) c.as_slice-2.ensures.value ∙ sym c.in_ok-entries.ensures.entries ∙ c.as_slice.ensures.value ∙ read in
-    let width : length es ≡ t.width = length-map slice (λ (e : Bor (List ℕ)). e.now) ∙ ap (λ (l : List (Bor (List ℕ))). length l) c.as_slice-2.ensures.value ∙ c.in_ok-entries.ensures.count in
-    ap (slice_get log.entries) (sym bounds.place) ∙ own_entry log t es place entry bounds.fits bytes width got ∙ ap (λ (e : List ℕ). Some e) (sym (c.in_ok-to_vec-in-Some.ensures.items_if_clones_equal (λ x y e. e)))
+    let at : slice_get slice place ≡ Some c.in-Some.entry.now = slice_get_read slice
+    (length slice) place c.in-Some.entry.now refl found.3.0 found.1 in
+    let got : slice_get es place ≡ Some entry = slice_get-map (λ (e : Bor (List ℕ)). e.now) slice place
+    ∙ ap (option_map (λ (e : Bor (List ℕ)). e.now)) at in
+    let bytes : bundle_of es ≡ bundle_bytes log t = ap (λ (l : List (Bor (List ℕ))). bundle_of (map (λ e. e.now) l))
+    c.as_slice-2.ensures.value ∙ sym c.in_ok-entries.ensures.entries ∙ c.as_slice.ensures.value ∙ read in
+    let width : length es ≡ t.width = length-map slice (λ (e : Bor (List ℕ)). e.now)
+    ∙ ap (λ (l : List (Bor (List ℕ))). length l) c.as_slice-2.ensures.value ∙ c.in_ok-entries.ensures.count in
+    ap (slice_get log.entries) (sym bounds.place) ∙ own_entry log t es place entry bounds.fits bytes width got
+    ∙ ap (λ (e : List ℕ). Some e) (sym (c.in_ok-to_vec-in-Some.ensures.items_if_clones_equal (λ x y e. e)))

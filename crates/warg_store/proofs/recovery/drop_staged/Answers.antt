@@ -12,16 +12,19 @@ remove_staged-requires g c = λ faithful e left.
 
 pub returns-clause-opened : goal.returns-clause-opened
 returns-clause-opened g c = λ faithful.
-    c.in_ok-remove_staged.ensures.removed faithful ∙ sym (idle_opened (g.F.Folder.seen c.args.folder.now) (c.requires.idle faithful))
+    c.in_ok-remove_staged.ensures.removed faithful
+    ∙ sym (idle_opened (g.F.Folder.seen c.args.folder.now) (c.requires.idle faithful))
 
 pub returns-clause-any_moment : goal.returns-clause-any_moment
 returns-clause-any_moment g c = λ faithful.
     let now = g.F.Folder.seen c.args.folder.now in
     weaker _ _ _ _ _ _ (c.remove_staged.ensures.any_moment faithful)
-    (λ e was. beside_between now (opened now) e (c.requires.idle faithful) (removing_idle now e (c.requires.idle faithful) was))
+    (λ e was. beside_between now (opened now) e (c.requires.idle faithful)
+    (removing_idle now e (c.requires.idle faithful) was))
 
 pub returns-in_err-remove_staged-clause-any_moment : goal.returns-in_err-remove_staged-clause-any_moment
 returns-in_err-remove_staged-clause-any_moment g c = λ faithful.
     let now = g.F.Folder.seen c.args.folder.now in
     weaker _ _ _ _ _ _ (c.remove_staged.ensures.any_moment faithful)
-    (λ e was. beside_between now (opened now) e (c.requires.idle faithful) (removing_idle now e (c.requires.idle faithful) was))
+    (λ e was. beside_between now (opened now) e (c.requires.idle faithful)
+    (removing_idle now e (c.requires.idle faithful) was))

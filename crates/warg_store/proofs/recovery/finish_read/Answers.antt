@@ -10,10 +10,14 @@ use Rattle.warg_store.proofs.recovery.finish_read.Goals as goal
 pub returns-then-text-gt-MOST_TEXT-clause-any_moment : goal.returns-then-text-gt-MOST_TEXT-clause-any_moment
 returns-then-text-gt-MOST_TEXT-clause-any_moment g c = λ faithful.
     let first = g.F.Folder.seen c.args.folder.now in
-    stays _ _ _ _ (λ e left. subst (IsBetween first (opened first)) (sym ((c.requires.durable faithful) e (g.met.F.Folder.only_now c.args.folder.now e left))) (between_self first (opened first)))
+    stays _ _ _ _ (λ e left. subst (IsBetween first (opened first))
+    (sym ((c.requires.durable faithful) e (g.met.F.Folder.only_now c.args.folder.now e left)))
+    (between_self first (opened first)))
 
 pub returns-then-text-gt-MOST_TEXT-clause-too_long : goal.returns-then-text-gt-MOST_TEXT-clause-too_long
-returns-then-text-gt-MOST_TEXT-clause-too_long g c = λ faithful. λ told. read_long (g.F.Folder.seen c.args.folder.now mark) c.args.text.now MOST_TEXT (c.requires.read faithful) (omega arith)
+returns-then-text-gt-MOST_TEXT-clause-too_long g c = λ faithful. λ told. read_long
+    (g.F.Folder.seen c.args.folder.now mark) c.args.text.now MOST_TEXT (c.requires.read faithful) (omega arith)
 
 pub finish-requires-clause-stands : goal.finish-requires-clause-stands
-finish-requires-clause-stands g c = λ faithful. read_whole (g.F.Folder.seen c.args.folder.now mark) c.args.text.now MOST_TEXT (c.requires.read faithful) (omega arith)
+finish-requires-clause-stands g c = λ faithful. read_whole (g.F.Folder.seen c.args.folder.now mark) c.args.text.now
+    MOST_TEXT (c.requires.read faithful) (omega arith)

@@ -7,9 +7,13 @@ use Rattle.warg_store.proofs.staging.remove_all.Given as goal
 
 abbrev pub invariant-names : goal.invariant-names
 invariant-names g l = record {
-  removed : g.F.Folder.IsFaithful → All (λ name. g.F.Folder.seen l.folder (string_bytes name) ≡ None) (take l.name-index l.names);
-  fewer : g.F.Folder.IsFaithful → (n : List ℕ) → (g.F.Folder.seen l.folder n ≡ g.F.Folder.seen l.fn.folder n) ⊎ (g.F.Folder.seen l.folder n ≡ None);
-  crash : g.F.Folder.IsFaithful → (c : Files) → g.F.Folder.may_leave l.folder c → IsRemoving (g.F.Folder.seen l.fn.folder) c;
+  removed : g.F.Folder.IsFaithful → All (λ name. g.F.Folder.seen l.folder (string_bytes name) ≡ None)
+      (take l.name-index l.names);
+  fewer : g.F.Folder.IsFaithful → (n : List ℕ) → (g.F.Folder.seen l.folder n ≡ g.F.Folder.seen l.fn.folder n)
+      ⊎ (g.F.Folder.seen l.folder n ≡ None);
+  crash : g.F.Folder.IsFaithful → (c : Files) → g.F.Folder.may_leave l.folder c
+      → IsRemoving (g.F.Folder.seen l.fn.folder) c;
   faults : g.F.Folder.faults l.fn.folder ≤ g.F.Folder.faults l.folder;
-  time : g.F.Folder.IsFaithful → LeavesOnly g.F.Folder.moment g.F.Folder.left_since l.fn.folder l.folder (IsRemoving (g.F.Folder.seen l.fn.folder));
+  time : g.F.Folder.IsFaithful → LeavesOnly g.F.Folder.moment g.F.Folder.left_since l.fn.folder l.folder
+      (IsRemoving (g.F.Folder.seen l.fn.folder));
 }

@@ -15,9 +15,12 @@ returns-clause-removed g c = λ faithful.
     on_ok_weaker c.sync.result
     (λ done. (c.sync.ensures.seen faithful)
     ∙ all_removed listed last c.as_slice.result.now
-    (λ n isnt. ((c.remove_all.ensures.crash faithful) last (g.met.F.Folder.seen_may_stay c.remove_all.new.folder)).outside n isnt)
+    (λ n isnt. ((c.remove_all.ensures.crash faithful) last
+    (g.met.F.Folder.seen_may_stay c.remove_all.new.folder)).outside n isnt)
     (c.in_ok-remove_all.ensures.removed faithful) (c.in_ok-remove_all.ensures.fewer faithful)
-    (λ n some is. subst (λ (l : List (String Global)). Contains (map (λ name. string_bytes name) l) n) (sym c.as_slice.ensures.value)
-    ((c.in_ok-names.ensures.all faithful) n (subst (λ (f : Files). IsSome (f n)) (c.list.ensures.seen faithful) some) is))
+    (λ n some is. subst (λ (l : List (String Global)). Contains (map (λ name. string_bytes name) l) n)
+    (sym c.as_slice.ensures.value)
+    ((c.in_ok-names.ensures.all faithful) n (subst (λ (f : Files). IsSome (f n)) (c.list.ensures.seen faithful) some)
+    is))
     ∙ ap without_staged (c.list.ensures.seen faithful))
     (c.sync.ensures.durable faithful)

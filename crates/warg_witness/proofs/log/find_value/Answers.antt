@@ -5,7 +5,8 @@ pub returns-then-branch : goal.returns-then-branch
 returns-then-branch g c = (tt, c.in_ok-is_entry_at.ensures.0 c.if-branch.true)
 
 pub collide_value-requires-clause-collides : goal.collide_value-requires-clause-collides
-collide_value-requires-clause-collides g c = c.requires.collides (iff_false c.in_ok-is_entry_at.ensures c.if-branch.false)
+collide_value-requires-clause-collides g c =
+    c.requires.collides (iff_false c.in_ok-is_entry_at.ensures c.if-branch.false)
 
 pub returns : goal.returns
 returns g c = (tt, iff_false c.in_ok-is_entry_at.ensures c.if-branch.false, c.in_ok-pair.ensures)

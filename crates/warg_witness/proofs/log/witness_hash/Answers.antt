@@ -4,7 +4,8 @@ use Rattle.warg_witness.proofs.HashLemmas.{found_none}
 use Rattle.warg_witness.proofs.log.witness_hash.Goals as goal
 
 pub find_hash-requires : goal.find_hash-requires
-find_hash-requires g c = let met = rw c.in-Some.is at c.in_ok-met.ensures.met in branches_collide _ c.in-Some.met.divergence _ _ met.diverges
+find_hash-requires g c = let met = rw c.in-Some.is at c.in_ok-met.ensures.met in
+    branches_collide _ c.in-Some.met.divergence _ _ met.diverges
 
 pub returns-clause-count : goal.returns-clause-count
 returns-clause-count g c other = absurd (found_none (c.in_ok-met.ensures.count other) c.in-Some.is)
@@ -13,4 +14,5 @@ pub returns-clause-fails : goal.returns-clause-fails
 returns-clause-fails g c fault is = absurd (found_none (c.in_ok-met.ensures.fails fault is) c.in-Some.is)
 
 pub returns-clause-found : goal.returns-clause-found
-returns-clause-found g c = let met = rw c.in-Some.is at c.in_ok-met.ensures.met in IfOk-weaker c.find_hash.result _ _ (hash_found c.in-Some.met.divergence met) c.find_hash.ensures
+returns-clause-found g c = let met = rw c.in-Some.is at c.in_ok-met.ensures.met in
+    IfOk-weaker c.find_hash.result _ _ (hash_found c.in-Some.met.divergence met) c.find_hash.ensures

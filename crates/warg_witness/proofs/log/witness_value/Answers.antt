@@ -5,15 +5,18 @@ use Rattle.warg_witness.proofs.ShownLemmas.{value_shown, value_held, value_from}
 use Rattle.warg_witness.proofs.log.witness_value.Goals as goal
 
 pub find_value-requires-clause-collides : goal.find_value-requires-clause-collides
-find_value-requires-clause-collides g c other = (value_shown (rw (c.in-Some.is, c.hash_leaf-hash.ensures) at c.in_ok-met.ensures.met) other).collides
+find_value-requires-clause-collides g c other =
+    (value_shown (rw (c.in-Some.is, c.hash_leaf-hash.ensures) at c.in_ok-met.ensures.met) other).collides
 
 pub returns-clause-count : goal.returns-clause-count
 returns-clause-count g c other = absurd (found_none (c.in_ok-met.ensures.count other) c.in-Some.is)
 
 pub returns-clause-fails : goal.returns-clause-fails
-returns-clause-fails g c fault is = absurd (found_none (c.in_ok-met.ensures.fails fault (rw c.hash_leaf-hash.ensures is)) c.in-Some.is)
+returns-clause-fails g c fault is =
+    absurd (found_none (c.in_ok-met.ensures.fails fault (rw c.hash_leaf-hash.ensures is)) c.in-Some.is)
 
 pub returns-clause-found : goal.returns-clause-found
 returns-clause-found g c =
     let meeting = rw (c.in-Some.is, c.hash_leaf-hash.ensures) at c.in_ok-met.ensures.met in
-    IfOk-weaker c.find_value.result _ _ (finds_shown meeting.met (value_held meeting) (value_from meeting) (value_shown meeting)) c.find_value.ensures
+    IfOk-weaker c.find_value.result _ _ (finds_shown meeting.met (value_held meeting) (value_from meeting)
+    (value_shown meeting)) c.find_value.ensures

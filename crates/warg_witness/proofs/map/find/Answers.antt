@@ -4,9 +4,13 @@ use Rattle.warg_witness.proofs.KeyLemmas.{key_shown}
 use Rattle.warg_witness.proofs.map.find.Goals as goal
 
 pub find_key-requires : goal.find_key-requires
-find_key-requires g c = let met = rw c.in-Some.is at c.in_ok-met.ensures in λ other. (key_shown _ _ _ _ _ other _ _ g.met.D.SupportedDigest.is_digest met.last_is met.diverges).collides
+find_key-requires g c = let met = rw c.in-Some.is at c.in_ok-met.ensures in
+    λ other. (key_shown _ _ _ _ _ other _ _ g.met.D.SupportedDigest.is_digest met.last_is met.diverges).collides
 
 pub returns : goal.returns
 returns g c =
     let met = rw c.in-Some.is at c.in_ok-met.ensures in
-    IfOk-weaker c.find_key.result _ _ (finds_shown met.met (λ is. is) (λ is. is) (λ other. key_shown _ _ _ _ _ other _ _ g.met.D.SupportedDigest.is_digest met.last_is met.diverges)) c.find_key.ensures
+    IfOk-weaker c.find_key.result _ _
+    (finds_shown met.met (λ is. is) (λ is. is)
+    (λ other. key_shown _ _ _ _ _ other _ _ g.met.D.SupportedDigest.is_digest met.last_is met.diverges))
+    c.find_key.ensures

@@ -9,10 +9,19 @@ pub loop-place-preserved : goal.loop-place-preserved
 loop-place-preserved g c =
     let old_count = entries_count g.V.VisitBytes.bytes c.args.old.now in
     let new_count = entries_count g.V.VisitBytes.bytes c.args.new.now in
-    take_more_same (map g.V.VisitBytes.bytes c.args.old.now) (map g.V.VisitBytes.bytes c.args.new.now) c.loop-place.place [] (omega arith) (omega arith) c.loop-place.invariant (grind (arith, entry_at))
+    take_more_same (map g.V.VisitBytes.bytes c.args.old.now) (map g.V.VisitBytes.bytes c.args.new.now)
+    c.loop-place.place [] (omega arith) (omega arith) c.loop-place.invariant (grind (arith, entry_at))
 
 pub is_same_entry-requires-clause-in_old : goal.is_same_entry-requires-clause-in_old
-is_same_entry-requires-clause-in_old g c = rw (c.requires.old_tree, leaves_count g.D.SupportedDigest.digest _, entries_count g.V.VisitBytes.bytes c.args.old.now) (omega arith)
+is_same_entry-requires-clause-in_old g c = rw (
+  c.requires.old_tree,
+  leaves_count g.D.SupportedDigest.digest _,
+  entries_count g.V.VisitBytes.bytes c.args.old.now,
+) (omega arith)
 
 pub is_same_entry-requires-clause-in_new : goal.is_same_entry-requires-clause-in_new
-is_same_entry-requires-clause-in_new g c = rw (c.requires.new_tree, leaves_count g.D.SupportedDigest.digest _, entries_count g.V.VisitBytes.bytes c.args.new.now) (omega arith)
+is_same_entry-requires-clause-in_new g c = rw (
+  c.requires.new_tree,
+  leaves_count g.D.SupportedDigest.digest _,
+  entries_count g.V.VisitBytes.bytes c.args.new.now,
+) (omega arith)

@@ -9,7 +9,18 @@ grown-requires-clause-depth g c = omega (arith, c.requires.height)
 pub forked-requires : goal.forked-requires
 forked-requires g c =
     let p = put_new c.args.from c.args.len c.args.far.items _ _ c.requires.some c.in_ok-far.ensures in
-    record { heights = (omega (arith, p.0, c.requires.height), c.requires.height); hold = (c.requires.hold, p.1); fits = omega (arith, p.2, c.requires.fits) }
+    record {
+      heights = (omega (arith, p.0, c.requires.height), c.requires.height);
+      hold = (c.requires.hold, p.1);
+      fits = omega (arith, p.2, c.requires.fits);
+    }
 
 pub returns : goal.returns
-returns g c = IfOk-weaker c.forked.result _ _ (λ r e. record { link = c.in_ok-far.far.link; fresh = c.in_ok-far.far.fresh; put = c.in_ok-far.ensures; link_is = ap (λ x. x.link) e; fresh_is = ap (λ x. x.fresh) e }) c.forked.ensures
+returns g c = IfOk-weaker c.forked.result _ _
+    (λ r e. record {
+      link = c.in_ok-far.far.link;
+      fresh = c.in_ok-far.far.fresh;
+      put = c.in_ok-far.ensures;
+      link_is = ap (λ x. x.link) e;
+      fresh_is = ap (λ x. x.fresh) e;
+    }) c.forked.ensures

@@ -4,7 +4,11 @@ use Rattle.warg_map.proofs.TreeForm.{splits_join}
 use Rattle.warg_map.proofs.grown.Filled.forked.Goals as goal
 
 pub beside-requires : goal.beside-requires
-beside-requires g c = record { heights = (c.requires.heights.0, omega (arith, c.requires.heights.1)); hold = c.requires.hold; fits = c.requires.fits }
+beside-requires g c = record {
+  heights = (c.requires.heights.0, omega (arith, c.requires.heights.1));
+  hold = c.requires.hold;
+  fits = c.requires.fits;
+}
 
 pub with_stem-requires : goal.with_stem-requires
 with_stem-requires g c =

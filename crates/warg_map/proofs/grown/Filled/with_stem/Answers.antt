@@ -7,7 +7,8 @@ use Rattle.warg_map.proofs.grown.Filled.with_stem.Goals as goal
 use Rattle.warg_map.proofs.grown.Filled.with_stem.Goals.{In_ok-new}
 
 -- the stem
-stem : (g : _) (c : In_ok-new g) → IsStemOver c.in_ok-new.field-0.value (c.args.self.link.0 + c.args.len) (under (bits_from c.args.key.now c.args.from c.args.len) c.args.self.link.1)
+stem : (g : _) (c : In_ok-new g) → IsStemOver c.in_ok-new.field-0.value (c.args.self.link.0 + c.args.len)
+    (under (bits_from c.args.key.now c.args.from c.args.len) c.args.self.link.1)
 stem g c = rw c.in_ok-new.ensures.ok c.in_ok-stem.ensures
 
 pub returns-then-len-eq0 : goal.returns-then-len-eq0

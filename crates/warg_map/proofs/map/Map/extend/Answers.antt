@@ -6,7 +6,11 @@ use Rattle.warg_map.proofs.map.Map.extend.Goals as goal
 
 pub returns-in_default-clause-ok : goal.returns-in_default-clause-ok
 unfolding inserted
-returns-in_default-clause-ok g c = ([], (c.next.new.self, (c.args.iter, refl, c.in_default.ensures.steps)), c.in_ok-clone.ensures.cases)
+returns-in_default-clause-ok g c = (
+  [],
+  (c.next.new.self, (c.args.iter, refl, c.in_default.ensures.steps)),
+  c.in_ok-clone.ensures.cases,
+)
 
 pub returns-in_err-insert-clause-full : goal.returns-in_err-insert-clause-full
 unfolding inserted
@@ -40,7 +44,8 @@ pub returns-then-len-clause-at_once : goal.returns-then-len-clause-at_once
 returns-then-len-clause-at_once g c = λ full _. absurd (omega (arith, full, c.len-len.ensures, c.if-len.true))
 
 pub returns-in_err-extended_at_once-clause-at_once : goal.returns-in_err-extended_at_once-clause-at_once
-returns-in_err-extended_at_once-clause-at_once g c = λ full _. absurd (omega (arith, full, c.len-len.ensures, c.if-len.true))
+returns-in_err-extended_at_once-clause-at_once g c =
+    λ full _. absurd (omega (arith, full, c.len-len.ensures, c.if-len.true))
 
 pub returns-in_default-clause-at_once : goal.returns-in_default-clause-at_once
 returns-in_default-clause-at_once g c = λ _ new. absurd (new _ _ c.in_default.ensures.steps)
@@ -49,7 +54,8 @@ pub returns-in_err-clone-clause-at_once : goal.returns-in_err-clone-clause-at_on
 returns-in_err-clone-clause-at_once g c = λ _ new. absurd (new _ _ c.in_default.ensures.steps)
 
 pub returns-clause-at_once : goal.returns-clause-at_once
-returns-clause-at_once g c = λ full new. absurd (cc (c.in_ok-insert.ensures.full.1 (full, new _ _ c.in-Some.ensures.steps)))
+returns-clause-at_once g c = λ full new. absurd
+    (cc (c.in_ok-insert.ensures.full.1 (full, new _ _ c.in-Some.ensures.steps)))
 
 pub extended_at_once-requires-clause-can : goal.extended_at_once-requires-clause-can
 extended_at_once-requires-clause-can g c = c.requires.can

@@ -11,12 +11,17 @@ use Rattle.warg_map.proofs.map.Map.insert_with_proof.Goals as goal
 pub returns-clause-ok : goal.returns-clause-ok
 returns-clause-ok g c =
     let found = ap (λ m. get m (last_bits c.of-key.result 256)) c.in_ok-map.ensures.ok ∙ get-insert_same _ _ _ in
-    let shown = rw found at c.in_ok-proof.ensures.proof (ap is_some (c.in_ok-proof.ensures.answer ∙ ap (answer_of g.D.SupportedDigest.digest Presence) found)) in
+    let shown = rw found at c.in_ok-proof.ensures.proof
+    (ap is_some (c.in_ok-proof.ensures.answer ∙ ap (answer_of g.D.SupportedDigest.digest Presence) found)) in
     let proves = rw (c.in_ok-map.ensures.ok, c.of-key.ensures, c.hash_leaf.ensures) at shown in
     record {
       inserted = rw (c.of-key.ensures, c.hash_leaf.ensures) at c.in_ok-map.ensures.ok;
       proves = rw c.of-key.ensures at shown;
-      before = root_before g.D.SupportedDigest.digest c.args.self.now _ _ c.in_ok-proof.proof (length-last_bits _ 256) proves;
-      after = rw (c.in_ok-map.ensures.ok, c.of-key.ensures, c.hash_leaf.ensures) (root_after g.D.SupportedDigest.digest c.args.self.now _ _ c.in_ok-proof.proof (length-last_bits _ 256) proves);
-      newness = rw (c.len.ensures, c.len-2.ensures, ← c.of-key.ensures) (grows c.args.self.now c.in_ok-map.map (last_bits c.of-key.result 256) _ c.in_ok-map.ensures.ok);
+      before = root_before g.D.SupportedDigest.digest c.args.self.now _ _ c.in_ok-proof.proof
+          (length-last_bits _ 256) proves;
+      after = rw (c.in_ok-map.ensures.ok, c.of-key.ensures, c.hash_leaf.ensures)
+          (root_after g.D.SupportedDigest.digest c.args.self.now _ _ c.in_ok-proof.proof
+          (length-last_bits _ 256) proves);
+      newness = rw (c.len.ensures, c.len-2.ensures, ← c.of-key.ensures)
+          (grows c.args.self.now c.in_ok-map.map (last_bits c.of-key.result 256) _ c.in_ok-map.ensures.ok);
     }

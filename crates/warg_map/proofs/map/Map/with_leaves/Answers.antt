@@ -9,5 +9,6 @@ invariant_of-result g c =
     let new = c.in_ok-grown.ensures.seen in (
       ap (λ d. d.0) new,
       ap (λ n. n + c.in_ok-grown.grown.fresh) c.self.invariant.1 ∙ c.in_ok-grown.ensures.count,
-      subst (λ (m : SparseMap). HasLevels 256 m) (sym (ap (λ d. d.1) new)) (levels-with_leaves c.self.inside.link.1 es c.self.invariant.2),
+      subst (λ (m : SparseMap). HasLevels 256 m) (sym (ap (λ d. d.1) new))
+          (levels-with_leaves c.self.inside.link.1 es c.self.invariant.2),
     )

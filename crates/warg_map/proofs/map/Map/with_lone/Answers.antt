@@ -6,7 +6,8 @@ use Rattle.warg_map.proofs.map.Map.with_lone.Goals as goal
 use Rattle.warg_map.proofs.map.Map.with_lone.Goals.{After-push_reserved}
 
 -- one leaf alone
-put : (g : _) (c : After-push_reserved g) → with_leaves 256 c.args.self.now c.push_reserved.new.self.items ≡ insert c.args.self.now (last_bits c.args.lone.key 256) c.args.lone.value
+put : (g : _) (c : After-push_reserved g) → with_leaves 256 c.args.self.now c.push_reserved.new.self.items
+    ≡ insert c.args.self.now (last_bits c.args.lone.key 256) c.args.lone.value
 unfolding with_leaves
 put g c = rw (c.push_reserved.ensures.items, c.in_ok-leaves.ensures.items)
 

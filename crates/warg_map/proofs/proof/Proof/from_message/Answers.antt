@@ -16,7 +16,8 @@ too_many peers h = rw (lt-leb (length peers) 256 h) refl
 no_fault : (peers : Peers) → length peers ≤ 256 → first_fault peer_fault peers ≡ None → proof_in peers ≡ Ok peers
 no_fault peers h none = rw (le-leb (length peers) 256 h, none) refl
 
-some_fault : (peers : Peers) (e : DecodeError) → length peers ≤ 256 → (e ≡ Memory) ⊎ ((e ≡ HashLength) × (first_fault peer_fault peers ≡ Some e)) → (e ≡ Memory) ⊎ (proof_in peers ≡ Err e)
+some_fault : (peers : Peers) (e : DecodeError) → length peers ≤ 256 → (e ≡ Memory)
+    ⊎ ((e ≡ HashLength) × (first_fault peer_fault peers ≡ Some e)) → (e ≡ Memory) ⊎ (proof_in peers ≡ Err e)
 some_fault peers e h (inl memory) = inl memory
 some_fault peers e h (inr fault) = inr (rw (le-leb (length peers) 256 h, fault.1) refl)
 
@@ -26,13 +27,15 @@ not_wire e wire P (inr fault) is = let h = fault.0 in cc
 
 pub returns-then-len-gt-MOST_PEERS : goal.returns-then-len-gt-MOST_PEERS
 returns-then-len-gt-MOST_PEERS g c =
-    let many : 256 < length (map hash_view c.args.message.hashes.items) = rw length-map (omega (arith, c.len.ensures, c.if-len-gt-MOST_PEERS.true)) in
+    let many : 256 < length (map hash_view c.args.message.hashes.items) =
+    rw length-map (omega (arith, c.len.ensures, c.if-len-gt-MOST_PEERS.true)) in
     record { exact = inr (too_many _ many); most = λ _. refl; message = tt; wire = λ e is. absurd (cc) }
 
 pub returns-in_err-peers : goal.returns-in_err-peers
 returns-in_err-peers g c =
     let p = err_from_is_err_and c.from_residual.result c.from_residual.ensures.1 in
-    let few : length (map hash_view c.args.message.hashes.items) ≤ 256 = rw length-map (omega (arith, c.len.ensures, c.if-len-gt-MOST_PEERS.false)) in
+    let few : length (map hash_view c.args.message.hashes.items) ≤ 256 =
+    rw length-map (omega (arith, c.len.ensures, c.if-len-gt-MOST_PEERS.false)) in
     rw (p.1, p.2) (record {
       exact = some_fault _ _ few c.in_err-peers.ensures.fault;
       most = λ many. absurd (omega (arith, many, few));
@@ -42,7 +45,8 @@ returns-in_err-peers g c =
 
 pub returns : goal.returns
 returns g c =
-    let few : length (map hash_view c.args.message.hashes.items) ≤ 256 = rw length-map (omega (arith, c.len.ensures, c.if-len-gt-MOST_PEERS.false)) in
+    let few : length (map hash_view c.args.message.hashes.items) ≤ 256 =
+    rw length-map (omega (arith, c.len.ensures, c.if-len-gt-MOST_PEERS.false)) in
     record {
       exact = rw (c.new.ensures, c.in_ok-peers.ensures.ok) (no_fault _ few c.in_ok-peers.ensures.good);
       most = λ many. absurd (omega (arith, many, few));
@@ -51,4 +55,5 @@ returns g c =
     }
 
 pub new-requires : goal.new-requires
-new-requires g c = rw (c.in_ok-peers.ensures.ok, length-map) (omega (arith, c.len.ensures, c.if-len-gt-MOST_PEERS.false))
+new-requires g c = rw (c.in_ok-peers.ensures.ok, length-map)
+    (omega (arith, c.len.ensures, c.if-len-gt-MOST_PEERS.false))

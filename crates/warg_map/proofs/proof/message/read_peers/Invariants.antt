@@ -10,5 +10,6 @@ invariant-hashes g l = record {
   can : (goal.iterator-hashes g).can_next l.hash-iterator;
   ends : (goal.iterator-hashes g).is_finite l.hash-iterator;
   read : l.peers.items ++ map hash_view (into_iter_items l.hash-iterator) ≡ map hash_view l.fn.hashes.items;
-  fault : first_fault peer_fault (map hash_view l.fn.hashes.items) ≡ first_fault peer_fault (map hash_view (into_iter_items l.hash-iterator));
+  fault : first_fault peer_fault (map hash_view l.fn.hashes.items) ≡ first_fault peer_fault
+      (map hash_view (into_iter_items l.hash-iterator));
 }

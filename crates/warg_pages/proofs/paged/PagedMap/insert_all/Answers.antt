@@ -15,7 +15,8 @@ pub returns-then-is_empty-clause-pages : goal.returns-then-is_empty-clause-pages
 returns-then-is_empty-clause-pages g c = λ old own.
     let H = g.D.SupportedDigest.digest in
     let more = pair_bytes g.K.VisitBytes.bytes g.V.VisitBytes.bytes c.args.insertions.now in
-    let none : length more ≡ 0 = length-map c.args.insertions.now _ ∙ eqb-true (length c.args.insertions.now) 0 (sym c.is_empty.ensures ∙ c.if-is_empty.true) in
+    let none : length more ≡ 0 = length-map c.args.insertions.now _ ∙ eqb-true (length c.args.insertions.now) 0
+    (sym c.is_empty.ensures ∙ c.if-is_empty.true) in
     none_changed H old more c.new-changed.result.items none c.new-changed.ensures.items
 
 -- the first page, which the insertions change

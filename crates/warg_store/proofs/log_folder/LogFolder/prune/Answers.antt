@@ -14,11 +14,14 @@ pub returns-clause-pruned : goal.returns-clause-pruned
 returns-clause-pruned g c = λ faithful. on_ok_weaker c.prune_all.result
     (λ done served old next has.
     let inside = subst (Has g.F.Folder.seen g.F.Folder.may_leave served old next) (sym c.self.view_is) has in
-    let kept : c.length-kept.result ≡ length old.entries = c.length-kept.ensures ∙ c.checkpoint.ensures.length ∙ ap (λ (x : Said). x.length) has.text in
-    let run = subst (λ n. LeavesOnly g.F.Folder.moment g.F.Folder.left_since c.self.inside.folder c.prune_all.new.folder (IsPruning n (length served.entries) (g.F.Folder.seen c.self.inside.folder))) kept
+    let kept : c.length-kept.result ≡ length old.entries = c.length-kept.ensures ∙ c.checkpoint.ensures.length
+    ∙ ap (λ (x : Said). x.length) has.text in
+    let run = subst (λ n. LeavesOnly g.F.Folder.moment g.F.Folder.left_since c.self.inside.folder c.prune_all.new.folder
+    (IsPruning n (length served.entries) (g.F.Folder.seen c.self.inside.folder))) kept
     (c.prune_all.ensures.any_moment faithful served old inside.keeps inside.staging) in
     let last = run.each (g.F.Folder.seen c.prune_all.new.folder)
-    (g.met.F.Folder.counts_now c.prune_all.new.folder (g.F.Folder.moment c.self.inside.folder) (g.F.Folder.seen c.prune_all.new.folder) run.later (g.met.F.Folder.seen_may_stay c.prune_all.new.folder)) in
+    (g.met.F.Folder.counts_now c.prune_all.new.folder (g.F.Folder.moment c.self.inside.folder)
+    (g.F.Folder.seen c.prune_all.new.folder) run.later (g.met.F.Folder.seen_may_stay c.prune_all.new.folder)) in
     prune_has g.F.Folder.seen g.F.Folder.may_leave served old next
     (record {
       folder = c.self.inside.folder;
@@ -34,20 +37,30 @@ returns-clause-pruned g c = λ faithful. on_ok_weaker c.prune_all.result
 pub returns-clause-any_moment : goal.returns-clause-any_moment
 returns-clause-any_moment g c = λ faithful served old next has.
     let inside = subst (Has g.F.Folder.seen g.F.Folder.may_leave served old next) (sym c.self.view_is) has in
-    let kept : c.length-kept.result ≡ length old.entries = c.length-kept.ensures ∙ c.checkpoint.ensures.length ∙ ap (λ (x : Said). x.length) has.text in
-    let run = subst (λ n. LeavesOnly g.F.Folder.moment g.F.Folder.left_since c.self.inside.folder c.prune_all.new.folder (IsPruning n (length served.entries) (g.F.Folder.seen c.self.inside.folder))) kept
+    let kept : c.length-kept.result ≡ length old.entries = c.length-kept.ensures ∙ c.checkpoint.ensures.length
+    ∙ ap (λ (x : Said). x.length) has.text in
+    let run = subst (λ n. LeavesOnly g.F.Folder.moment g.F.Folder.left_since c.self.inside.folder c.prune_all.new.folder
+    (IsPruning n (length served.entries) (g.F.Folder.seen c.self.inside.folder))) kept
     (c.prune_all.ensures.any_moment faithful served old inside.keeps inside.staging) in
-    subst (λ (l : LogIn g.row.F.Denot). LeavesOnly g.F.Folder.moment g.F.Folder.left_since l.folder c.prune_all.new.folder (IsOneOf served old old)) c.self.view_is
-    (weaker g.F.Folder.moment g.F.Folder.left_since c.self.inside.folder c.prune_all.new.folder (IsPruning (length old.entries) (length served.entries) (g.F.Folder.seen c.self.inside.folder)) (IsOneOf served old old) run
+    subst (λ (l : LogIn g.row.F.Denot). LeavesOnly g.F.Folder.moment g.F.Folder.left_since l.folder
+    c.prune_all.new.folder (IsOneOf served old old)) c.self.view_is
+    (weaker g.F.Folder.moment g.F.Folder.left_since c.self.inside.folder c.prune_all.new.folder
+    (IsPruning (length old.entries) (length served.entries) (g.F.Folder.seen c.self.inside.folder))
+    (IsOneOf served old old) run
     (λ e was. pruned_moment served old (g.F.Folder.seen c.self.inside.folder) inside.keeps e was))
 
 pub returns-clause-only : goal.returns-clause-only
 returns-clause-only g c = λ faithful served old next has.
     let inside = subst (Has g.F.Folder.seen g.F.Folder.may_leave served old next) (sym c.self.view_is) has in
-    let kept : c.length-kept.result ≡ length old.entries = c.length-kept.ensures ∙ c.checkpoint.ensures.length ∙ ap (λ (x : Said). x.length) has.text in
-    let run = subst (λ n. LeavesOnly g.F.Folder.moment g.F.Folder.left_since c.self.inside.folder c.prune_all.new.folder (IsPruning n (length served.entries) (g.F.Folder.seen c.self.inside.folder))) kept
+    let kept : c.length-kept.result ≡ length old.entries = c.length-kept.ensures ∙ c.checkpoint.ensures.length
+    ∙ ap (λ (x : Said). x.length) has.text in
+    let run = subst (λ n. LeavesOnly g.F.Folder.moment g.F.Folder.left_since c.self.inside.folder c.prune_all.new.folder
+    (IsPruning n (length served.entries) (g.F.Folder.seen c.self.inside.folder))) kept
     (c.prune_all.ensures.any_moment faithful served old inside.keeps inside.staging) in
     let last = run.each (g.F.Folder.seen c.prune_all.new.folder)
-    (g.met.F.Folder.counts_now c.prune_all.new.folder (g.F.Folder.moment c.self.inside.folder) (g.F.Folder.seen c.prune_all.new.folder) run.later (g.met.F.Folder.seen_may_stay c.prune_all.new.folder)) in
-    subst (λ (l : LogIn g.row.F.Denot). IsPruned (length old.entries) (length served.entries) (g.F.Folder.seen l.folder) (g.F.Folder.seen c.prune_all.new.folder)) c.self.view_is
-    (served_pruned (length old.entries) (length served.entries) (g.F.Folder.seen c.self.inside.folder) (g.F.Folder.seen c.prune_all.new.folder) last)
+    (g.met.F.Folder.counts_now c.prune_all.new.folder (g.F.Folder.moment c.self.inside.folder)
+    (g.F.Folder.seen c.prune_all.new.folder) run.later (g.met.F.Folder.seen_may_stay c.prune_all.new.folder)) in
+    subst (λ (l : LogIn g.row.F.Denot). IsPruned (length old.entries) (length served.entries) (g.F.Folder.seen l.folder)
+    (g.F.Folder.seen c.prune_all.new.folder)) c.self.view_is
+    (served_pruned (length old.entries) (length served.entries) (g.F.Folder.seen c.self.inside.folder)
+    (g.F.Folder.seen c.prune_all.new.folder) last)

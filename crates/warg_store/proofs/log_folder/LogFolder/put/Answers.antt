@@ -19,7 +19,8 @@ parts_in next slice tiles same =
 
 -- staging in a log's folder, and a commit of all that is staged behind it
 module _ {F : Type 0} (moment : F → ℕ) (left_since : F → ℕ → Files → Type 0) (may_leave : F → Files → Type 0)
-    (seen : F → Files) (counts : (folder : F) (t : ℕ) (c : Files) → t ≤ moment folder → may_leave folder c → left_since folder t c)
+    (seen : F → Files) (counts : (folder : F) (t : ℕ) (c : Files) → t ≤ moment folder → may_leave folder c
+    → left_since folder t c)
     (stays : (folder : F) → may_leave folder (seen folder)) where
   staged_committing : (served old next : LogOf) (first last : F) (l m : LogIn F) → m ≡ l → Keeps served old (seen first)
       → LeavesOnly moment left_since first l.folder (IsBeside (seen first)) → HasAll seen may_leave served old next l

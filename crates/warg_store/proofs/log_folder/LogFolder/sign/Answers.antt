@@ -12,41 +12,58 @@ use Rattle.warg_store.proofs.log_folder.LogFolder.sign.Goals as goal
 
 pub returns-then-note-gt-MOST_TEXT-clause-any_moment : goal.returns-then-note-gt-MOST_TEXT-clause-any_moment
 returns-then-note-gt-MOST_TEXT-clause-any_moment g c = λ faithful served old next has.
-    unsigned g.F.Folder.seen g.F.Folder.may_leave g.F.Folder.moment g.F.Folder.left_since served old next c.args.self.now (g.met.F.Folder.only_now c.args.self.now.folder) has
+    unsigned g.F.Folder.seen g.F.Folder.may_leave g.F.Folder.moment g.F.Folder.left_since served old next
+    c.args.self.now (g.met.F.Folder.only_now c.args.self.now.folder) has
 
 pub returns-in_err-text-clause-any_moment : goal.returns-in_err-text-clause-any_moment
 returns-in_err-text-clause-any_moment g c = λ faithful served old next has.
-    unsigned g.F.Folder.seen g.F.Folder.may_leave g.F.Folder.moment g.F.Folder.left_since served old next c.args.self.now (g.met.F.Folder.only_now c.args.self.now.folder) has
+    unsigned g.F.Folder.seen g.F.Folder.may_leave g.F.Folder.moment g.F.Folder.left_since served old next
+    c.args.self.now (g.met.F.Folder.only_now c.args.self.now.folder) has
 
 pub returns-then-not-is_signed_note-clause-any_moment : goal.returns-then-not-is_signed_note-clause-any_moment
 returns-then-not-is_signed_note-clause-any_moment g c = λ faithful served old next has.
-    unsigned g.F.Folder.seen g.F.Folder.may_leave g.F.Folder.moment g.F.Folder.left_since served old next c.args.self.now (g.met.F.Folder.only_now c.args.self.now.folder) has
+    unsigned g.F.Folder.seen g.F.Folder.may_leave g.F.Folder.moment g.F.Folder.left_since served old next
+    c.args.self.now (g.met.F.Folder.only_now c.args.self.now.folder) has
 
 pub returns-in_err-replace-clause-any_moment : goal.returns-in_err-replace-clause-any_moment
 returns-in_err-replace-clause-any_moment g c = λ faithful served old next has.
     let inside = subst (Has g.F.Folder.seen g.F.Folder.may_leave served old next) (sym c.self.view_is) has in
-    let says : c.as_slice.result.now ≡ checkpoint_of old = c.as_slice.ensures.value ∙ c.in_ok-text.ensures ∙ ap text_of has.text in
-    let note : IsNoteOf (checkpoint_of old) c.args.note.now = subst (λ (b : List ℕ). IsNoteOf b c.args.note.now) says (c.is_signed_note.ensures.0 c.if-not-is_signed_note.false) in
-    subst (λ (l : LogIn g.row.F.Denot). LeavesOnly g.F.Folder.moment g.F.Folder.left_since l.folder c.replace.new.self (IsOneOf served old old)) c.self.view_is
+    let says : c.as_slice.result.now ≡ checkpoint_of old = c.as_slice.ensures.value ∙ c.in_ok-text.ensures
+    ∙ ap text_of has.text in
+    let note : IsNoteOf (checkpoint_of old) c.args.note.now = subst (λ (b : List ℕ). IsNoteOf b c.args.note.now) says
+    (c.is_signed_note.ensures.0 c.if-not-is_signed_note.false) in
+    subst (λ (l : LogIn g.row.F.Denot). LeavesOnly g.F.Folder.moment g.F.Folder.left_since l.folder c.replace.new.self
+    (IsOneOf served old old)) c.self.view_is
     (begins _ _ _ _ _ _ (g.met.F.Folder.only_now c.self.inside.folder) (c.replace.ensures.time faithful)
-    (λ e left. beside_one_of served old old (g.F.Folder.seen c.self.inside.folder) e inside.keeps (inside.staging e left))
-    (sign_moment c.args.note.now (g.F.Folder.seen c.self.inside.folder) served old (g.F.Folder.may_leave c.self.inside.folder) (g.F.Folder.may_leave c.replace.new.self) note inside.keeps (c.replace.ensures.crash faithful) inside.staging))
+    (λ e left. beside_one_of served old old (g.F.Folder.seen c.self.inside.folder) e inside.keeps
+    (inside.staging e left))
+    (sign_moment c.args.note.now (g.F.Folder.seen c.self.inside.folder) served old
+    (g.F.Folder.may_leave c.self.inside.folder) (g.F.Folder.may_leave c.replace.new.self) note inside.keeps
+    (c.replace.ensures.crash faithful) inside.staging))
 
 pub returns-clause-any_moment : goal.returns-clause-any_moment
 returns-clause-any_moment g c = λ faithful served old next has.
     let inside = subst (Has g.F.Folder.seen g.F.Folder.may_leave served old next) (sym c.self.view_is) has in
-    let says : c.as_slice.result.now ≡ checkpoint_of old = c.as_slice.ensures.value ∙ c.in_ok-text.ensures ∙ ap text_of has.text in
-    let note : IsNoteOf (checkpoint_of old) c.args.note.now = subst (λ (b : List ℕ). IsNoteOf b c.args.note.now) says (c.is_signed_note.ensures.0 c.if-not-is_signed_note.false) in
-    subst (λ (l : LogIn g.row.F.Denot). LeavesOnly g.F.Folder.moment g.F.Folder.left_since l.folder c.replace.new.self (IsOneOf served old old)) c.self.view_is
+    let says : c.as_slice.result.now ≡ checkpoint_of old = c.as_slice.ensures.value ∙ c.in_ok-text.ensures
+    ∙ ap text_of has.text in
+    let note : IsNoteOf (checkpoint_of old) c.args.note.now = subst (λ (b : List ℕ). IsNoteOf b c.args.note.now) says
+    (c.is_signed_note.ensures.0 c.if-not-is_signed_note.false) in
+    subst (λ (l : LogIn g.row.F.Denot). LeavesOnly g.F.Folder.moment g.F.Folder.left_since l.folder c.replace.new.self
+    (IsOneOf served old old)) c.self.view_is
     (begins _ _ _ _ _ _ (g.met.F.Folder.only_now c.self.inside.folder) (c.replace.ensures.time faithful)
-    (λ e left. beside_one_of served old old (g.F.Folder.seen c.self.inside.folder) e inside.keeps (inside.staging e left))
-    (sign_moment c.args.note.now (g.F.Folder.seen c.self.inside.folder) served old (g.F.Folder.may_leave c.self.inside.folder) (g.F.Folder.may_leave c.replace.new.self) note inside.keeps (c.replace.ensures.crash faithful) inside.staging))
+    (λ e left. beside_one_of served old old (g.F.Folder.seen c.self.inside.folder) e inside.keeps
+    (inside.staging e left))
+    (sign_moment c.args.note.now (g.F.Folder.seen c.self.inside.folder) served old
+    (g.F.Folder.may_leave c.self.inside.folder) (g.F.Folder.may_leave c.replace.new.self) note inside.keeps
+    (c.replace.ensures.crash faithful) inside.staging))
 
 pub returns-clause-signed : goal.returns-clause-signed
 returns-clause-signed g c = λ faithful served old next has.
     let inside = subst (Has g.F.Folder.seen g.F.Folder.may_leave served old next) (sym c.self.view_is) has in
-    let says : c.as_slice.result.now ≡ checkpoint_of old = c.as_slice.ensures.value ∙ c.in_ok-text.ensures ∙ ap text_of has.text in
-    let note : IsNoteOf (checkpoint_of old) c.args.note.now = subst (λ (b : List ℕ). IsNoteOf b c.args.note.now) says (c.is_signed_note.ensures.0 c.if-not-is_signed_note.false) in
+    let says : c.as_slice.result.now ≡ checkpoint_of old = c.as_slice.ensures.value ∙ c.in_ok-text.ensures
+    ∙ ap text_of has.text in
+    let note : IsNoteOf (checkpoint_of old) c.args.note.now = subst (λ (b : List ℕ). IsNoteOf b c.args.note.now) says
+    (c.is_signed_note.ensures.0 c.if-not-is_signed_note.false) in
     sign_has g.F.Folder.seen g.F.Folder.may_leave served old next
     (record {
       folder = c.self.inside.folder;
@@ -56,10 +73,14 @@ returns-clause-signed g c = λ faithful served old next has.
       bundle = c.self.inside.bundle.items;
       held = c.self.inside.held;
     })
-    c.replace.new.self c.args.note.now note (c.in_ok-replace.ensures.replaced faithful) (c.in_ok-replace.ensures.durable faithful) inside
+    c.replace.new.self c.args.note.now note (c.in_ok-replace.ensures.replaced faithful)
+    (c.in_ok-replace.ensures.durable faithful) inside
 
 pub returns-clause-ready : goal.returns-clause-ready
 returns-clause-ready g c = λ faithful was opened.
-    let before = subst (λ (l : LogIn g.row.F.Denot). l.is_open ≡ true → IsStaging (g.F.Folder.seen l.folder) (g.F.Folder.may_leave l.folder)) (sym c.self.view_is) was opened in
-    subst (λ (f : Files). IsStaging f (g.F.Folder.may_leave c.replace.new.self)) (sym (c.in_ok-replace.ensures.replaced faithful))
-    (sign_staging c.args.note.now (g.F.Folder.seen c.self.inside.folder) (g.F.Folder.may_leave c.self.inside.folder) (g.F.Folder.may_leave c.replace.new.self) (c.in_ok-replace.ensures.durable faithful) before)
+    let before = subst (λ (l : LogIn g.row.F.Denot). l.is_open ≡ true
+    → IsStaging (g.F.Folder.seen l.folder) (g.F.Folder.may_leave l.folder)) (sym c.self.view_is) was opened in
+    subst (λ (f : Files). IsStaging f (g.F.Folder.may_leave c.replace.new.self))
+    (sym (c.in_ok-replace.ensures.replaced faithful))
+    (sign_staging c.args.note.now (g.F.Folder.seen c.self.inside.folder) (g.F.Folder.may_leave c.self.inside.folder)
+    (g.F.Folder.may_leave c.replace.new.self) (c.in_ok-replace.ensures.durable faithful) before)

@@ -18,45 +18,74 @@ use Rattle.warg_store.proofs.log_folder.LogFolder.stage_edge.Goals as goal
 pub returns-then-self-eq0-clause-staged : goal.returns-then-self-eq0-clause-staged
 returns-then-self-eq0-clause-staged g c = λ faithful served old next has new own.
     let l = c.make_room.new.self in
-    let older : c.length-older.result ≡ c.make_room.new.self.text.length = c.length-older.ensures ∙ c.checkpoint.ensures.length ∙ ap (λ (l : LogIn g.row.F.Denot). l.text.length) c.self.view_is in
+    let older : c.length-older.result ≡ c.make_room.new.self.text.length = c.length-older.ensures
+    ∙ c.checkpoint.ensures.length ∙ ap (λ (l : LogIn g.row.F.Denot). l.text.length) c.self.view_is in
     let tiles : Tiles = map (λ (t : StoredTile Sha256 Global). (t.tile, t.digests.items)) c.args.tiles.now in
-    has_all g.F.Folder.seen g.F.Folder.may_leave served old next c.make_room.new.self _ tiles (c.in_ok-make_room.ensures.has faithful served old next has) c.in_ok-make_room.ensures.room
+    has_all g.F.Folder.seen g.F.Folder.may_leave served old next c.make_room.new.self _ tiles
+    (c.in_ok-make_room.ensures.has faithful served old next has) c.in_ok-make_room.ensures.room
     (omega (arith, new, ap (λ (s : Said). s.length) c.make_room.ensures.same.text, c.make_room.ensures.same.length))
-    (subst (λ (e : RightEdge). e.len ≤ 2 ^ 63) (ap (λ (l : LogIn g.row.F.Denot). l.edge) c.self.view_is) c.length-number.ensures.fits) own
-    (ap (λ (l : LogIn g.row.F.Denot). l.is_open) c.self.view_is) (ap (λ (l : LogIn g.row.F.Denot). l.edge) c.self.view_is)
-    (ap (λ (l : LogIn g.row.F.Denot). l.bundle) c.self.view_is) (ap (λ (l : LogIn g.row.F.Denot). l.held) c.self.view_is)
+    (subst (λ (e : RightEdge). e.len ≤ 2 ^ 63) (ap (λ (l : LogIn g.row.F.Denot). l.edge) c.self.view_is)
+    c.length-number.ensures.fits) own
+    (ap (λ (l : LogIn g.row.F.Denot). l.is_open) c.self.view_is)
+    (ap (λ (l : LogIn g.row.F.Denot). l.edge) c.self.view_is)
+    (ap (λ (l : LogIn g.row.F.Denot). l.bundle) c.self.view_is)
+    (ap (λ (l : LogIn g.row.F.Denot). l.held) c.self.view_is)
     (inl (
       sym (ap (λ (l : LogIn g.row.F.Denot). l.held) c.self.view_is) ∙ c.if-self-eq0.true,
       c.in_ok-stage_tiles.ensures.staged faithful
           ∙ ap (λ n. staged_all (new_files n tiles) (g.F.Folder.seen c.self.inside.folder)) older
-          ∙ ap (λ (f : Files). staged_all (new_files c.make_room.new.self.text.length tiles) f) (ap (λ (l : LogIn g.row.F.Denot). g.F.Folder.seen l.folder) c.self.view_is),
+          ∙ ap (λ (f : Files). staged_all (new_files c.make_room.new.self.text.length tiles) f)
+          (ap (λ (l : LogIn g.row.F.Denot). g.F.Folder.seen l.folder) c.self.view_is),
     ))
     (c.stage_tiles.ensures.staging faithful)
 
 pub returns-clause-staged : goal.returns-clause-staged
 returns-clause-staged g c = λ faithful.
-    let older : c.length-older.result ≡ c.make_room.new.self.text.length = c.length-older.ensures ∙ c.checkpoint.ensures.length ∙ ap (λ (l : LogIn g.row.F.Denot). l.text.length) c.self.view_is in
+    let older : c.length-older.result ≡ c.make_room.new.self.text.length = c.length-older.ensures
+    ∙ c.checkpoint.ensures.length ∙ ap (λ (l : LogIn g.row.F.Denot). l.text.length) c.self.view_is in
     let tiles : Tiles = map (λ (t : StoredTile Sha256 Global). (t.tile, t.digests.items)) c.args.tiles.now in
-    let held : c.self.inside.held ≡ c.make_room.new.self.held = ap (λ (l : LogIn g.row.F.Denot). l.held) c.self.view_is in
+    let held : c.self.inside.held ≡ c.make_room.new.self.held =
+    ap (λ (l : LogIn g.row.F.Denot). l.held) c.self.view_is in
     let tile : c.new-tile.result ≡ last_bundle (c.make_room.new.self.edge.len / 256) c.make_room.new.self.held =
-    same_tile c.new-tile.result (last_bundle (c.make_room.new.self.edge.len / 256) c.make_room.new.self.held) c.new-tile.ensures.level
-    (omega (arith, c.new-tile.ensures.number, c.length-number.ensures.value, ap (λ (l : LogIn g.row.F.Denot). l.edge.len) c.self.view_is)) (c.new-tile.ensures.width ∙ held) in
+    same_tile c.new-tile.result (last_bundle (c.make_room.new.self.edge.len / 256) c.make_room.new.self.held)
+    c.new-tile.ensures.level
+    (omega (
+      arith,
+      c.new-tile.ensures.number,
+      c.length-number.ensures.value,
+      ap (λ (l : LogIn g.row.F.Denot). l.edge.len) c.self.view_is,
+    )) (c.new-tile.ensures.width ∙ held) in
     on_ok_weaker c.stage_bundle.result
     (λ is served old next has new own.
-    has_all g.F.Folder.seen g.F.Folder.may_leave served old next c.make_room.new.self _ tiles (c.in_ok-make_room.ensures.has faithful served old next has) c.in_ok-make_room.ensures.room
+    has_all g.F.Folder.seen g.F.Folder.may_leave served old next c.make_room.new.self _ tiles
+    (c.in_ok-make_room.ensures.has faithful served old next has) c.in_ok-make_room.ensures.room
     (omega (arith, new, ap (λ (s : Said). s.length) c.make_room.ensures.same.text, c.make_room.ensures.same.length))
-    (subst (λ (e : RightEdge). e.len ≤ 2 ^ 63) (ap (λ (l : LogIn g.row.F.Denot). l.edge) c.self.view_is) c.length-number.ensures.fits) own
-    (ap (λ (l : LogIn g.row.F.Denot). l.is_open) c.self.view_is) (ap (λ (l : LogIn g.row.F.Denot). l.edge) c.self.view_is)
+    (subst (λ (e : RightEdge). e.len ≤ 2 ^ 63) (ap (λ (l : LogIn g.row.F.Denot). l.edge) c.self.view_is)
+    c.length-number.ensures.fits) own
+    (ap (λ (l : LogIn g.row.F.Denot). l.is_open) c.self.view_is)
+    (ap (λ (l : LogIn g.row.F.Denot). l.edge) c.self.view_is)
     (ap (λ (l : LogIn g.row.F.Denot). l.bundle) c.self.view_is) held
     (inr (
       omega (arith, c.if-self-eq0.false, held),
       is
-          ∙ ap (λ (t : TileAt). put (staged (entries_path t), c.as_slice.result.now) (g.F.Folder.seen c.stage_tiles.new.folder)) tile
-          ∙ ap (λ (b : List ℕ). put (staged (entries_path (last_bundle (c.make_room.new.self.edge.len / 256) c.make_room.new.self.held)), b) (g.F.Folder.seen c.stage_tiles.new.folder)) (c.as_slice.ensures.value ∙ ap (λ (l : LogIn g.row.F.Denot). l.bundle) c.self.view_is)
-          ∙ ap (put (staged (entries_path (last_bundle (c.make_room.new.self.edge.len / 256) c.make_room.new.self.held)), c.make_room.new.self.bundle))
+          ∙ ap (λ (t : TileAt). put (staged (entries_path t), c.as_slice.result.now)
+          (g.F.Folder.seen c.stage_tiles.new.folder)) tile
+          ∙ ap (λ (b : List ℕ). put (
+            staged
+                (entries_path (last_bundle (c.make_room.new.self.edge.len / 256) c.make_room.new.self.held)),
+            b,
+          )
+          (g.F.Folder.seen c.stage_tiles.new.folder))
+          (c.as_slice.ensures.value ∙ ap (λ (l : LogIn g.row.F.Denot). l.bundle) c.self.view_is)
+          ∙ ap (put (
+            staged (entries_path
+                (last_bundle (c.make_room.new.self.edge.len / 256) c.make_room.new.self.held)),
+            c.make_room.new.self.bundle,
+          ))
           (c.in_ok-stage_tiles.ensures.staged faithful
           ∙ ap (λ n. staged_all (new_files n tiles) (g.F.Folder.seen c.self.inside.folder)) older
-          ∙ ap (λ (f : Files). staged_all (new_files c.make_room.new.self.text.length tiles) f) (ap (λ (l : LogIn g.row.F.Denot). g.F.Folder.seen l.folder) c.self.view_is)),
+          ∙ ap (λ (f : Files). staged_all (new_files c.make_room.new.self.text.length tiles) f)
+          (ap (λ (l : LogIn g.row.F.Denot). g.F.Folder.seen l.folder) c.self.view_is)),
     ))
     (c.stage_bundle.ensures.staging faithful))
     (c.stage_bundle.ensures.staged faithful)

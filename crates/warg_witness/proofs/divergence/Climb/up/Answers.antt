@@ -10,7 +10,13 @@ returns g c = record {
   second_is = c.branch_beside-2.ensures;
   diverges = diverges_up c.args.right (omega arith) (elim c.if-eq.branch [
     | then-eq w ↦ inl (grind (arith, bytes_decides))
-    | else-eq+in-Branch-1 w ↦ inr (grind (arith, bytes_decides), rw (← w.copied.ensures, ← w.copied-else-eq.ensures) w.result-is)
-    | else-eq+in-Target-1 w ↦ inr (grind (arith, bytes_decides), rw (← w.copied.ensures, ← w.copied-else-eq.ensures) w.result-is)
+    | else-eq+in-Branch-1 w ↦ inr (
+      grind (arith, bytes_decides),
+      rw (← w.copied.ensures, ← w.copied-else-eq.ensures) w.result-is,
+    )
+    | else-eq+in-Target-1 w ↦ inr (
+      grind (arith, bytes_decides),
+      rw (← w.copied.ensures, ← w.copied-else-eq.ensures) w.result-is,
+    )
   ]);
 }

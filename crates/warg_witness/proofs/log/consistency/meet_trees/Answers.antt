@@ -12,6 +12,8 @@ pub returns-clause-met : goal.returns-clause-met
 returns-clause-met g c =
     let lengths = c.if-not-have_lengths.ensures.same.0 refl in
     IfOk-weaker c.trees_with_roots.result _ _
-    (consistency_met g.D.SupportedDigest.digest (g.L.LogData.digest_at c.args.hashes.now) _ _ _ _ (entries_count _ c.args.old.now ∙ lengths.0) (entries_count _ c.args.new.now ∙ lengths.1)
-    (rw (entries_count g.V.VisitBytes.bytes c.args.new.now, lengths.1) c.if-not-have_lengths.ensures.new_most) (sym c.evaluate.ensures.value ∙ c.in-Ok.is))
+    (consistency_met g.D.SupportedDigest.digest (g.L.LogData.digest_at c.args.hashes.now) _ _ _ _
+    (entries_count _ c.args.old.now ∙ lengths.0) (entries_count _ c.args.new.now ∙ lengths.1)
+    (rw (entries_count g.V.VisitBytes.bytes c.args.new.now, lengths.1) c.if-not-have_lengths.ensures.new_most)
+    (sym c.evaluate.ensures.value ∙ c.in-Ok.is))
     c.trees_with_roots.ensures

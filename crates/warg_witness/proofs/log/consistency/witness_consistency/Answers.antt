@@ -10,4 +10,5 @@ pub returns-clause-fails : goal.returns-clause-fails
 returns-clause-fails g c fault is = absurd (found_none (c.in_ok-trees.ensures.fails fault is) c.in-Some.is)
 
 pub returns-clause-found : goal.returns-clause-found
-returns-clause-found g c = let met = rw c.in-Some.is at c.in_ok-trees.ensures.met in IfOk-weaker c.find_difference.result _ _ (finds_met _ _ met.met) c.find_difference.ensures
+returns-clause-found g c = let met = rw c.in-Some.is at c.in_ok-trees.ensures.met in
+    IfOk-weaker c.find_difference.result _ _ (finds_met _ _ met.met) c.find_difference.ensures

@@ -7,4 +7,5 @@ use Rattle.warg_witness.proofs.map.last.last_value.Given as goal
 abbrev pub invariant-loop-place : goal.invariant-loop-place
 invariant-loop-place g l =
     let insertions = pair_bytes g.K.VisitBytes.bytes g.V.VisitBytes.bytes l.insertions in
-    last_insertion (g.K.VisitBytes.bytes l.key) insertions ≡ last_insertion (g.K.VisitBytes.bytes l.key) (take l.place insertions)
+    last_insertion (g.K.VisitBytes.bytes l.key) insertions ≡ last_insertion (g.K.VisitBytes.bytes l.key)
+    (take l.place insertions)

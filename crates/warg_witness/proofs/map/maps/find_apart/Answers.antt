@@ -14,7 +14,8 @@ returns-in_default g c =
     let ys = pair_bytes g.K.VisitBytes.bytes g.V.VisitBytes.bytes c.args.second.now in
     let key = g.K.VisitBytes.bytes c.args.key.now in
     let beside = key_beside H (map_of H xs) key _ c.in_ok-own.ensures in
-    IfOk-weaker c.find.result _ _ (found_apart H xs ys key c.requires.inserted c.requires.root c.requires.apart _ beside None (c.in_default.ensures _ c.of.ensures) tt)
+    IfOk-weaker c.find.result _ _ (found_apart H xs ys key c.requires.inserted c.requires.root c.requires.apart _ beside
+    None (c.in_default.ensures _ c.of.ensures) tt)
     (rw c.peers.ensures.value at c.find.ensures)
 
 pub of-requires-then-not-branch : goal.of-requires-then-not-branch
@@ -23,8 +24,12 @@ of-requires-then-not-branch g c =
     let xs = pair_bytes g.K.VisitBytes.bytes g.V.VisitBytes.bytes c.args.first.now in
     let ys = pair_bytes g.K.VisitBytes.bytes g.V.VisitBytes.bytes c.args.second.now in
     let key = g.K.VisitBytes.bytes c.args.key.now in
-    let e : List ℕ × List ℕ = (g.K.VisitBytes.bytes c.in-Some.field-0.now.0, g.V.VisitBytes.bytes c.in-Some.field-0.now.1) in
-    (keys_apart H xs ys key c.requires.inserted g.met.D.SupportedDigest.is_digest e (c.in-Some.ensures _ c.of.ensures) (iff_false c.in_ok-have_same_bytes.ensures c.if-not-branch.true)).collides
+    let e : List ℕ × List ℕ = (
+      g.K.VisitBytes.bytes c.in-Some.field-0.now.0,
+      g.V.VisitBytes.bytes c.in-Some.field-0.now.1,
+    ) in
+    (keys_apart H xs ys key c.requires.inserted g.met.D.SupportedDigest.is_digest e (c.in-Some.ensures _ c.of.ensures)
+    (iff_false c.in_ok-have_same_bytes.ensures c.if-not-branch.true)).collides
 
 pub returns-then-not-branch : goal.returns-then-not-branch
 returns-then-not-branch g c =
@@ -32,8 +37,12 @@ returns-then-not-branch g c =
     let xs = pair_bytes g.K.VisitBytes.bytes g.V.VisitBytes.bytes c.args.first.now in
     let ys = pair_bytes g.K.VisitBytes.bytes g.V.VisitBytes.bytes c.args.second.now in
     let key = g.K.VisitBytes.bytes c.args.key.now in
-    let e : List ℕ × List ℕ = (g.K.VisitBytes.bytes c.in-Some.field-0.now.0, g.V.VisitBytes.bytes c.in-Some.field-0.now.1) in
-    let shown = keys_apart H xs ys key c.requires.inserted g.met.D.SupportedDigest.is_digest e (c.in-Some.ensures _ c.of.ensures) (iff_false c.in_ok-have_same_bytes.ensures c.if-not-branch.true) in
+    let e : List ℕ × List ℕ = (
+      g.K.VisitBytes.bytes c.in-Some.field-0.now.0,
+      g.V.VisitBytes.bytes c.in-Some.field-0.now.1,
+    ) in
+    let shown = keys_apart H xs ys key c.requires.inserted g.met.D.SupportedDigest.is_digest e
+    (c.in-Some.ensures _ c.of.ensures) (iff_false c.in_ok-have_same_bytes.ensures c.if-not-branch.true) in
     let Placed : List ℕ × List ℕ → Type 0 = λ two. IsPlacedInMaps H xs ys two.0 two.1 in
     (tt, λ no. no, subst Placed (sym c.in_ok-of.ensures) shown.placed)
 
@@ -43,8 +52,13 @@ returns g c =
     let xs = pair_bytes g.K.VisitBytes.bytes g.V.VisitBytes.bytes c.args.first.now in
     let ys = pair_bytes g.K.VisitBytes.bytes g.V.VisitBytes.bytes c.args.second.now in
     let key = g.K.VisitBytes.bytes c.args.key.now in
-    let e : List ℕ × List ℕ = (g.K.VisitBytes.bytes c.in-Some.field-0.now.0, g.V.VisitBytes.bytes c.in-Some.field-0.now.1) in
+    let e : List ℕ × List ℕ = (
+      g.K.VisitBytes.bytes c.in-Some.field-0.now.0,
+      g.V.VisitBytes.bytes c.in-Some.field-0.now.1,
+    ) in
     let beside = key_beside H (map_of H xs) key _ c.in_ok-own-2.ensures in
-    IfOk-weaker c.find-2.result _ _ (found_apart H xs ys key c.requires.inserted c.requires.root c.requires.apart _ beside (Some e) (c.in-Some.ensures _ c.of.ensures)
+    IfOk-weaker c.find-2.result _ _
+    (found_apart H xs ys key c.requires.inserted c.requires.root c.requires.apart _ beside (Some e)
+    (c.in-Some.ensures _ c.of.ensures)
     (c.in_ok-have_same_bytes.ensures.0 c.if-not-branch.false))
     (rw c.peers-2.ensures.value at c.find-2.ensures)

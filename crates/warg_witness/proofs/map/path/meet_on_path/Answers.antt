@@ -5,15 +5,20 @@ use Rattle.warg_witness.proofs.TurnLemmas.{no_turns}
 use Rattle.warg_witness.proofs.map.path.meet_on_path.Goals as goal
 
 pub loop-height-init : goal.loop-height-init
-loop-height-init g c = (c.empty_tree-empty.ensures, rw last_bits-none (no_turns c.new-climb.ensures.first c.new-climb.ensures.second c.new-climb.ensures.divergence))
+loop-height-init g c = (
+  c.empty_tree-empty.ensures,
+  rw last_bits-none (no_turns c.new-climb.ensures.first c.new-climb.ensures.second c.new-climb.ensures.divergence),
+)
 
 pub loop-height-preserved : goal.loop-height-preserved
 loop-height-preserved g c =
     let few = c.loop-height-test.true in (
       c.empty_above-empty.ensures,
       rw (last_bits-more, ← c.bit-right.ensures)
-          (bit_up _ _ _ _ _ _ (rw length-last_bits (sym c.peer_at-first_peer.ensures)) (rw length-last_bits (sym c.peer_at-second_peer.ensures)) c.loop-height.invariant.1 c.up-climb.ensures),
+          (bit_up _ _ _ _ _ _ (rw length-last_bits (sym c.peer_at-first_peer.ensures))
+          (rw length-last_bits (sym c.peer_at-second_peer.ensures)) c.loop-height.invariant.1 c.up-climb.ensures),
     )
 
 pub returns : goal.returns
-returns g c = let top : c.loop-height.height ≡ 256 = omega arith in keys_met _ _ _ _ _ _ (rw top at c.loop-height.invariant.1) c.met.result c.met.ensures
+returns g c = let top : c.loop-height.height ≡ 256 = omega arith in
+    keys_met _ _ _ _ _ _ (rw top at c.loop-height.invariant.1) c.met.result c.met.ensures

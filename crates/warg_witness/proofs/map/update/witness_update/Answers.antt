@@ -8,10 +8,16 @@ pub returns-in_default : goal.returns-in_default
 returns-in_default g c = record { found = rw (c.in_default.is, c.peers.ensures.value) at c.in_ok-met.ensures }
 
 pub find_update-requires : goal.find_update-requires
-find_update-requires g c = let met = rw c.in-Some.is at c.in_ok-met.ensures in branches_collide _ c.in-Some.met.divergence _ _ met.diverges
+find_update-requires g c = let met = rw c.in-Some.is at c.in_ok-met.ensures in
+    branches_collide _ c.in-Some.met.divergence _ _ met.diverges
 
 pub returns : goal.returns
 returns g c =
     let met = rw (c.in-Some.is, c.peers.ensures.value) at c.in_ok-met.ensures in
-    let is : IsKeyMet g.D.SupportedDigest.digest c.args.proof.now (g.K.VisitBytes.bytes c.args.key.now) (g.V.VisitBytes.bytes c.args.old_value.now) (pair_bytes g.K.VisitBytes.bytes g.V.VisitBytes.bytes c.args.insertions.now) = met.met in
-    record { found = IfOk-weaker c.find_update.result _ _ (update_found (g.V.VisitBytes.bytes c.args.new_value.now) c.in-Some.met.divergence met) c.find_update.ensures }
+    let is : IsKeyMet g.D.SupportedDigest.digest c.args.proof.now (g.K.VisitBytes.bytes c.args.key.now)
+    (g.V.VisitBytes.bytes c.args.old_value.now)
+    (pair_bytes g.K.VisitBytes.bytes g.V.VisitBytes.bytes c.args.insertions.now) = met.met in
+    record {
+      found = IfOk-weaker c.find_update.result _ _
+          (update_found (g.V.VisitBytes.bytes c.args.new_value.now) c.in-Some.met.divergence met) c.find_update.ensures;
+    }

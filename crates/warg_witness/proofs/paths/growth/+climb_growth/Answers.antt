@@ -12,7 +12,8 @@ pub returns-in_err-root : goal.returns-in_err-root
 returns-in_err-root g t c =
     let all = c.if-old_length-range.true ∙ counts c.range.view_is in
     let n = c.args.range.now.count in
-    let same = subproof_is g.D.SupportedDigest.digest c.args.old_root n n c.args.path.now (omega arith) (omega arith) in rw (c.from_residual.ensures, all) (sym same ∙ rw (counts c.range.view_is) at (sym c.in_err-root.ensures))
+    let same = subproof_is g.D.SupportedDigest.digest c.args.old_root n n c.args.path.now (omega arith) (omega arith) in
+    rw (c.from_residual.ensures, all) (sym same ∙ rw (counts c.range.view_is) at (sym c.in_err-root.ensures))
 
 pub returns-then-old_length-range : goal.returns-then-old_length-range
 returns-then-old_length-range g t c =
@@ -20,18 +21,24 @@ returns-then-old_length-range g t c =
     let n = c.args.range.now.count in
     let same = subproof_is g.D.SupportedDigest.digest c.args.old_root n n c.args.path.now (omega arith) (omega arith) in
     let at = c.growth_at.ensures in
-    growth_starts _ c.args.trees.now.old c.args.trees.now.new _ _ _ _ _ c.args.path.now all c.requires.around (ap (λ k. roots_down g.D.SupportedDigest.digest c.args.old_root k n (reverse c.args.path.now)) all ∙ sym same ∙ rw (counts c.range.view_is) at (sym c.in_ok-root.ensures)) (starts at.shared, counts at.shared) at.first at.old at.new at.targets
+    growth_starts _ c.args.trees.now.old c.args.trees.now.new _ _ _ _ _ c.args.path.now all c.requires.around
+    (ap (λ k. roots_down g.D.SupportedDigest.digest c.args.old_root k n (reverse c.args.path.now)) all ∙ sym same
+    ∙ rw (counts c.range.view_is) at (sym c.in_ok-root.ensures)) (starts at.shared, counts at.shared) at.first
+    at.old at.new at.targets
 
 pub growth_at-requires-clause-in_old : goal.growth_at-requires-clause-in_old
-growth_at-requires-clause-in_old g t c = let all = c.if-old_length-range.true ∙ counts c.range.view_is in rw all at c.requires.in_old
+growth_at-requires-clause-in_old g t c = let all = c.if-old_length-range.true ∙ counts c.range.view_is in
+    rw all at c.requires.in_old
 
 pub returns-then-old_length-front : goal.returns-then-old_length-front
 returns-then-old_length-front g t c =
     let more = still_more c.requires.around c.requires.order c.if-old_length-range.false (counts c.range.view_is) in
     let front = c.split-front.ensures.front in
     let rest = c.split-front.ensures.rest in
-    front_up _ c.args.trees.now.old c.args.trees.now.new _ _ _ _ _ _ _ more.0 more.1 c.requires.in_old c.requires.in_new (turned _ _ _ c.in_ok-top.ensures.cases.0) (starts front, counts front) (starts rest, counts rest)
-    (rw (counts (c.front.view_is ∙ front)) at c.if-old_length-front.true) c.in_ok-growth.ensures c.plain_digest-new_rest.ensures c.up.ensures
+    front_up _ c.args.trees.now.old c.args.trees.now.new _ _ _ _ _ _ _ more.0 more.1 c.requires.in_old c.requires.in_new
+    (turned _ _ _ c.in_ok-top.ensures.cases.0) (starts front, counts front) (starts rest, counts rest)
+    (rw (counts (c.front.view_is ∙ front)) at c.if-old_length-front.true) c.in_ok-growth.ensures
+    c.plain_digest-new_rest.ensures c.up.ensures
 
 pub returns-then-place-rest : goal.returns-then-place-rest
 returns-then-place-rest g t c =
@@ -42,9 +49,14 @@ returns-then-place-rest g t c =
     let rest = c.rest.view_is ∙ c.split-front.ensures.rest in
     let at = c.growth_at-growth.ensures in
     let up = c.up-then-place-rest.ensures in
-    shared_up _ c.args.trees.now.old c.args.trees.now.new _ _ _ _ _ _ _ more.0 more.1 c.requires.in_old c.requires.in_new (rw turn at c.if-old_length-front.false) (turned _ _ _ c.in_ok-top.ensures.cases.0) turn (starts front, counts front)
-    (starts rest) (starts c.split-front.ensures.rest, counts c.split-front.ensures.rest) c.requires.around.starts c.if-place-rest.true (rest_led _ _ n _ _ c.in_ok-top.below.now more.1 turn (counts rest) c.if-old_length-front.false c.in_ok-old.ensures)
-    (starts (up.shared ∙ at.shared), counts (up.shared ∙ at.shared)) at.first at.old at.new at.targets (rw c.new-old_rest.ensures at up.old) up.new
+    shared_up _ c.args.trees.now.old c.args.trees.now.new _ _ _ _ _ _ _ more.0 more.1 c.requires.in_old
+    c.requires.in_new (rw turn at c.if-old_length-front.false) (turned _ _ _ c.in_ok-top.ensures.cases.0) turn
+    (starts front, counts front)
+    (starts rest) (starts c.split-front.ensures.rest, counts c.split-front.ensures.rest) c.requires.around.starts
+    c.if-place-rest.true (rest_led _ _ n _ _ c.in_ok-top.below.now more.1 turn
+    (counts rest) c.if-old_length-front.false c.in_ok-old.ensures)
+    (starts (up.shared ∙ at.shared), counts (up.shared ∙ at.shared)) at.first at.old at.new at.targets
+    (rw c.new-old_rest.ensures at up.old) up.new
 
 pub returns : goal.returns
 returns g t c =
@@ -53,24 +65,31 @@ returns g t c =
     let front = c.split-front.ensures.front in
     let rest = c.split-front.ensures.rest in
     let up = c.up-2.ensures in
-    rest_up _ c.args.trees.now.old c.args.trees.now.new _ _ _ _ _ _ _ more.0 more.1 c.requires.in_old c.requires.in_new (rw turn at c.if-old_length-front.false) (turned _ _ _ c.in_ok-top.ensures.cases.0) turn (starts front, counts front)
+    rest_up _ c.args.trees.now.old c.args.trees.now.new _ _ _ _ _ _ _ more.0 more.1 c.requires.in_old c.requires.in_new
+    (rw turn at c.if-old_length-front.false) (turned _ _ _ c.in_ok-top.ensures.cases.0) turn
+    (starts front, counts front)
     (starts rest, counts rest) c.in_ok-growth-2.ensures (starts up.shared, counts up.shared) up.old up.new
 
 pub returns-in_err-top : goal.returns-in_err-top
 returns-in_err-top g t c =
-    let more = still_more c.requires.around c.requires.order c.if-old_length-range.false (counts c.range.view_is) in rw c.from_residual-in_err-top.ensures (both_short _ _ _ _ _ more.1 c.in_err-top.ensures.cases)
+    let more = still_more c.requires.around c.requires.order c.if-old_length-range.false (counts c.range.view_is) in
+    rw c.from_residual-in_err-top.ensures (both_short _ _ _ _ _ more.1 c.in_err-top.ensures.cases)
 
 pub returns-in_err-growth : goal.returns-in_err-growth
 returns-in_err-growth g t c =
     let more = still_more c.requires.around c.requires.order c.if-old_length-range.false (counts c.range.view_is) in
     let turn = counts (c.front.view_is ∙ c.split-front.ensures.front) in
-    rw c.from_residual-in_err-growth.ensures (front_lacks _ _ _ _ _ _ more.1 (turned _ _ _ c.in_ok-top.ensures.cases.0) turn (counts c.split-front.ensures.front) c.if-old_length-front.true c.in_err-growth.ensures)
+    rw c.from_residual-in_err-growth.ensures
+    (front_lacks _ _ _ _ _ _ more.1 (turned _ _ _ c.in_ok-top.ensures.cases.0) turn
+    (counts c.split-front.ensures.front) c.if-old_length-front.true c.in_err-growth.ensures)
 
 pub returns-in_err-growth-2 : goal.returns-in_err-growth-2
 returns-in_err-growth-2 g t c =
     let more = still_more c.requires.around c.requires.order c.if-old_length-range.false (counts c.range.view_is) in
     let turn = counts (c.front.view_is ∙ c.split-front.ensures.front) in
-    rw c.from_residual-in_err-growth-2.ensures (rest_lacks _ _ _ _ _ _ more.1 (turned _ _ _ c.in_ok-top.ensures.cases.0) turn (counts c.split-front.ensures.rest) c.if-old_length-front.false c.in_err-growth-2.ensures)
+    rw c.from_residual-in_err-growth-2.ensures
+    (rest_lacks _ _ _ _ _ _ more.1 (turned _ _ _ c.in_ok-top.ensures.cases.0) turn
+    (counts c.split-front.ensures.rest) c.if-old_length-front.false c.in_err-growth-2.ensures)
 
 pub returns-in_err-old : goal.returns-in_err-old
 returns-in_err-old g t c =
@@ -78,17 +97,28 @@ returns-in_err-old g t c =
     let more = still_more c.requires.around c.requires.order c.if-old_length-range.false (counts c.range.view_is) in
     let turn : c.front.inside.count ≡ front_of n = counts (c.front.view_is ∙ c.split-front.ensures.front) in
     let rest = counts (c.rest.view_is ∙ c.split-front.ensures.rest) in
-    rw c.from_residual-in_err-old.ensures (rest_lacks _ _ _ _ _ _ more.1 (turned _ _ _ c.in_ok-top.ensures.cases.0) turn refl c.if-old_length-front.false
-    (rw turn (rest_led _ _ n _ _ c.in_ok-top.below.now more.1 turn rest c.if-old_length-front.false c.in_err-old.ensures)))
+    rw c.from_residual-in_err-old.ensures
+    (rest_lacks _ _ _ _ _ _ more.1 (turned _ _ _ c.in_ok-top.ensures.cases.0) turn refl c.if-old_length-front.false
+    (rw turn (rest_led _ _ n _ _ c.in_ok-top.below.now more.1 turn rest c.if-old_length-front.false
+    c.in_err-old.ensures)))
 
 pub plain_digest-new_rest-requires-clause-aligned : goal.plain_digest-new_rest-requires-clause-aligned
-plain_digest-new_rest-requires-clause-aligned g t c = rw c.split-front.ensures.rest (rest_aligned c.requires.aligned (still_more c.requires.around c.requires.order c.if-old_length-range.false (counts c.range.view_is)).2)
+plain_digest-new_rest-requires-clause-aligned g t c = rw c.split-front.ensures.rest
+    (rest_aligned c.requires.aligned (still_more c.requires.around c.requires.order c.if-old_length-range.false
+    (counts c.range.view_is)).2)
 
 pub growth_at-growth-requires-clause-aligned : goal.growth_at-growth-requires-clause-aligned
-growth_at-growth-requires-clause-aligned g t c = rw c.split-front.ensures.front (front_aligned c.requires.aligned (omega (arith, counts c.split-front.ensures.front)))
+growth_at-growth-requires-clause-aligned g t c = rw c.split-front.ensures.front
+    (front_aligned c.requires.aligned (omega (arith, counts c.split-front.ensures.front)))
 
 pub plain_digest-new_rest-requires-clause-within : goal.plain_digest-new_rest-requires-clause-within
-plain_digest-new_rest-requires-clause-within g t c = omega (arith, starts c.split-front.ensures.rest, counts c.split-front.ensures.rest, counts c.split-front.ensures.front)
+plain_digest-new_rest-requires-clause-within g t c =
+    omega (
+      arith,
+      starts c.split-front.ensures.rest,
+      counts c.split-front.ensures.rest,
+      counts c.split-front.ensures.front,
+    )
 
 pub growth_at-growth-requires-clause-in_new : goal.growth_at-growth-requires-clause-in_new
 growth_at-growth-requires-clause-in_new g t c = omega (arith, starts c.split-front.ensures.front)
@@ -97,40 +127,82 @@ pub climb_growth-requires : goal.climb_growth-requires
 climb_growth-requires g t c κs within =
     let more = still_more c.requires.around c.requires.order c.if-old_length-range.false (counts c.range.view_is) in
     let front = c.front.view_is ∙ c.split-front.ensures.front in
-    rw c.split-front.ensures.front
-    (search rules, (within.0, (within.1.0, (within.1.1, front_takes more.1 (counts front) c.requires.around c.requires.aligned c.requires.in_old c.requires.in_new c.if-old_length-front.true))))
+    rw c.split-front.ensures.front (
+      search rules,
+      (
+        within.0,
+        (
+          within.1.0,
+          (
+            within.1.1,
+            front_takes more.1 (counts front) c.requires.around c.requires.aligned c.requires.in_old
+                c.requires.in_new c.if-old_length-front.true,
+          ),
+        ),
+      ),
+    )
 
 pub climb_growth-requires-2 : goal.climb_growth-requires-2
 climb_growth-requires-2 g t c κs within =
     let more = still_more c.requires.around c.requires.order c.if-old_length-range.false (counts c.range.view_is) in
     let front = c.front.view_is ∙ c.split-front.ensures.front in
     let rest = c.rest.view_is ∙ c.split-front.ensures.rest in
-    rw c.split-front.ensures.rest
-    (search rules, (within.0, (within.1.0, (within.1.1, rest_takes more.1 (counts front) c.requires.around c.requires.aligned c.requires.in_old c.requires.in_new (starts rest) c.if-old_length-front.false c.if-place-rest.false))))
+    rw c.split-front.ensures.rest (
+      search rules,
+      (
+        within.0,
+        (
+          within.1.0,
+          (
+            within.1.1,
+            rest_takes more.1 (counts front) c.requires.around c.requires.aligned c.requires.in_old
+                c.requires.in_new (starts rest) c.if-old_length-front.false c.if-place-rest.false,
+          ),
+        ),
+      ),
+    )
 
 pub growth_at-growth-requires-clause-in_old : goal.growth_at-growth-requires-clause-in_old
-growth_at-growth-requires-clause-in_old g t c = omega (arith, starts c.split-front.ensures.front, counts c.front.view_is)
+growth_at-growth-requires-clause-in_old g t c =
+    omega (arith, starts c.split-front.ensures.front, counts c.front.view_is)
 
 pub up-requires-then-place-rest-clause-old_aligned : goal.up-requires-then-place-rest-clause-old_aligned
 up-requires-then-place-rest-clause-old_aligned g t c =
     let rest = c.rest.view_is ∙ c.split-front.ensures.rest in
-    rw (c.new-old_rest.ensures, starts rest) (front_aligned (rest_aligned c.requires.aligned (still_more c.requires.around c.requires.order c.if-old_length-range.false (counts c.range.view_is)).2) (omega (arith, counts (c.front.view_is ∙ c.split-front.ensures.front))))
+    rw (c.new-old_rest.ensures, starts rest)
+    (front_aligned (rest_aligned c.requires.aligned
+    (still_more c.requires.around c.requires.order c.if-old_length-range.false (counts c.range.view_is)).2)
+    (omega (arith, counts (c.front.view_is ∙ c.split-front.ensures.front))))
 
 pub up-requires-then-place-rest-clause-new_aligned : goal.up-requires-then-place-rest-clause-new_aligned
-up-requires-then-place-rest-clause-new_aligned g t c = rw c.split-front.ensures.rest (rest_aligned c.requires.aligned (still_more c.requires.around c.requires.order c.if-old_length-range.false (counts c.range.view_is)).2)
+up-requires-then-place-rest-clause-new_aligned g t c = rw c.split-front.ensures.rest
+    (rest_aligned c.requires.aligned (still_more c.requires.around c.requires.order c.if-old_length-range.false
+    (counts c.range.view_is)).2)
 
 pub up-requires-then-place-rest-clause-old_within : goal.up-requires-then-place-rest-clause-old_within
 up-requires-then-place-rest-clause-old_within g t c =
-    rw c.new-old_rest.ensures (omega (arith, starts (c.rest.view_is ∙ c.split-front.ensures.rest), counts (c.front.view_is ∙ c.split-front.ensures.front)))
+    rw c.new-old_rest.ensures (omega (
+      arith,
+      starts (c.rest.view_is ∙ c.split-front.ensures.rest),
+      counts (c.front.view_is ∙ c.split-front.ensures.front),
+    ))
 
 pub up-requires-then-place-rest-clause-new_within : goal.up-requires-then-place-rest-clause-new_within
-up-requires-then-place-rest-clause-new_within g t c = omega (arith, starts c.split-front.ensures.rest, counts c.split-front.ensures.rest, counts c.split-front.ensures.front)
+up-requires-then-place-rest-clause-new_within g t c =
+    omega (
+      arith,
+      starts c.split-front.ensures.rest,
+      counts c.split-front.ensures.rest,
+      counts c.split-front.ensures.front,
+    )
 
 pub up-requires-2-clause-old_aligned : goal.up-requires-2-clause-old_aligned
-up-requires-2-clause-old_aligned g t c = rw c.split-front.ensures.front (front_aligned c.requires.aligned (omega (arith, counts c.split-front.ensures.front)))
+up-requires-2-clause-old_aligned g t c = rw c.split-front.ensures.front
+    (front_aligned c.requires.aligned (omega (arith, counts c.split-front.ensures.front)))
 
 pub up-requires-2-clause-new_aligned : goal.up-requires-2-clause-new_aligned
-up-requires-2-clause-new_aligned g t c = rw c.split-front.ensures.front (front_aligned c.requires.aligned (omega (arith, counts c.split-front.ensures.front)))
+up-requires-2-clause-new_aligned g t c = rw c.split-front.ensures.front
+    (front_aligned c.requires.aligned (omega (arith, counts c.split-front.ensures.front)))
 
 pub up-requires-2-clause-old_within : goal.up-requires-2-clause-old_within
 up-requires-2-clause-old_within g t c = omega (arith, starts c.split-front.ensures.front, counts c.front.view_is)

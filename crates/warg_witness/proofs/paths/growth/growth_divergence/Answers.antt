@@ -5,42 +5,82 @@ use Rattle.warg_witness.proofs.paths.growth.growth_divergence.Goals as goal
 
 pub divergence_below-requires-clause-aligned : goal.divergence_below-requires-clause-aligned
 divergence_below-requires-clause-aligned g c =
-    let growth = rw (c.root-old_root.ensures, c.length-old_length.ensures.value, c.new-whole.ensures, c.length.ensures.value) at c.in-Some.ensures in
+    let growth = rw (
+      c.root-old_root.ensures,
+      c.length-old_length.ensures.value,
+      c.new-whole.ensures,
+      c.length.ensures.value,
+    ) at c.in-Some.ensures in
     (part_in growth.new_part).1
 
 pub divergence_below-requires-clause-in_old : goal.divergence_below-requires-clause-in_old
 divergence_below-requires-clause-in_old g c =
-    let growth = rw (c.root-old_root.ensures, c.length-old_length.ensures.value, c.new-whole.ensures, c.length.ensures.value) at c.in-Some.ensures in
+    let growth = rw (
+      c.root-old_root.ensures,
+      c.length-old_length.ensures.value,
+      c.new-whole.ensures,
+      c.length.ensures.value,
+    ) at c.in-Some.ensures in
     (part_in growth.old_part).0
 
 pub divergence_below-requires-clause-in_new : goal.divergence_below-requires-clause-in_new
 divergence_below-requires-clause-in_new g c =
-    let growth = rw (c.root-old_root.ensures, c.length-old_length.ensures.value, c.new-whole.ensures, c.length.ensures.value) at c.in-Some.ensures in
+    let growth = rw (
+      c.root-old_root.ensures,
+      c.length-old_length.ensures.value,
+      c.new-whole.ensures,
+      c.length.ensures.value,
+    ) at c.in-Some.ensures in
     (part_in growth.new_part).0
 
 pub divergence_below-requires-clause-around : goal.divergence_below-requires-clause-around
 divergence_below-requires-clause-around g c =
-    let growth = rw (c.root-old_root.ensures, c.length-old_length.ensures.value, c.new-whole.ensures, c.length.ensures.value) at c.in-Some.ensures in
+    let growth = rw (
+      c.root-old_root.ensures,
+      c.length-old_length.ensures.value,
+      c.new-whole.ensures,
+      c.length.ensures.value,
+    ) at c.in-Some.ensures in
     growth.around
 
 pub divergence_below-requires-clause-same : goal.divergence_below-requires-clause-same
 divergence_below-requires-clause-same g c =
-    let growth = rw (c.root-old_root.ensures, c.length-old_length.ensures.value, c.new-whole.ensures, c.length.ensures.value) at c.in-Some.ensures in
+    let growth = rw (
+      c.root-old_root.ensures,
+      c.length-old_length.ensures.value,
+      c.new-whole.ensures,
+      c.length.ensures.value,
+    ) at c.in-Some.ensures in
     shared_same growth c.requires.leads c.in_default-divergence.is c.in_default-divergence-2.is
 
 pub returns : goal.returns
 returns g c =
-    let growth = rw (c.root-old_root.ensures, c.length-old_length.ensures.value, c.new-whole.ensures, c.length.ensures.value) at c.in-Some.ensures in
+    let growth = rw (
+      c.root-old_root.ensures,
+      c.length-old_length.ensures.value,
+      c.new-whole.ensures,
+      c.length.ensures.value,
+    ) at c.in-Some.ensures in
     shared_shown growth _ c.divergence_below.ensures
 
 pub returns-in-Branch : goal.returns-in-Branch
 returns-in-Branch g c =
-    let growth = rw (c.root-old_root.ensures, c.length-old_length.ensures.value, c.new-whole.ensures, c.length.ensures.value) at c.in-Some.ensures in
+    let growth = rw (
+      c.root-old_root.ensures,
+      c.length-old_length.ensures.value,
+      c.new-whole.ensures,
+      c.length.ensures.value,
+    ) at c.in-Some.ensures in
     old_shown growth c.requires.leads c.in-Branch.is
 
 pub returns-in-Branch-divergence : goal.returns-in-Branch-divergence
 returns-in-Branch-divergence g c =
-    let growth = rw (c.root-old_root.ensures, c.length-old_length.ensures.value, c.new-whole.ensures, c.length.ensures.value) at c.in-Some.ensures in
+    let growth = rw (
+      c.root-old_root.ensures,
+      c.length-old_length.ensures.value,
+      c.new-whole.ensures,
+      c.length.ensures.value,
+    ) at c.in-Some.ensures in
     new_shown growth c.requires.leads c.in-Branch-divergence.is
 
 pub climb_growth-growth-requires-clause-aligned : goal.climb_growth-growth-requires-clause-aligned

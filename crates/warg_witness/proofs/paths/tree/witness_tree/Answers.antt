@@ -10,4 +10,5 @@ pub returns-clause-leads : goal.returns-clause-leads
 returns-clause-leads g c nowhere = absurd (found_none (c.in_ok-trees.ensures.leads nowhere) c.in-Some.is)
 
 pub returns-clause-found : goal.returns-clause-found
-returns-clause-found g c = let met = rw c.in-Some.is at c.in_ok-trees.ensures.met in IfOk-weaker c.find_difference.result _ _ (finds_met _ _ met.met) c.find_difference.ensures
+returns-clause-found g c = let met = rw c.in-Some.is at c.in_ok-trees.ensures.met in
+    IfOk-weaker c.find_difference.result _ _ (finds_met _ _ met.met) c.find_difference.ensures
