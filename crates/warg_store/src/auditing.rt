@@ -1,6 +1,6 @@
 //! Every tile made again from the entries.
 
-ghost use Rattle.std.specs.Prelude.{◌≡◌, IfErr, IfOk, OnOk};
+ghost use Rattle.std.specs.Prelude.{◌≡◌, ◌*◌, ◌<◌, IfErr, IfOk, OnOk};
 ghost use Rattle.warg_store.specs.Audited.{HasEntries, IsOfEntries};
 ghost use Rattle.warg_store.specs.Moments.{HasCauseOf};
 ghost use Rattle.warg_store.specs.Opening.{IsStaging};
@@ -124,13 +124,35 @@ fn replayed<F: Folder, P: Progress>(
 {
     let mut log = TileLog::new(alloc);
     'bundles: for number in 0..length.div_ceil(256) {
-        let width = (length - 256 * number).min(256);
-        let tile = Tile::new(0, number, width);
-        push_bundle(alloc, folder, &mut log, &tile, progress)?;
-        use_tiles(alloc, folder, use_as, log.take_full().as_slice())?;
+        replay_bundle(alloc, folder, &mut log, length, number, use_as, progress)?;
     }
     use_tiles(alloc, folder, use_as, log.partial(alloc)?.as_slice())?;
     Ok(log)
+}
+
+// Adds the entries of a bundle of the log of so many entries, and uses the tiles that they fill.
+fn replay_bundle<F: Folder, P: Progress>(
+    alloc: Global,
+    folder: &mut F,
+    log: &mut TileLog<Sha256, Vec<u8>>,
+    length: usize,
+    number: usize,
+    use_as: Use,
+    progress: &mut P,
+) -> Result<(), LogError>
+    requires inside { 256 * number < length }
+    requires has { HasEntries log.old }
+    requires staging { use_as ≡ Use.Stage → F.IsFaithful → IsStaging (F.seen folder.old) (F.may_leave folder.old) }
+    ensures has { OnOk result (HasEntries log.new) }
+    ensures staging { use_as ≡ Use.Stage → F.IsFaithful
+        → OnOk result (IsStaging (F.seen folder.new) (F.may_leave folder.new)) }
+    ensures cause { HasCauseOf (LogError.Folder FolderError.Failed) F.IsFaithful
+        (F.faults folder.old) (F.faults folder.new) result }
+{
+    let width = (length - 256 * number).min(256);
+    let tile = Tile::new(0, number, width);
+    push_bundle(alloc, folder, log, &tile, progress)?;
+    use_tiles(alloc, folder, use_as, log.take_full().as_slice())
 }
 
 // Adds the entries of a bundle.
