@@ -41,19 +41,9 @@ impl<'a, M: Memory> Call<'a, M> {
         T::read(&mut self.words)
     }
 
-    /// The list that the next word spells.
-    pub(crate) fn list<T: Given>(&mut self) -> Result<Vec<T>, Fault> {
-        self.words.list()
-    }
-
     /// What the parts of the next word spell, which are separated by colons.
     pub(crate) fn read_parts<T: Given>(&mut self) -> Result<T, Fault> {
-        let mut parts = self.words.parts()?;
-        let value = T::read(&mut parts)?;
-        if !parts.are_read() {
-            return Err(Fault::BadCall);
-        }
-        Ok(value)
+        self.words.item()
     }
 
     /// Whether all words were read.
@@ -114,20 +104,26 @@ impl<'a, M: Memory> Call<'a, M> {
         &mut self,
         found: Result<Finding<D, A>, E>,
     ) -> Answered {
-        let pairs = self.list()?;
+        let pairs: Vec<(Vec<u8>, Vec<u8>)> = self.read()?;
         match self.made(found)? {
             Finding::Holds => self.to.word("Holds"),
             Finding::NotMet => self.to.word("NotMet"),
-            Finding::Collision(pair) => {
-                self.to.word("Collision")?;
-                if is_given(&pair, pairs.as_slice()) {
-                    return Ok(());
-                }
-                self.to.bytes(pair.first())?;
-                self.to.bytes(pair.second())
-            }
+            Finding::Collision(pair) => write_collision(&mut self.to, &pair, pairs.as_slice()),
         }
     }
+}
+
+fn write_collision<D: SupportedDigest, A: Allocator>(
+    to: &mut Answer,
+    pair: &Collision<D, A>,
+    given: &[(Vec<u8>, Vec<u8>)],
+) -> Answered {
+    to.word("Collision")?;
+    if is_given(pair, given) {
+        return Ok(());
+    }
+    to.bytes(pair.first())?;
+    to.bytes(pair.second())
 }
 
 fn is_given<D: SupportedDigest, A: Allocator>(

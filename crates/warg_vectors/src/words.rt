@@ -6,7 +6,7 @@ ghost use Rattle.warg_log.specs.declared.log.TheConstants.{GREATEST_LENGTH};
 use crate::fault::{Answered, Fault, Promise};
 use std::alloc::Global;
 use warg_crypto::{Hash, SupportedDigest};
-use warg_log::{GREATEST_LENGTH, LogData, Node, NotAscending, SparseLogData};
+use warg_log::{Checkpoint, GREATEST_LENGTH, LogData, Node, NotAscending, SparseLogData};
 
 // How often a list's `COUNT*ITEM` may repeat its item.
 const MOST_COPIES: usize = 1 << 24;
@@ -56,27 +56,18 @@ impl<'a> Words<'a> {
         self.rest.is_none()
     }
 
-    /// The parts of the next word, which are separated by colons.
-    pub(crate) fn parts(&mut self) -> Result<Words<'a>, Fault> {
+    /// What the parts of the next word spell, which are separated by colons.
+    pub(crate) fn item<T: Given>(&mut self) -> Result<T, Fault> {
         let word = self.next()?;
-        Ok(Words::parted(self.alloc, word, ':'))
+        read_item(self.alloc, word)
     }
+}
 
-    /// The list that the next word spells: `[]` for none, else items that are separated by commas. `COUNT*ITEM` stands for
-    /// equal neighbours.
-    pub(crate) fn list<T: Given>(&mut self) -> Result<Vec<T>, Fault> {
-        let word = self.next()?;
-        let mut items = Vec::new(self.alloc);
-        if word == "[]" {
-            return Ok(items);
-        }
-        for item in word.split(',') {
-            match item.split_once('*') {
-                Some((count, item)) => push_copies(&mut items, number(count)?, item)?,
-                None => push_copies(&mut items, 1, item)?,
-            }
-        }
-        Ok(items)
+// Pushes an item, as often as its count says.
+fn push_item<T: Given>(items: &mut Vec<T>, item: &str) -> Result<(), Fault> {
+    match item.split_once('*') {
+        Some((count, item)) => push_copies(items, number(count)?, item),
+        None => push_copies(items, 1, item),
     }
 }
 
@@ -86,13 +77,20 @@ fn push_copies<T: Given>(items: &mut Vec<T>, count: usize, word: &str) -> Result
         return Err(Fault::BadCall);
     }
     for _ in 0..count {
-        let mut words = Words::parted(alloc, word, ':');
-        items.push(T::read(&mut words)?)?;
-        if !words.are_read() {
-            return Err(Fault::BadCall);
-        }
+        items.push(read_item(alloc, word)?)?;
     }
     Ok(())
+}
+
+// What an item's parts spell.
+fn read_item<T: Given>(alloc: Global, item: &str) -> Result<T, Fault> {
+    let mut words = Words::parted(alloc, item, ':');
+    let value = T::read(&mut words)?;
+    if words.are_read() {
+        Ok(value)
+    } else {
+        Err(Fault::BadCall)
+    }
 }
 
 // The number that one to twenty decimal digits spell, below 2^64.
@@ -205,6 +203,40 @@ impl<A: Given, B: Given> Given for (A, B) {
     }
 }
 
+/// One after the other.
+impl<A: Given, B: Given, C: Given> Given for (A, B, C) {
+    fn read(words: &mut Words<'_>) -> Result<(A, B, C), Fault> {
+        let first = A::read(words)?;
+        let second = B::read(words)?;
+        let third = C::read(words)?;
+        Ok((first, second, third))
+    }
+}
+
+/// A length, and the root.
+impl<D> Given for Checkpoint<D> {
+    fn read(words: &mut Words<'_>) -> Result<Checkpoint<D>, Fault> {
+        let length = usize::read(words)?;
+        let root = Hash::read(words)?;
+        Ok(Checkpoint::new(root, length))
+    }
+}
+
+/// A list: `[]` for none, else items that are separated by commas. `COUNT*ITEM` stands for equal neighbours.
+impl<T: Given> Given for Vec<T> {
+    fn read(words: &mut Words<'_>) -> Result<Vec<T>, Fault> {
+        let word = words.next()?;
+        let mut items = Vec::new(words.alloc);
+        if word == "[]" {
+            return Ok(items);
+        }
+        for item in word.split(',') {
+            push_item(&mut items, item)?;
+        }
+        Ok(items)
+    }
+}
+
 /// The digests of some nodes, as data of a proof.
 #[derive(Drop)]
 pub(crate) struct Data<D: SupportedDigest> {
@@ -215,7 +247,7 @@ pub(crate) struct Data<D: SupportedDigest> {
 /// A list of nodes with their digests, ascending.
 impl<D: SupportedDigest> Given for Data<D> {
     fn read(words: &mut Words<'_>) -> Result<Data<D>, Fault> {
-        let given: Vec<(Node, Hash<D>)> = words.list()?;
+        let given: Vec<(Node, Hash<D>)> = Vec::read(words)?;
         match SparseLogData::try_from(given.clone()?) {
             Ok(held) => Ok(Data { held, given }),
             Err(NotAscending) => Err(Fault::BadCall),

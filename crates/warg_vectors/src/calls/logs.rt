@@ -1,5 +1,6 @@
 //! Logs that entries are pushed into: one that keeps all digests, and one that keeps its balanced roots alone.
 
+use crate::answer::Answer;
 use crate::call::Call;
 use crate::fault::{Answered, Fault, Promise};
 use crate::memory::Memory;
@@ -7,18 +8,23 @@ use std::alloc::{AllocError, Allocator, Global};
 use warg_crypto::SupportedDigest;
 use warg_log::{GREATEST_LENGTH, LogBuilder, LogData, Node, StackLog, VecLog, push_all};
 
-// A log whose entries are lists of bytes.
-type BytesLog<D, A = Global> = VecLog<D, Vec<u8>, A>;
+/// A log whose entries are lists of bytes.
+pub(super) type BytesLog<D, A = Global> = VecLog<D, Vec<u8>, A>;
 
 /// The length, the root and all digests of the log of some entries. Each kind of log has the same checkpoint.
 pub(super) fn log<D: SupportedDigest, M: Memory>(call: &mut Call<'_, M>) -> Answered {
-    let entries: Vec<Vec<u8>> = call.list()?;
+    let entries: Vec<Vec<u8>> = call.read()?;
     let entries = entries.as_slice();
     grown::<D, M, StackLog<D, Vec<u8>, M>>(call, entries)?;
     let log: BytesLog<D, M> = grown(call, entries)?;
-    call.to.show(&log.checkpoint().length())?;
-    call.to.show(&log.checkpoint().root())?;
-    call.to.list(log.as_ref())
+    write(&mut call.to, &log)
+}
+
+fn write<D: SupportedDigest, A: Allocator>(to: &mut Answer, log: &BytesLog<D, A>) -> Answered {
+    let checkpoint = log.checkpoint();
+    to.show(&checkpoint.length())?;
+    to.show(&checkpoint.root())?;
+    to.list(log.as_ref())
 }
 
 // A kind of log.
@@ -78,10 +84,7 @@ fn grown<D: SupportedDigest, M: Memory, K: Kind<D, M>>(
     call: &Call<'_, M>,
     entries: &[Vec<u8>],
 ) -> Result<K, Fault> {
-    let mut log = K::empty(call.memory);
-    for entry in entries {
-        push(call, &mut log, entries, entry)?;
-    }
+    let log: K = pushed(call, entries)?;
     let plain = beginning(call.alloc(), entries, entries.len())?;
     Fault::unless(log.is(&plain, entries), Promise::SameValue)?;
     let at_once: K = pushed_at_once(call, entries)?;
@@ -91,8 +94,20 @@ fn grown<D: SupportedDigest, M: Memory, K: Kind<D, M>>(
     Ok(log)
 }
 
-// The log of the first entries, as many as `count`.
-fn beginning<D: SupportedDigest>(
+// The log of the entries, pushed one by one.
+fn pushed<D: SupportedDigest, M: Memory, K: Kind<D, M>>(
+    call: &Call<'_, M>,
+    entries: &[Vec<u8>],
+) -> Result<K, Fault> {
+    let mut log = K::empty(call.memory);
+    for entry in entries {
+        push(call, &mut log, entries, entry)?;
+    }
+    Ok(log)
+}
+
+/// The log of the first entries, as many as `count`.
+pub(super) fn beginning<D: SupportedDigest>(
     alloc: Global,
     entries: &[Vec<u8>],
     count: usize,

@@ -3,26 +3,27 @@
 use crate::call::Call;
 use crate::fault::{Answered, Fault, Promise};
 use crate::memory::Memory;
-use std::alloc::{AllocError, Allocator};
+use crate::words::{Given, Words};
+use std::alloc::{AllocError, Allocator, Global};
 use warg_crypto::SupportedDigest;
 use warg_map::Proof;
 use warg_protobuf::{DecodeError, MapInclusionProof, OptionalHash};
 
 /// A proof over bytes.
-pub(super) type BytesProof<D, A> = Proof<D, Vec<u8>, Vec<u8>, A>;
+pub(super) type BytesProof<D, A = Global> = Proof<D, Vec<u8>, Vec<u8>, A>;
 
 // The peers of a proof, as their bytes.
 type Peers = Vec<Option<Vec<u8>>>;
 
-/// The proof of the peers that come next, of which there are at most 256.
-pub(super) fn read_proof<D: SupportedDigest, M: Memory>(
-    call: &mut Call<'_, M>,
-) -> Result<Proof<D, Vec<u8>, Vec<u8>>, Fault> {
-    let peers: Peers = call.list()?;
-    match proof_of(call.alloc(), &peers) {
-        Ok(proof) => Ok(proof),
-        Err(DecodeError::Memory) => Err(Fault::Memory),
-        Err(_) => Err(Fault::BadCall),
+/// A list of its peers, of which there are at most 256.
+impl<D: SupportedDigest> Given for BytesProof<D> {
+    fn read(words: &mut Words<'_>) -> Result<BytesProof<D>, Fault> {
+        let peers: Peers = Vec::read(words)?;
+        match proof_of(*peers.allocator(), &peers) {
+            Ok(proof) => Ok(proof),
+            Err(DecodeError::Memory) => Err(Fault::Memory),
+            Err(_) => Err(Fault::BadCall),
+        }
     }
 }
 
@@ -51,7 +52,7 @@ fn optional_hash<A: Allocator + Copy>(
 
 /// The peers of a proof, which are those of the proof of its message.
 pub(super) fn map_proof<D: SupportedDigest, M: Memory>(call: &mut Call<'_, M>) -> Answered {
-    let peers: Peers = call.list()?;
+    let peers: Peers = call.read()?;
     let proof: BytesProof<D, M> = call.made(proof_of(call.memory, &peers))?;
     let other = call.again(|memory| through_message(&proof, memory))?;
     Fault::unless(other.peers() == proof.peers(), Promise::SameValue)?;
@@ -67,13 +68,11 @@ fn through_message<D: SupportedDigest, M: Memory>(
 }
 
 pub(super) fn evaluate<D: SupportedDigest, M: Memory>(call: &mut Call<'_, M>) -> Answered {
-    let proof = read_proof::<D, M>(call)?;
-    let (key, value): (Vec<u8>, Vec<u8>) = call.read()?;
+    let (proof, key, value): (BytesProof<D>, Vec<u8>, Vec<u8>) = call.read()?;
     call.to.show(&proof.evaluate(&key, &value))
 }
 
 pub(super) fn evaluate_absent<D: SupportedDigest, M: Memory>(call: &mut Call<'_, M>) -> Answered {
-    let proof = read_proof::<D, M>(call)?;
-    let key: Vec<u8> = call.read()?;
+    let (proof, key): (BytesProof<D>, Vec<u8>) = call.read()?;
     call.to.show(&proof.evaluate_absent(&key))
 }

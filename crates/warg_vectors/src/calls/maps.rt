@@ -3,6 +3,7 @@
 ghost use Rattle.std.specs.Prelude.{length};
 ghost use Rattle.std.specs.Iterator.{at_most};
 
+use crate::answer::Answer;
 use crate::call::Call;
 use crate::fault::{Answered, Fault, Promise};
 use crate::memory::Memory;
@@ -22,11 +23,18 @@ pub(super) type Pair = (Vec<u8>, Vec<u8>);
 /// The map of some pairs, inserted one by one. Extending the empty map by all of them gives the same, and so does extending
 /// that of the first half by the others, and that of those before the last two by these.
 pub(super) fn map<D: SupportedDigest, M: Memory>(call: &mut Call<'_, M>) -> Answered {
-    let pairs: Vec<Pair> = call.list()?;
+    let pairs: Vec<Pair> = call.read()?;
     let map: BytesMap<'_, D, M> = grown_both_ways(call.memory, pairs.as_slice())?;
-    call.to.show(&map.len())?;
-    call.to.show(map.root())?;
-    call.to.show(&map.node_count())
+    write_map(&mut call.to, &map)
+}
+
+fn write_map<D: SupportedDigest, A: Allocator>(
+    to: &mut Answer,
+    map: &BytesMap<'_, D, A>,
+) -> Answered {
+    to.show(&map.len())?;
+    to.show(map.root())?;
+    to.show(&map.node_count())
 }
 
 fn grown_both_ways<'a, D: SupportedDigest, M: Memory>(
@@ -35,12 +43,22 @@ fn grown_both_ways<'a, D: SupportedDigest, M: Memory>(
 ) -> Result<BytesMap<'a, D, M>, Fault> {
     let map = grown(memory, pairs)?;
     for count in [0, pairs.len() / 2, pairs.len().saturating_sub(2)] {
-        let (front, rest) = pairs.split_at(count.min(pairs.len()));
-        let before: BytesMap<'a, D, M> = grown(memory, front)?;
-        let extended = extended(&before.clone()?, memory, rest)?;
-        Fault::unless(Seen::of(&map).is(&extended), Promise::SameValue)?;
+        expect_extended(&map, memory, pairs, count)?;
     }
     Ok(map)
+}
+
+// A fault unless the map of the first pairs, extended by the others, is the map of all.
+fn expect_extended<'a, D: SupportedDigest, M: Memory>(
+    map: &BytesMap<'a, D, M>,
+    memory: M,
+    pairs: &'a [Pair],
+    count: usize,
+) -> Answered {
+    let (front, rest) = pairs.split_at(count.min(pairs.len()));
+    let before: BytesMap<'a, D, M> = grown(memory, front)?;
+    let extended = extended(&before.clone()?, memory, rest)?;
+    Fault::unless(Seen::of(map).is(&extended), Promise::SameValue)
 }
 
 /// The map of these pairs, inserted one by one.
@@ -151,7 +169,7 @@ pub(super) fn prove<D: SupportedDigest, M: Memory>(
     call: &mut Call<'_, M>,
     absent: bool,
 ) -> Answered {
-    let question: Question = (call.list()?, call.read()?);
+    let question: Question = call.read()?;
     match proved::<D, M>(call.memory, &question, absent)? {
         Some(proof) => call.to.list(proof.peers()),
         None => call.to.word("none"),
@@ -204,14 +222,12 @@ pub(super) fn proof_in<'a, D: SupportedDigest, M: Memory>(
     absent: bool,
 ) -> Result<Option<MapProof<'a, D, M>>, Fault> {
     let before = Seen::of(map);
-    match ask(map, key, absent) {
-        Ok(proof) => Ok(proof),
-        Err(AllocError) => {
-            memory.grant();
-            Fault::unless(before.is(map), Promise::Unchanged)?;
-            Ok(ask(map, key, absent)?)
-        }
+    if let Ok(proof) = ask(map, key, absent) {
+        return Ok(proof);
     }
+    memory.grant();
+    Fault::unless(before.is(map), Promise::Unchanged)?;
+    Ok(ask(map, key, absent)?)
 }
 
 fn ask<'a, D: SupportedDigest, M: Memory>(
@@ -228,13 +244,19 @@ fn ask<'a, D: SupportedDigest, M: Memory>(
 
 /// The count and the root of the map of some pairs with one pair more, whether its key is new, and the proof's peers.
 pub(super) fn insert_with_proof<D: SupportedDigest, M: Memory>(call: &mut Call<'_, M>) -> Answered {
-    let pairs: Vec<Pair> = call.list()?;
-    let pair: Pair = call.read()?;
+    let (pairs, pair): (Vec<Pair>, Pair) = call.read()?;
     let step: Step<'_, D, M> = inserted_with_proof(call.memory, pairs.as_slice(), &pair)?;
-    call.to.show(&step.map.len())?;
-    call.to.show(step.map.root())?;
-    call.to.show(&step.is_new)?;
-    call.to.list(step.proof.peers())
+    write_step(&mut call.to, &step)
+}
+
+fn write_step<D: SupportedDigest, A: Allocator>(
+    to: &mut Answer,
+    step: &Step<'_, D, A>,
+) -> Answered {
+    to.show(&step.map.len())?;
+    to.show(step.map.root())?;
+    to.show(&step.is_new)?;
+    to.list(step.proof.peers())
 }
 
 // An insertion into a map from bytes to bytes.

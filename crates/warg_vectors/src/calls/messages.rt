@@ -44,12 +44,20 @@ pub(super) fn read<M: Memory>(call: &mut Call<'_, M>) -> Answered {
 /// A run of the program on the whole input. Where it is refused, nothing is written.
 pub(super) fn run<M: Memory>(call: &mut Call<'_, M>) -> Answered {
     let input: Vec<u8> = call.read()?;
-    let mut reader = input.as_slice();
     let mut writer = Vec::new(call.alloc());
-    let ended = run_program(call.memory, &mut reader, &mut writer);
-    let is_kept = ended.is_ok() || writer.is_empty();
-    Fault::unless(is_kept, Promise::NothingWritten)?;
-    let good = call.made(ended)?;
+    let good = run_on(call, input.as_slice(), &mut writer)?;
     call.to.show(&good)?;
     call.to.bytes(writer.as_slice())
+}
+
+fn run_on<M: Memory>(
+    call: &Call<'_, M>,
+    input: &[u8],
+    writer: &mut Vec<u8>,
+) -> Result<bool, Fault> {
+    let mut reader = input;
+    let ended = run_program(call.memory, &mut reader, writer);
+    let is_kept = ended.is_ok() || writer.is_empty();
+    Fault::unless(is_kept, Promise::NothingWritten)?;
+    call.made(ended)
 }

@@ -10,54 +10,59 @@ use crate::words::Length;
 use warg_crypto::Side;
 use warg_log::Node;
 
-// The calls that take a node alone.
-const OF_ONE: [&str; 9] = [
-    "height",
-    "side",
-    "sibling",
-    "parent",
-    "left_sibling",
-    "right_sibling",
-    "children",
-    "leftmost",
-    "rightmost",
-];
-
-/// Whether the call of this name takes a node alone.
-pub(super) fn takes_one(name: &str) -> bool {
-    OF_ONE.contains(&name)
+pub(super) fn height<M: Memory>(call: &mut Call<'_, M>) -> Answered {
+    let node: Node = call.read()?;
+    call.to.show(&node.height())
 }
 
-/// Answers the call of this name, which takes a node alone.
-pub(super) fn of_one<M: Memory>(name: &str, call: &mut Call<'_, M>) -> Answered {
+pub(super) fn side<M: Memory>(call: &mut Call<'_, M>) -> Answered {
     let node: Node = call.read()?;
-    let height = node.height();
-    match name {
-        "height" => call.to.show(&height),
-        "leftmost" if height < 64 => call.to.show(&node.leftmost_descendent().0),
-        "rightmost" if height < 64 => call.to.show(&node.rightmost_descendent().0),
-        "children" if height > 0 && height < 64 => {
-            let (left, right) = node.children();
-            call.to.show(&left.0)?;
-            call.to.show(&right.0)
-        }
-        _ if height < 63 => below_the_highest(name, node, call),
-        _ => Err(Fault::BadCall),
+    if node.height() >= 63 {
+        return Err(Fault::BadCall);
+    }
+    match node.side() {
+        Side::Left => call.to.word("Left"),
+        Side::Right => call.to.word("Right"),
     }
 }
 
-// Answers the call of this name for a node of height below 63.
-fn below_the_highest<M: Memory>(name: &str, node: Node, call: &mut Call<'_, M>) -> Answered
+pub(super) fn children<M: Memory>(call: &mut Call<'_, M>) -> Answered {
+    let node: Node = call.read()?;
+    if node.height() == 0 || node.height() >= 64 {
+        return Err(Fault::BadCall);
+    }
+    let (left, right) = node.children();
+    call.to.show(&left.0)?;
+    call.to.show(&right.0)
+}
+
+/// The node to which the call of this name leads from another one.
+pub(super) fn other<M: Memory>(name: &str, call: &mut Call<'_, M>) -> Answered {
+    let node = relative(name, call.read()?).ok_or(Fault::BadCall)?;
+    call.to.show(&node.0)
+}
+
+// The same, or None where the call's condition isn't met.
+fn relative(name: &str, node: Node) -> Option<Node> {
+    let height = node.height();
+    match name {
+        "leftmost" if height < 64 => Some(node.leftmost_descendent()),
+        "rightmost" if height < 64 => Some(node.rightmost_descendent()),
+        _ if height < 63 => beside_or_above(name, node),
+        _ => None,
+    }
+}
+
+// The node beside or above a node of height below 63.
+fn beside_or_above(name: &str, node: Node) -> Option<Node>
     requires { height_of node.0 < 63 }
 {
     match (name, node.side()) {
-        ("side", Side::Left) => call.to.word("Left"),
-        ("side", Side::Right) => call.to.word("Right"),
-        ("sibling", _) => call.to.show(&node.sibling().0),
-        ("parent", _) => call.to.show(&node.parent().0),
-        ("left_sibling", Side::Right) => call.to.show(&node.left_sibling().0),
-        ("right_sibling", Side::Left) => call.to.show(&node.right_sibling().0),
-        _ => Err(Fault::BadCall),
+        ("sibling", _) => Some(node.sibling()),
+        ("parent", _) => Some(node.parent()),
+        ("left_sibling", Side::Right) => Some(node.left_sibling()),
+        ("right_sibling", Side::Left) => Some(node.right_sibling()),
+        _ => None,
     }
 }
 

@@ -14,13 +14,16 @@ use warg_pages::{ChangedPage, PagedMap, Pages, ProveError, WayError};
 
 /// The version and the bytes of the page at a prefix, or `none`.
 pub(super) fn page<D: SupportedDigest, M: Memory>(call: &mut Call<'_, M>) -> Answered {
-    let pairs: Vec<Pair> = call.list()?;
-    let prefix: Vec<u8> = call.read()?;
+    let (pairs, prefix): (Vec<Pair>, Vec<u8>) = call.read()?;
     let mut kept: Kept<D, M> = Kept::new(call);
     kept.commit(pairs.as_slice())?;
-    let Some(page) = kept.newest(prefix.as_slice()) else {
-        return call.to.word("none");
-    };
+    match kept.newest(prefix.as_slice()) {
+        Some(page) => write(call, page),
+        None => call.to.word("none"),
+    }
+}
+
+fn write<D, M: Memory>(call: &mut Call<'_, M>, page: &ChangedPage<D, M>) -> Answered {
     let bytes = call.made(page.page.write(call.memory))?;
     call.to.show(&page.version)?;
     call.to.bytes(bytes.as_slice())
@@ -28,14 +31,9 @@ pub(super) fn page<D: SupportedDigest, M: Memory>(call: &mut Call<'_, M>) -> Ans
 
 /// The pages that a commit behind the first insertions writes, ascending by their prefixes. The root is then the map's.
 pub(super) fn pages<D: SupportedDigest, M: Memory>(call: &mut Call<'_, M>) -> Answered {
-    let pairs: Vec<Pair> = call.list()?;
-    let old: usize = call.read()?;
-    let (front, rest) = pairs.as_slice().split_at(old.min(pairs.len()));
+    let (pairs, old): (Vec<Pair>, usize) = call.read()?;
     let mut kept: Kept<D, M> = Kept::new(call);
-    kept.commit(front)?;
-    let names = kept.commit(rest)?;
-    let map: BytesMap<'_, D, _> = grown(call.alloc(), pairs.as_slice())?;
-    Fault::unless(kept.map.root == *map.root(), Promise::SameRoot)?;
+    let names = kept.commit_both(pairs.as_slice(), old)?;
     call.to.list(names.as_slice())
 }
 
@@ -44,6 +42,18 @@ pub(super) fn pages<D: SupportedDigest, M: Memory>(call: &mut Call<'_, M>) -> An
 struct Name {
     prefix: Vec<u8>,
     version: u64,
+}
+
+impl Name {
+    fn of<D: SupportedDigest, M: Memory>(
+        alloc: Global,
+        page: &ChangedPage<D, M>,
+    ) -> Result<Name, AllocError> {
+        Ok(Name {
+            prefix: Vec::from_slice(alloc, page.prefix.as_slice())?,
+            version: page.version,
+        })
+    }
 }
 
 impl Item for Name {
@@ -100,28 +110,37 @@ impl<D: SupportedDigest, M: Memory> Kept<D, M> {
         }
     }
 
+    // Inserts the first pairs, and then the others, and gives the names of the pages that these change.
+    fn commit_both(&mut self, pairs: &[Pair], old: usize) -> Result<Vec<Name>, Fault> {
+        let (front, rest) = pairs.split_at(old.min(pairs.len()));
+        self.commit(front)?;
+        let names = self.commit(rest)?;
+        let map: BytesMap<'_, D, _> = grown(self.alloc, pairs)?;
+        Fault::unless(self.map.root == *map.root(), Promise::SameRoot)?;
+        Ok(names)
+    }
+
     // Inserts pairs, keeps the pages that change, and gives their names.
     fn commit(&mut self, pairs: &[Pair]) -> Result<Vec<Name>, Fault> {
         let mut names = Vec::new(self.alloc);
-        if pairs.len() as u64 > u64::MAX - self.map.version {
-            return Err(Fault::BadCall);
-        }
-        let changed = match self.map.insert_all(self.pages.memory, &self.pages, pairs) {
-            Ok(changed) => changed,
-            Err(ProveError::Pages(NotLent::NoPage)) => return Err(Fault::Broken(Promise::Answer)),
-            Err(ProveError::Pages(NotLent::Memory)) => return Err(Fault::Memory),
-            Err(ProveError::Way(WayError::Memory)) => return Err(Fault::Memory),
-            Err(ProveError::Way(_)) => return Err(Fault::Broken(Promise::Answer)),
-        };
-        for page in changed {
-            let name = Name {
-                prefix: Vec::from_slice(self.alloc, page.prefix.as_slice())?,
-                version: page.version,
-            };
-            put_in_order(&mut names, name)?;
+        for page in self.insert(pairs)? {
+            put_in_order(&mut names, Name::of(self.alloc, &page)?)?;
             self.pages.pages.push(page)?;
         }
         Ok(names)
+    }
+
+    // Inserts pairs, and gives the pages that change.
+    fn insert(&mut self, pairs: &[Pair]) -> Result<Vec<ChangedPage<D, M>, M>, Fault> {
+        if pairs.len() as u64 > u64::MAX - self.map.version {
+            return Err(Fault::BadCall);
+        }
+        match self.map.insert_all(self.pages.memory, &self.pages, pairs) {
+            Ok(changed) => Ok(changed),
+            Err(ProveError::Pages(fault)) => Err(fault.into()),
+            Err(ProveError::Way(WayError::Memory)) => Err(Fault::Memory),
+            Err(ProveError::Way(_)) => Err(Fault::Broken(Promise::Answer)),
+        }
     }
 
     // The newest page at a prefix.

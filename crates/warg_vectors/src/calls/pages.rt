@@ -21,10 +21,17 @@ pub(super) fn read_page<M: Memory>(call: &mut Call<'_, M>) -> Answered {
     let page: MapPage<Sha256, M> = call.made(MapPage::read(call.memory, bytes.as_slice()))?;
     let written = call.made(page.write(call.memory))?;
     Fault::unless(written.as_slice() == bytes.as_slice(), Promise::SameValue)?;
-    for slot in page.slots() {
-        Fault::unless(page.slot(slot.byte).is_some(), Promise::Answer)?;
-    }
+    Fault::unless(finds_its_slots(&page), Promise::Answer)?;
     call.to.show(&page.slots().len())
+}
+
+fn finds_its_slots<D, M: Memory>(page: &MapPage<D, M>) -> bool {
+    for slot in page.slots() {
+        if page.slot(slot.byte).is_none() {
+            return false;
+        }
+    }
+    true
 }
 
 pub(super) fn page_digest<D: SupportedDigest, M: Memory>(call: &mut Call<'_, M>) -> Answered {
@@ -39,13 +46,20 @@ pub(super) fn page_digest<D: SupportedDigest, M: Memory>(call: &mut Call<'_, M>)
 /// The index of the last insertion under a key's digest, if there is one, and the proof, by way of the pages of the
 /// insertions.
 pub(super) fn get<D: SupportedDigest, M: Memory>(call: &mut Call<'_, M>) -> Answered {
-    let insertions: Vec<Pair> = call.list()?;
-    let key: Vec<u8> = call.read()?;
+    let (insertions, key): (Vec<Pair>, Vec<u8>) = call.read()?;
     let insertions = insertions.as_slice();
     let map: BytesMap<'_, D, _> = grown(call.alloc(), insertions)?;
     let pages = Way::of(call, insertions, &Hash::<D>::of(&key))?;
     let version = insertions.len() as u64;
-    match prove_by_pages(call.memory, &pages, map.root(), version, &key) {
+    let found = prove_by_pages(call.memory, &pages, map.root(), version, &key);
+    write_found(call, found)
+}
+
+fn write_found<D, M: Memory>(
+    call: &mut Call<'_, M>,
+    found: Result<KeyInPages<D, M>, ProveError<NotLent>>,
+) -> Answered {
+    match found {
         Ok(KeyInPages::Held(index, _, peers)) => {
             call.to.show(&index)?;
             call.to.list(peers.as_slice())
@@ -54,8 +68,7 @@ pub(super) fn get<D: SupportedDigest, M: Memory>(call: &mut Call<'_, M>) -> Answ
             call.to.word("absent")?;
             call.to.list(peers.as_slice())
         }
-        Err(ProveError::Pages(NotLent::Memory)) => Err(Fault::Memory),
-        Err(ProveError::Pages(NotLent::NoPage)) => Err(Fault::Broken(Promise::Answer)),
+        Err(ProveError::Pages(fault)) => Err(fault.into()),
         Err(ProveError::Way(fault)) => call.made(Err(fault)),
     }
 }

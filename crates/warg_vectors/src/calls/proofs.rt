@@ -4,14 +4,18 @@ use crate::call::Call;
 use crate::fault::{Answered, Fault, Promise};
 use crate::memory::Memory;
 use crate::words::{Data, Length};
+use std::alloc::Global;
 use warg_crypto::{Hash, Sha256, SupportedDigest};
-use warg_log::{LogData, Node, VecLog};
+use warg_log::{InclusionProof, LogData, Node, VecLog};
 
 // A log of which only its proofs are looked at.
 type Empty = VecLog<Sha256, Vec<u8>>;
 
+// A node, and the length of the log.
+type Place = (Node, Length);
+
 pub(super) fn walk<M: Memory>(call: &mut Call<'_, M>) -> Answered {
-    let (node, length): (Node, Length) = call.read()?;
+    let (node, length): Place = call.read()?;
     let proof = Empty::default(call.alloc()).prove_inclusion(node, length.value);
     let walk = call.made(proof.walk(call.memory))?;
     call.to.list(walk.nodes())?;
@@ -24,33 +28,40 @@ pub(super) fn walk<M: Memory>(call: &mut Call<'_, M>) -> Answered {
 pub(super) fn inclusions<M: Memory>(call: &mut Call<'_, M>) -> Answered {
     let (old, new): (Length, Length) = call.read()?;
     let proof = Empty::default(call.alloc()).prove_consistency(old.value, new.value);
-    let mut leaves = Vec::new(call.alloc());
-    for inclusion in call.made(proof.inclusions(call.memory))?.as_slice() {
-        Fault::unless(inclusion.log_length() == new.value, Promise::SameValue)?;
-        leaves.push(inclusion.leaf())?;
-    }
+    let inclusions = call.made(proof.inclusions(call.memory))?;
+    let leaves = leaves_of(call.alloc(), inclusions.as_slice(), new.value)?;
     call.to.list(leaves.as_slice())
 }
 
+fn leaves_of(
+    alloc: Global,
+    inclusions: &[InclusionProof<Sha256, Vec<u8>>],
+    length: usize,
+) -> Result<Vec<Node>, Fault> {
+    let mut leaves = Vec::new(alloc);
+    for inclusion in inclusions {
+        Fault::unless(inclusion.log_length() == length, Promise::SameValue)?;
+        leaves.push(inclusion.leaf())?;
+    }
+    Ok(leaves)
+}
+
 pub(super) fn evaluate_value<D: SupportedDigest, M: Memory>(call: &mut Call<'_, M>) -> Answered {
-    let (node, length): (Node, Length) = call.read()?;
-    let (data, value): (Data<D>, Vec<u8>) = call.read()?;
+    let ((node, length), data, value): (Place, Data<D>, Vec<u8>) = call.read()?;
     let proof = data.held.prove_inclusion(node, length.value);
     let root = call.made(proof.evaluate_value(&data.held, &value))?;
     call.to.show(&root)
 }
 
 pub(super) fn evaluate_hash<D: SupportedDigest, M: Memory>(call: &mut Call<'_, M>) -> Answered {
-    let (node, length): (Node, Length) = call.read()?;
-    let (data, hash): (Data<D>, Hash<D>) = call.read()?;
+    let ((node, length), data, hash): (Place, Data<D>, Hash<D>) = call.read()?;
     let proof = data.held.prove_inclusion(node, length.value);
     let root = call.made(proof.evaluate_hash(&data.held, hash))?;
     call.to.show(&root)
 }
 
 pub(super) fn consistency<D: SupportedDigest, M: Memory>(call: &mut Call<'_, M>) -> Answered {
-    let (old, new): (Length, Length) = call.read()?;
-    let data: Data<D> = call.read()?;
+    let (old, new, data): (Length, Length, Data<D>) = call.read()?;
     let proof = data.held.prove_consistency(old.value, new.value);
     let (old_root, new_root) = call.made(proof.evaluate(&data.held))?;
     call.to.show(&old_root)?;

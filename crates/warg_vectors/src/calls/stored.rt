@@ -65,8 +65,8 @@ impl<D: SupportedDigest, M: Memory> Stored<M> for LogBundle<D, M> {
 }
 
 /// Its message goes through its parts, too.
-impl<D: SupportedDigest, M: Memory> Stored<M> for MapBundle<D, M> {
-    fn decode(memory: M, bytes: &[u8]) -> Result<MapBundle<D, M>, DecodeError> {
+impl<D: SupportedDigest, K, V, M: Memory> Stored<M> for MapProofBundle<D, K, V, M> {
+    fn decode(memory: M, bytes: &[u8]) -> Result<MapProofBundle<D, K, V, M>, DecodeError> {
         MapProofBundle::decode(memory, bytes)
     }
 
@@ -74,9 +74,9 @@ impl<D: SupportedDigest, M: Memory> Stored<M> for MapBundle<D, M> {
         MapProofBundle::encode(self, memory)
     }
 
-    fn through_message(&self, memory: M) -> Result<MapBundle<D, M>, Fault> {
+    fn through_message(&self, memory: M) -> Result<MapProofBundle<D, K, V, M>, Fault> {
         let message = self.to_message(memory)?;
-        let bundle: MapBundle<D, M> = MapProofBundle::from_message(memory, message)?;
+        let bundle: MapProofBundle<D, K, V, M> = MapProofBundle::from_message(memory, message)?;
         let (proofs, absences) = bundle.unbundle_all();
         Ok(MapProofBundle::bundle_with(proofs, absences))
     }

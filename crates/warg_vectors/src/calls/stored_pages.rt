@@ -2,6 +2,7 @@
 
 use crate::call::Call;
 use crate::calls::maps::Pair;
+use crate::fault::{Fault, Promise};
 use crate::memory::Memory;
 use std::alloc::{AllocError, Global};
 use warg_crypto::{Hash, Side, SupportedDigest, empty_tree_hash, hash_leaf};
@@ -12,6 +13,15 @@ use warg_pages::{MapPage, Pages};
 pub(super) enum NotLent {
     NoPage,
     Memory,
+}
+
+impl From<NotLent> for Fault {
+    fn from(fault: NotLent) -> Fault {
+        match fault {
+            NotLent::NoPage => Fault::Broken(Promise::Answer),
+            NotLent::Memory => Fault::Memory,
+        }
+    }
 }
 
 // A page by its prefix and its version.
@@ -79,15 +89,26 @@ impl<M: Memory> Way<M> {
             if held.is_empty() || depth > 0 && held.len() == 1 {
                 break;
             }
-            pages.push(StoredPage {
-                prefix: Vec::from_slice(alloc, &key.bytes()[..depth])?,
-                version: greatest_version(held.as_slice()),
-                bytes: page_bytes(alloc, held.as_slice(), depth)?,
-            })?;
+            let prefix = Vec::from_slice(alloc, &key.bytes()[..depth])?;
+            pages.push(stored_page(prefix, held.as_slice())?)?;
             held = going_on(alloc, held.as_slice(), depth, key.bytes()[depth])?;
         }
         Ok(Way { pages, memory })
     }
+}
+
+// The page at a prefix, with these below it.
+fn stored_page<D: SupportedDigest>(
+    prefix: Vec<u8>,
+    held: &[Held<D>],
+) -> Result<StoredPage, AllocError> {
+    let bytes = page_bytes(*prefix.allocator(), held, prefix.len())?;
+    let version = greatest_version(held);
+    Ok(StoredPage {
+        prefix,
+        version,
+        bytes,
+    })
 }
 
 // What is held after these insertions.

@@ -1,5 +1,6 @@
 //! Checkpoint texts.
 
+use crate::answer::Answer;
 use crate::call::Call;
 use crate::fault::{Answered, Fault};
 use crate::memory::Memory;
@@ -8,27 +9,39 @@ use warg_crypto::{Hash, Sha256};
 use warg_log::Checkpoint;
 use warg_tiles::{CheckpointText, CheckpointTextError};
 
+// A text in a call's memory.
+type Text<M> = CheckpointText<Sha256, M>;
+
 /// The text that says a length and a root of the log with an origin.
 pub(super) fn checkpoint_text<M: Memory>(call: &mut Call<'_, M>) -> Answered {
-    let origin: Vec<u8> = call.read()?;
-    let (length, root): (Length, Hash<Sha256>) = call.read()?;
-    let checkpoint = Checkpoint::new(root, length.value);
-    let text = match CheckpointText::new(call.memory, origin.as_slice(), checkpoint) {
-        Err(CheckpointTextError::Origin) => return Err(Fault::BadCall),
-        text => call.made(text)?,
-    };
+    let (origin, length, root): (Vec<u8>, Length, Hash<Sha256>) = call.read()?;
+    let text = text_of(call, origin.as_slice(), Checkpoint::new(root, length.value))?;
     call.write_bytes(text.write(call.memory))
+}
+
+fn text_of<M: Memory>(
+    call: &Call<'_, M>,
+    origin: &[u8],
+    checkpoint: Checkpoint<Sha256>,
+) -> Result<Text<M>, Fault> {
+    match CheckpointText::new(call.memory, origin, checkpoint) {
+        Err(CheckpointTextError::Origin) => Err(Fault::BadCall),
+        text => call.made(text),
+    }
 }
 
 /// What a text says, and what is behind it.
 pub(super) fn read_checkpoint_text<M: Memory>(call: &mut Call<'_, M>) -> Answered {
     let bytes: Vec<u8> = call.read()?;
-    let read = CheckpointText::<Sha256, M>::read(call.memory, bytes.as_slice());
-    let (text, behind) = call.made(read)?;
+    let (text, behind) = call.made(Text::<M>::read(call.memory, bytes.as_slice()))?;
+    write(&mut call.to, &text, behind.unwrap_or(b""))
+}
+
+fn write<M: Memory>(to: &mut Answer, text: &Text<M>, behind: &[u8]) -> Answered {
     let checkpoint = text.checkpoint();
-    call.to.bytes(text.origin())?;
-    call.to.show(&checkpoint.length())?;
-    call.to.show(&checkpoint.root())?;
-    call.to.list(text.extensions())?;
-    call.to.bytes(behind.unwrap_or(b""))
+    to.bytes(text.origin())?;
+    to.show(&checkpoint.length())?;
+    to.show(&checkpoint.root())?;
+    to.list(text.extensions())?;
+    to.bytes(behind)
 }

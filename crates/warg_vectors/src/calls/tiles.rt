@@ -1,12 +1,13 @@
 //! Tiles and entry bundles, and their paths.
 
-use crate::answer::Item;
+use crate::answer::{Answer, Item};
 use crate::call::Call;
+use crate::calls::logs::beginning;
 use crate::fault::{Answered, Fault};
 use crate::memory::Memory;
 use crate::words::Length;
 use warg_crypto::SupportedDigest;
-use warg_log::{GREATEST_LENGTH, LogBuilder, LogData, Node, VecLog};
+use warg_log::{GREATEST_LENGTH, LogData, Node};
 use warg_tiles::{Tile, TileData};
 
 // The tile of these numbers, if they are those of one.
@@ -19,19 +20,18 @@ fn tile_of(level: usize, number: usize, width: usize) -> Result<Tile, Fault> {
 
 // The tile of the level, the number and the width that come next.
 fn read_tile<M: Memory>(call: &mut Call<'_, M>) -> Result<Tile, Fault> {
-    let level: usize = call.read()?;
-    let (number, width): (usize, usize) = call.read()?;
+    let (level, number, width): (usize, usize, usize) = call.read()?;
     tile_of(level, number, width)
 }
 
-fn write<M: Memory>(call: &mut Call<'_, M>, tile: &Tile) -> Answered {
-    let word = tile.item(call.alloc())?;
-    call.to.word(word.as_str())
+fn write(to: &mut Answer, tile: &Tile) -> Answered {
+    let word = tile.item(to.alloc())?;
+    to.word(word.as_str())
 }
 
 pub(super) fn tile_over<M: Memory>(call: &mut Call<'_, M>) -> Answered {
     let node: Node = call.read()?;
-    write(call, &Tile::over(node))
+    write(&mut call.to, &Tile::over(node))
 }
 
 pub(super) fn tile_path<M: Memory>(call: &mut Call<'_, M>) -> Answered {
@@ -54,12 +54,16 @@ pub(super) fn read_tile_path<M: Memory>(call: &mut Call<'_, M>) -> Answered {
     let bytes: Vec<u8> = call.read()?;
     let path = str::from_utf8(bytes.as_slice()).map_err(|_| Fault::BadCall)?;
     if let Ok(tile) = Tile::from_entries_path(path) {
-        let (number, width) = (tile.number(), tile.width());
-        let bundle = format!(in call.alloc(); "entries:{number}:{width}")?;
-        return call.to.word(bundle.as_str());
+        return write_bundle(&mut call.to, &tile);
     }
     let tile = call.made(Tile::from_path(path))?;
-    write(call, &tile)
+    write(&mut call.to, &tile)
+}
+
+fn write_bundle(to: &mut Answer, tile: &Tile) -> Answered {
+    let (number, width) = (tile.number(), tile.width());
+    let bundle = format!(in to.alloc(); "entries:{number}:{width}")?;
+    to.word(bundle.as_str())
 }
 
 /// The tiles by which a log grows.
@@ -74,41 +78,47 @@ pub(super) fn tiles_between<M: Memory>(call: &mut Call<'_, M>) -> Answered {
 /// The digests of a tile by the log of some entries.
 pub(super) fn tile_hashes<D: SupportedDigest, M: Memory>(call: &mut Call<'_, M>) -> Answered {
     let tile = read_tile(call)?;
-    let entries: Vec<Vec<u8>> = call.list()?;
+    let entries: Vec<Vec<u8>> = call.read()?;
     if !tile.exists_at_length(GREATEST_LENGTH) {
         return Err(Fault::BadCall);
     }
-    let mut log: VecLog<D, Vec<u8>> = VecLog::default(call.alloc());
-    for entry in entries.as_slice() {
-        if log.length() < GREATEST_LENGTH {
-            log.push(entry)?;
-        }
-    }
+    let log = beginning::<D>(call.alloc(), entries.as_slice(), entries.len())?;
     call.write_list(warg_tiles::tile_hashes(call.memory, &log, &tile))
 }
 
 /// A node's digest by one tile, which is given by its level, its number and the bytes of its digests.
 pub(super) fn tile_data<D: SupportedDigest, M: Memory>(call: &mut Call<'_, M>) -> Answered {
-    let (level, (number, bytes)): (usize, (usize, Vec<u8>)) = call.read_parts()?;
+    let (level, number, bytes): (usize, usize, Vec<u8>) = call.read_parts()?;
     let node: Node = call.read()?;
-    if bytes.len() % 32 != 0 {
-        return Err(Fault::BadCall);
-    }
-    let tile = tile_of(level, number, bytes.len() / 32)?;
-    let digests = call.made(warg_paths::hashes_in(call.memory, bytes.as_slice()))?;
-    if digests.len() != tile.width() {
-        return Err(Fault::BadCall);
-    }
-    let mut data: TileData<D, Vec<u8>, M> = TileData::new(call.memory);
-    call.made(data.insert(tile, digests))?;
+    let data: TileData<D, Vec<u8>, M> = held_tile(call, level, number, bytes.as_slice())?;
     match data.hash_for(node) {
         Some(digest) => call.to.show(&digest),
         None => call.to.word("none"),
     }
 }
 
+// The data of one tile, whose digests are these bytes.
+fn held_tile<D: SupportedDigest, M: Memory>(
+    call: &Call<'_, M>,
+    level: usize,
+    number: usize,
+    bytes: &[u8],
+) -> Result<TileData<D, Vec<u8>, M>, Fault> {
+    if bytes.len() % 32 != 0 {
+        return Err(Fault::BadCall);
+    }
+    let tile = tile_of(level, number, bytes.len() / 32)?;
+    let digests = call.made(warg_paths::hashes_in(call.memory, bytes))?;
+    if digests.len() != tile.width() {
+        return Err(Fault::BadCall);
+    }
+    let mut data = TileData::new(call.memory);
+    call.made(data.insert(tile, digests))?;
+    Ok(data)
+}
+
 pub(super) fn entry_bundle<M: Memory>(call: &mut Call<'_, M>) -> Answered {
-    let entries: Vec<Vec<u8>> = call.list()?;
+    let entries: Vec<Vec<u8>> = call.read()?;
     call.write_bytes(warg_tiles::write_entries(call.memory, entries.as_slice()))
 }
 

@@ -7,10 +7,23 @@ use crate::words::{Data, Length};
 use warg_crypto::{Hash, SupportedDigest};
 use warg_log::{LogData, Node};
 
+// A node, and the length of the log.
+type Place = (Node, Length);
+
+// The index of an entry, and the length of the log.
+type Index = (usize, Length);
+
+// The data of a proof, and the value that it is of.
+type Claim<D> = (Data<D>, Vec<u8>);
+
+// A value, and the path from its record.
+type Record<D> = (Vec<u8>, Vec<Hash<D>>);
+
+// The values of a log's entries.
+type Entries = Vec<Vec<u8>>;
+
 pub(super) fn value<D: SupportedDigest, M: Memory>(call: &mut Call<'_, M>) -> Answered {
-    let (node, length): (Node, Length) = call.read()?;
-    let (data, value): (Data<D>, Vec<u8>) = call.read()?;
-    let entries: Vec<Vec<u8>> = call.list()?;
+    let ((node, length), (data, value), entries): (Place, Claim<D>, Entries) = call.read()?;
     let proof = data.held.prove_inclusion(node, length.value);
     let entries = entries.as_slice();
     let found = warg_witness::witness_value(call.memory, &proof, &data.held, &value, entries);
@@ -19,9 +32,8 @@ pub(super) fn value<D: SupportedDigest, M: Memory>(call: &mut Call<'_, M>) -> An
 }
 
 pub(super) fn hash<D: SupportedDigest, M: Memory>(call: &mut Call<'_, M>) -> Answered {
-    let (node, length): (Node, Length) = call.read()?;
-    let (data, hash): (Data<D>, Hash<D>) = call.read()?;
-    let entries: Vec<Vec<u8>> = call.list()?;
+    let ((node, length), (data, hash), entries): (Place, (Data<D>, Hash<D>), Entries) =
+        call.read()?;
     let proof = data.held.prove_inclusion(node, length.value);
     let entries = entries.as_slice();
     let found = warg_witness::witness_hash(call.memory, &proof, &data.held, hash, entries);
@@ -30,10 +42,8 @@ pub(super) fn hash<D: SupportedDigest, M: Memory>(call: &mut Call<'_, M>) -> Ans
 }
 
 pub(super) fn consistency<D: SupportedDigest, M: Memory>(call: &mut Call<'_, M>) -> Answered {
-    let (from, until): (Length, Length) = call.read()?;
-    let data: Data<D> = call.read()?;
-    let old: Vec<Vec<u8>> = call.list()?;
-    let new: Vec<Vec<u8>> = call.list()?;
+    let ((from, until), data, (old, new)): ((Length, Length), Data<D>, (Entries, Entries)) =
+        call.read()?;
     let proof = data.held.prove_consistency(from.value, until.value);
     let (old, new) = (old.as_slice(), new.as_slice());
     let found = warg_witness::witness_consistency(call.memory, &proof, &data.held, old, new);
@@ -42,26 +52,20 @@ pub(super) fn consistency<D: SupportedDigest, M: Memory>(call: &mut Call<'_, M>)
 }
 
 pub(super) fn record<D: SupportedDigest, M: Memory>(call: &mut Call<'_, M>) -> Answered {
-    let index: usize = call.read()?;
-    let path: Vec<Hash<D>> = call.list()?;
-    let value: Vec<u8> = call.read()?;
-    let entries: Vec<Vec<u8>> = call.list()?;
+    let ((index, path), value, entries): ((usize, Vec<Hash<D>>), Vec<u8>, Entries) = call.read()?;
     let (path, entries) = (path.as_slice(), entries.as_slice());
     call.write_found(warg_witness::witness_record(call.memory, index, path, &value, entries))
 }
 
 pub(super) fn tree<D: SupportedDigest, M: Memory>(call: &mut Call<'_, M>) -> Answered {
-    let path: Vec<Hash<D>> = call.list()?;
-    let old: Vec<Vec<u8>> = call.list()?;
-    let new: Vec<Vec<u8>> = call.list()?;
+    let (path, old, new): (Vec<Hash<D>>, Entries, Entries) = call.read()?;
     let (path, old, new) = (path.as_slice(), old.as_slice(), new.as_slice());
     call.write_found(warg_witness::witness_tree(call.memory, path, old, new))
 }
 
 pub(super) fn agree_value<D: SupportedDigest, M: Memory>(call: &mut Call<'_, M>) -> Answered {
-    let (node, length): (Node, Length) = call.read()?;
-    let (data, value): (Data<D>, Vec<u8>) = call.read()?;
-    let (other, other_value): (Data<D>, Vec<u8>) = call.read()?;
+    let ((node, length), (data, value), (other, other_value)): (Place, Claim<D>, Claim<D>) =
+        call.read()?;
     let proof = data.held.prove_inclusion(node, length.value);
     let found = warg_witness::agree_value(
         call.memory,
@@ -77,21 +81,16 @@ pub(super) fn agree_value<D: SupportedDigest, M: Memory>(call: &mut Call<'_, M>)
 }
 
 pub(super) fn agree_record<D: SupportedDigest, M: Memory>(call: &mut Call<'_, M>) -> Answered {
-    let (index, length): (usize, Length) = call.read()?;
-    let value: Vec<u8> = call.read()?;
-    let path: Vec<Hash<D>> = call.list()?;
-    let other: Vec<u8> = call.read()?;
-    let other_path: Vec<Hash<D>> = call.list()?;
-    let (path, other_path) = (path.as_slice(), other_path.as_slice());
-    let length = length.value;
+    let ((index, length), (value, path), (other, other_path)): (Index, Record<D>, Record<D>) =
+        call.read()?;
     let found = warg_witness::agree_record(
         call.memory,
         index,
-        length,
+        length.value,
         &value,
-        path,
+        path.as_slice(),
         &other,
-        other_path,
+        other_path.as_slice(),
     );
     call.write_found(found)
 }
