@@ -1,3 +1,4 @@
 mod Entries
 mod MapLines
 mod HeldEntries
+mod PremiseLemmas
