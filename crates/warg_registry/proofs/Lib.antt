@@ -2,3 +2,4 @@ mod Entries
 mod MapLines
 mod HeldEntries
 mod PremiseLemmas
+pub mod ForCallers

@@ -1,11 +1,13 @@
 //! A registry: what it keeps and says of a release, and how a client looks a package up.
 
-ghost use Rattle.std.specs.Prelude.{◌≡◌, ℕ, List, [], ◌∷◌, ◌++◌, Option, IfOk, IfSome, OnErr};
+ghost use Rattle.std.specs.Prelude.{◌≡◌, ℕ, List, [], ◌∷◌, ◌++◌, length, map, Option, Some, MatchOption, IfOk, IfSome, OnErr};
 ghost use Rattle.warg_crypto.specs.Digests.{sha256};
 ghost use Rattle.warg_crypto.specs.Tree.{leaf_digest};
 ghost use Rattle.warg_map.specs.Bits.{key_bits};
+ghost use Rattle.warg_map.specs.Last.{last_under};
 ghost use Rattle.warg_map.specs.ProofValue.{proof_value};
-ghost use Rattle.warg_registry.specs.Insertions.{entry_of};
+ghost use Rattle.warg_pages.specs.ProvedKeys.{IsOwnSource};
+ghost use Rattle.warg_registry.specs.Insertions.{entry_of, entries_of, IsInsertion};
 ghost use Rattle.warg_registry.specs.Registry.{line_of};
 
 use anyhow::Result;
@@ -35,7 +37,8 @@ pub fn announced(
 }
 
 /// The version that a registry's map has under a package's name, out of the entries of its log, which anyone may have given:
-/// its leaf digest leads to the map's root. Nothing where the map has none, or the entry that the pages name isn't of it.
+/// its leaf digest leads to the map's root. Over the registry's own pages and entries it is found where the last insertion
+/// under the name's digest is of this name.
 pub fn newest<'a, P: Pages<Global>>(
     alloc: Global,
     entries: &'a [Vec<u8>],
@@ -43,9 +46,14 @@ pub fn newest<'a, P: Pages<Global>>(
     root: &Hash<Sha256>,
     name: &str,
 ) -> Result<Option<&'a [u8]>, ProveError<P::Error>>
-    ensures { IfOk result (λ found. IfSome found (λ version. (peers : List (Option (List ℕ)))
+    ensures leads { IfOk result (λ found. IfSome found (λ version. (peers : List (Option (List ℕ)))
         × (proof_value sha256 peers (leaf_digest sha256 version.now) (key_bits sha256 name.now)
         ≡ root.now))) }
+    ensures own { IfOk result (λ found. (insertions : List (List ℕ × List ℕ)) (version : List ℕ)
+        → IsOwnSource sha256 (P.bytes_at pages.now) root.now (length entries.now) insertions
+        → map (λ e. e.items) entries.now ≡ entries_of insertions → IsInsertion (name.now, version)
+        → last_under sha256 (key_bits sha256 name.now) insertions ≡ Some (name.now, version)
+        → MatchOption found ⊥ (λ read. read.now ≡ version)) }
 {
     let KeyInPages::Held(index, leaf, _) = prove_by_pages(
         alloc,
