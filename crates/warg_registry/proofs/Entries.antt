@@ -50,7 +50,8 @@ same_lengths a b fa e =
 pub one_insertion : (a b : List ℕ × List ℕ) → IsInsertion a → entry_of a ≡ entry_of b → a ≡ b
 one_insertion a b fa e =
     let lengths = same_lengths a b fa e in
-    let same = framed_pairs a.0 a.1 b.0 b.1 fa.0 fa.1 (omega (arith, fa.0, lengths.0)) (omega (arith, fa.1, lengths.1)) e in
+    let fb : IsInsertion b = (omega (arith, fa.0, lengths.0), omega (arith, fa.1, lengths.1)) in
+    let same = framed_pairs a.0 a.1 b.0 b.1 fa.0 fa.1 fb.0 fb.1 e in
     ap (λ k. (k, a.1)) same.0 ∙ ap (λ v. (b.0, v)) same.1
 
 -- And so are lists of insertions of the same entries.

@@ -15,7 +15,7 @@ use Rattle.warg_registry.proofs.HeldEntries as held
 pub one_insertion : (a b : List ℕ × List ℕ) → IsInsertion a → entry_of a ≡ entry_of b → a ≡ b
 one_insertion = entries.one_insertion
 
--- The entry at a held key's index is that of the last insertion under the key's digest, where this is of the key itself.
+-- The entry at a held key's index is that of the last insertion under its digest, where this is of the key itself.
 pub own_entry : (H : List ℕ → List ℕ) (insertions : List (List ℕ × List ℕ)) (key value leaf : List ℕ) (index : ℕ)
     → index + 1 ≡ version H insertions (key_bits H key) → get (map_of H insertions) (key_bits H key) ≡ Some leaf
     → last_under H (key_bits H key) insertions ≡ Some (key, value)

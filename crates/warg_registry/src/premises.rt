@@ -1,5 +1,5 @@
-//! What the premises of the laws are for: the contract of each function says that the law of its name is false without any
-//! one of them, and it has no effect.
+//! What the premises of the laws are for: the contract of each function says that the law of its name is false without
+//! any one of them, and it has no effect.
 
 ghost use Rattle.std.specs.Prelude.{◌≡◌, ℕ, ◌+◌, List, Some, slice_get};
 ghost use Rattle.std.specs.FinMap.{get};

@@ -49,7 +49,8 @@ pub value_found : (H : List ℕ → List ℕ) (entry key name value leaf : List 
     → key ≡ name → IsInsertion (name, value) → entry ≡ entry_of (name, value) → leaf_digest H value ≡ leaf
     → MatchOption found ⊥ (λ v. v.now ≡ value)
 value_found H entry key name value leaf None none called fine is same =
-    none value (subst (λ k. IsInsertion (k, value)) (sym called) fine) (is ∙ ap (λ k. entry_of (k, value)) (sym called)) same
+    let short = subst (λ k. IsInsertion (k, value)) (sym called) fine in
+    none value short (is ∙ ap (λ k. entry_of (k, value)) (sym called)) same
 value_found H entry key name value leaf (Some v) some called fine is same =
     let one = one_insertion (name, value) (key, v.now) fine (sym is ∙ some.0) in
     ap (λ e. e.1) (sym one)

@@ -1,6 +1,7 @@
 //! A registry: what it keeps and says of a release, and how a client looks a package up.
 
-ghost use Rattle.std.specs.Prelude.{◌≡◌, ℕ, List, [], ◌∷◌, ◌++◌, length, map, Option, Some, MatchOption, IfOk, IfSome, OnErr};
+ghost use Rattle.std.specs.Prelude.{◌≡◌, ℕ, List, [], ◌∷◌, ◌++◌, length, map, Option, Some};
+ghost use Rattle.std.specs.Prelude.{MatchOption, IfOk, IfSome, OnErr};
 ghost use Rattle.warg_crypto.specs.Digests.{sha256};
 ghost use Rattle.warg_crypto.specs.Tree.{leaf_digest};
 ghost use Rattle.warg_map.specs.Bits.{key_bits};
@@ -17,8 +18,8 @@ use warg_pages::{KeyInPages, Pages, ProveError, prove_by_pages};
 use warg_registry::{inserted_value, map_line, write_insertion};
 use warg_tiles::CheckpointText;
 
-/// The log's entry of a package's newest version, for the registry to push; the text of the checkpoint after it says the root
-/// of the map that has it.
+/// The log's entry of a package's newest version, for the registry to push; the text of the checkpoint after it says the
+/// root of the map that has it.
 pub fn announced(
     alloc: Global,
     text: &mut CheckpointText<Sha256>,
@@ -36,9 +37,9 @@ pub fn announced(
     Ok(entry)
 }
 
-/// The version that a registry's map has under a package's name, out of the entries of its log, which anyone may have given:
-/// its leaf digest leads to the map's root. Over the registry's own pages and entries it is found where the last insertion
-/// under the name's digest is of this name.
+/// The version that a registry's map has under a package's name, out of the entries of its log, which anyone may have
+/// given: its leaf digest leads to the map's root. Over the registry's own pages and entries it is found where the last
+/// insertion under the name's digest is of this name.
 pub fn newest<'a, P: Pages<Global>>(
     alloc: Global,
     entries: &'a [Vec<u8>],
