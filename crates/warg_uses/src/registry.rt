@@ -18,8 +18,8 @@ use warg_pages::{KeyInPages, Pages, ProveError, prove_by_pages};
 use warg_registry::{inserted_value, map_line, write_insertion};
 use warg_tiles::CheckpointText;
 
-/// The log's entry of a package's newest version, for the registry to push; the text of the checkpoint after it says the
-/// root of the map that has it.
+/// The log's entry of a package's newest version, for the registry to push; the text of the checkpoint after it says
+/// the root of the map that has it.
 pub fn announced(
     alloc: Global,
     text: &mut CheckpointText<Sha256>,
