@@ -1,5 +1,6 @@
 -- Insertions are told by their entries, and a part by the bytes that begin with it.
-use Rattle.std.proofs.Common.{◌≡◌, ◌≢◌, ℕ, ◌<◌, ◌≤◌, List, [], ◌∷◌, ◌++◌, length, take, drop, get_or, refl, sym, ap, ◌∙◌, All, append_assoc, inl, inr, Bool, true, false, not, ◌&&◌, nat_eq, arith}
+use Rattle.std.proofs.Common.{◌≡◌, ◌≢◌, ℕ, ◌+◌, ◌*◌, ◌/◌, ◌%◌, ◌^◌, ◌<◌, ◌≤◌, List, [], ◌∷◌, ◌++◌, length, take, drop, get_or, refl, sym, ap, ◌∙◌, All, append_assoc, inl, inr, Bool, true, false, not, ◌&&◌, nat_eq, arith}
+use Rattle.std.proofs.Math.Nat.{div-div-eq-div-mul}
 use Rattle.std.specs.Cmp.Lexicographic.{pointwise, bytes_decides}
 use Rattle.std.specs.Int.{to_be_bytes, from_be_bytes, w64}
 use Rattle.std.proofs.lemmas.Bool.{cases_lt}
@@ -12,30 +13,63 @@ use Rattle.warg_crypto.proofs.ForCallers.{framed_pairs}
 use Rattle.warg_registry.specs.Insertions.{entry_of, entries_of, IsInsertion, HasNoPart}
 use Rattle.warg_registry.specs.Registry.{said_of}
 
--- Insertions of one entry are one.
-pub one_insertion : (a b : List ℕ × List ℕ) → IsInsertion a → IsInsertion b → entry_of a ≡ entry_of b → a ≡ b
-one_insertion a b fa fb e =
+-- What eight bytes leave out of a length.
+byte_and_rest : (n p : ℕ) → n / p ≡ n / p % 256 + n / (p * 256) * 256
+byte_and_rest n p = omega (arith, div-div-eq-div-mul n p 256)
+
+joined : (a b c d e f g h n p q r s t u v w : ℕ) → n ≡ a + p * 256 → p ≡ b + q * 256 → q ≡ c + r * 256 → r ≡ d + s * 256
+    → s ≡ e + t * 256 → t ≡ f + u * 256 → u ≡ g + v * 256 → v ≡ h + w * 256
+    → n ≡ h * 72057594037927936 + g * 281474976710656 + f * 1099511627776 + e * 4294967296 + d * 16777216 + c * 65536
+    + b * 256 + a + w * 18446744073709551616
+joined a b c d e f g h n p q r s t u v w at_0 at_1 at_2 at_3 at_4 at_5 at_6 at_7 = omega arith
+
+pub length_read : (n : ℕ) → n ≡ from_be_bytes w64 (to_be_bytes w64 n) + n / 2 ^ 64 * 2 ^ 64
+length_read n =
+    let low : n ≡ n % 256 + n / 256 * 256 = omega arith in
+    joined _ _ _ _ _ _ _ _ n _ _ _ _ _ _ _ _ low (byte_and_rest n 256) (byte_and_rest n 65536)
+    (byte_and_rest n 16777216) (byte_and_rest n 4294967296) (byte_and_rest n 1099511627776)
+    (byte_and_rest n 281474976710656) (byte_and_rest n 72057594037927936)
+
+-- Insertions of one entry have parts of the same lengths, if 8 bytes can say those of one.
+same_lengths : (a b : List ℕ × List ℕ) → IsInsertion a → entry_of a ≡ entry_of b
+    → (length a.0 ≡ length b.0) × (length a.1 ≡ length b.1)
+same_lengths a b fa e =
+    let said : to_be_bytes w64 (length a.0) ≡ to_be_bytes w64 (length b.0) = ap (take 8) e in
+    let read = sym (from_be_bytes-to_be_bytes_8 (length a.0) fa.0) ∙ ap (from_be_bytes w64) said in
+    let rest = length_read (length b.0) in
+    let all = ap length e in
+    let left = length-append a.0 (framed_part a.1 ++ []) in
+    let right = length-append b.0 (framed_part b.1 ++ []) in
+    let value = length-append a.1 [] in
+    let other = length-append b.1 [] in (
+      omega (arith, read, rest, all, left, right, value, other, fa.1),
+      omega (arith, read, rest, all, left, right, value, other, fa.1),
+    )
+
+-- And so they are one.
+pub one_insertion : (a b : List ℕ × List ℕ) → IsInsertion a → entry_of a ≡ entry_of b → a ≡ b
+one_insertion a b fa e =
+    let lengths = same_lengths a b fa e in
+    let fb : IsInsertion b = (omega (arith, fa.0, lengths.0), omega (arith, fa.1, lengths.1)) in
     let same = framed_pairs a.0 a.1 b.0 b.1 fa.0 fa.1 fb.0 fb.1 e in
     ap (λ k. (k, a.1)) same.0 ∙ ap (λ v. (b.0, v)) same.1
 
 -- And so are lists of insertions of the same entries.
-pub one_list : (xs ys : List (List ℕ × List ℕ)) → All IsInsertion xs → All IsInsertion ys
-    → entries_of xs ≡ entries_of ys → xs ≡ ys
-one_list [] [] fx fy e = refl
-one_list [] (y ∷ ys) fx fy e = cc
-one_list (x ∷ xs) [] fx fy e = cc
-one_list (x ∷ xs) (y ∷ ys) fx fy e =
+pub one_list : (xs ys : List (List ℕ × List ℕ)) → All IsInsertion xs → entries_of xs ≡ entries_of ys → xs ≡ ys
+one_list [] [] fx e = refl
+one_list [] (y ∷ ys) fx e = cc
+one_list (x ∷ xs) [] fx e = cc
+one_list (x ∷ xs) (y ∷ ys) fx e =
     let one : entry_of x ≡ entry_of y = cc in
     let more : entries_of xs ≡ entries_of ys = cc in
-    let first = one_insertion x y (All-head IsInsertion x xs fx) (All-head IsInsertion y ys fy) one in
-    let rest = one_list xs ys (All-tail IsInsertion x xs fx) (All-tail IsInsertion y ys fy) more in
+    let first = one_insertion x y (All-head IsInsertion x xs fx) one in
+    let rest = one_list xs ys (All-tail IsInsertion x xs fx) more in
     cc
 
 -- So what a registry says is fixed by its log's entries.
 pub one_registry : (H : List ℕ → List ℕ) (origin : List ℕ) (xs ys : List (List ℕ × List ℕ))
-    → All IsInsertion xs → All IsInsertion ys
-    → entries_of xs ≡ entries_of ys → said_of H origin xs ≡ said_of H origin ys
-one_registry H origin xs ys fx fy e = ap (said_of H origin) (one_list xs ys fx fy e)
+    → All IsInsertion xs → entries_of xs ≡ entries_of ys → said_of H origin xs ≡ said_of H origin ys
+one_registry H origin xs ys fx e = ap (said_of H origin) (one_list xs ys fx e)
 
 -- The length that a part's bytes begin with, and what is behind it.
 pub part_front : (bytes part more : List ℕ) → IsPart part → bytes ≡ framed_part part ++ more
@@ -116,7 +150,7 @@ behind_entry bytes key value rest more first second =
 pub one_entry : (bytes : List ℕ) (a e : List ℕ × List ℕ) → IsInsertion a → IsInsertion e
     → bytes ≡ entry_of a → bytes ≡ entry_of e → (a.0 ≡ e.0) × (a.1 ≡ e.1)
 one_entry bytes a e fa fe is other =
-    let same = one_insertion a e fa fe (sym is ∙ other) in
+    let same = one_insertion a e fa (sym is ∙ other) in
     (ap (λ x. x.0) same, ap (λ x. x.1) same)
 
 -- What `!=` says of bytes, and of hashes.

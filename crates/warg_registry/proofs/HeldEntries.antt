@@ -9,7 +9,7 @@ use Rattle.std.proofs.Math.Dec.{eqb-suc-zero}
 use Rattle.warg_crypto.specs.Tree.{leaf_digest}
 use Rattle.warg_map.specs.Bits.{key_bits}
 use Rattle.warg_map.specs.Sparse.{map_of}
-use Rattle.warg_map.specs.Last.{last_with, same_bits}
+use Rattle.warg_map.specs.Last.{last_with, last_under, same_bits}
 use Rattle.warg_map.proofs.ForCallers.{all_bits, last_held, same_bits-true}
 use Rattle.warg_pages.specs.Prefixes.{begins, is_below, last_place, version}
 use Rattle.warg_registry.specs.Insertions.{entry_of, entries_of}
@@ -39,11 +39,13 @@ lasts p q same (x ∷ xs) = elim (lasts p q same xs) [
   ]
 ]
 
-pub held_entry : (H : List ℕ → List ℕ) (insertions : List (List ℕ × List ℕ)) (key leaf : List ℕ) (index : ℕ)
+-- So the entry at a held key's index is that of the last insertion under the key's digest.
+pub last_entry : (H : List ℕ → List ℕ) (insertions : List (List ℕ × List ℕ)) (key leaf : List ℕ) (index : ℕ)
     → index + 1 ≡ version H insertions (key_bits H key) → get (map_of H insertions) (key_bits H key) ≡ Some leaf
-    → (e : List ℕ × List ℕ) × (slice_get (entries_of insertions) index ≡ Some (entry_of e))
-    × (key_bits H e.0 ≡ key_bits H key) × (leaf_digest H e.1 ≡ leaf)
-held_entry H insertions key leaf index at held =
+    → (e : List ℕ × List ℕ) × (last_under H (key_bits H key) insertions ≡ Some e)
+    × (slice_get (entries_of insertions) index ≡ Some (entry_of e)) × (key_bits H e.0 ≡ key_bits H key)
+    × (leaf_digest H e.1 ≡ leaf)
+last_entry H insertions key leaf index at held =
     let bits = key_bits H key in
     let same = λ (e : List ℕ × List ℕ). begins_all bits (key_bits H e.0) (all_bits H key ∙ sym (all_bits H e.0)) in
     elim (lasts (is_below H bits) (λ e. same_bits bits (key_bits H e.0)) same insertions) [
@@ -55,5 +57,23 @@ held_entry H insertions key leaf index at held =
           let last : Some (leaf_digest H h.1.1) ≡ get (map_of H insertions) bits =
           ap (option_map (λ e. leaf_digest H e.1)) (sym h.3) ∙ sym (last_held H bits insertions) in
           let leaves : Some (leaf_digest H h.1.1) ≡ Some leaf = last ∙ held in
-          (h.1, there, sym (same_bits-true bits (key_bits H h.1.0) h.5), cc)
+          (h.1, h.3, there, sym (same_bits-true bits (key_bits H h.1.0) h.5), cc)
     ]
+
+pub held_entry : (H : List ℕ → List ℕ) (insertions : List (List ℕ × List ℕ)) (key leaf : List ℕ) (index : ℕ)
+    → index + 1 ≡ version H insertions (key_bits H key) → get (map_of H insertions) (key_bits H key) ≡ Some leaf
+    → (e : List ℕ × List ℕ) × (slice_get (entries_of insertions) index ≡ Some (entry_of e))
+    × (key_bits H e.0 ≡ key_bits H key) × (leaf_digest H e.1 ≡ leaf)
+held_entry H insertions key leaf index at held =
+    let last = last_entry H insertions key leaf index at held in
+    (last.0, last.2, last.3, last.4)
+
+pub own_entry : (H : List ℕ → List ℕ) (insertions : List (List ℕ × List ℕ)) (key value leaf : List ℕ) (index : ℕ)
+    → index + 1 ≡ version H insertions (key_bits H key) → get (map_of H insertions) (key_bits H key) ≡ Some leaf
+    → last_under H (key_bits H key) insertions ≡ Some (key, value)
+    → (slice_get (entries_of insertions) index ≡ Some (entry_of (key, value))) × (leaf_digest H value ≡ leaf)
+own_entry H insertions key value leaf index at held own =
+    let last = last_entry H insertions key leaf index at held in
+    let both : Some last.0 ≡ Some (key, value) = sym last.1 ∙ own in
+    let same : last.0 ≡ (key, value) = cc in
+    (last.2 ∙ ap (λ e. Some (entry_of e)) same, ap (λ e. leaf_digest H e.1) (sym same) ∙ last.4)

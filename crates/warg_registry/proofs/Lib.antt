@@ -1,3 +1,5 @@
 mod Entries
 mod MapLines
 mod HeldEntries
+mod PremiseLemmas
+pub mod ForCallers

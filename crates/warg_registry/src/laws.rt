@@ -9,23 +9,21 @@ ghost use Rattle.warg_pages.specs.Prefixes.{version};
 ghost use Rattle.warg_registry.specs.Insertions.{entry_of, entries_of, IsInsertion};
 ghost use Rattle.warg_registry.specs.Registry.{said_of};
 
-/// Insertions of one entry are one insertion.
+/// Insertions of one entry are one insertion, if 8 bytes can say the lengths of one of them.
 pub fn one_insertion()
-    ensures { (a b : List ℕ × List ℕ) → IsInsertion a → IsInsertion b → entry_of a ≡ entry_of b
-        → a ≡ b }
+    ensures { (a b : List ℕ × List ℕ) → IsInsertion a → entry_of a ≡ entry_of b → a ≡ b }
 {}
 
 /// Lists of insertions with the same entries are one list.
 pub fn one_list()
-    ensures { (xs ys : List (List ℕ × List ℕ)) → All IsInsertion xs → All IsInsertion ys
-        → entries_of xs ≡ entries_of ys → xs ≡ ys }
+    ensures { (xs ys : List (List ℕ × List ℕ)) → All IsInsertion xs → entries_of xs ≡ entries_of ys
+        → xs ≡ ys }
 {}
 
 /// The entries of its log fix what a registry says, and so the root of its map.
 pub fn one_registry()
     ensures { (H : List ℕ → List ℕ) (origin : List ℕ) (xs ys : List (List ℕ × List ℕ))
-        → All IsInsertion xs → All IsInsertion ys → entries_of xs ≡ entries_of ys
-        → said_of H origin xs ≡ said_of H origin ys }
+        → All IsInsertion xs → entries_of xs ≡ entries_of ys → said_of H origin xs ≡ said_of H origin ys }
 {}
 
 /// The entry that a held key's index names, as `prove_by_pages` of `warg_pages` gives it over the pages of insertions,

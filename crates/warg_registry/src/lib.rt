@@ -8,6 +8,7 @@ mod error;
 mod extension;
 mod insertion;
 pub mod laws;
+pub mod premises;
 
 pub use error::{BadMapLine, InsertionFault};
 pub use extension::{map_line, map_root};

@@ -1,2 +1,3 @@
 mod MapCallers
+mod RegistryCallers
 mod TileCallers

@@ -9,6 +9,7 @@ pub mod crypto;
 pub mod log;
 pub mod map;
 pub mod paths;
+pub mod registry;
 pub mod store;
 pub mod tiles;
 pub mod witness;

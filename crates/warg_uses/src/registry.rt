@@ -1,0 +1,73 @@
+//! A registry: what it keeps and says of a release, and how a client looks a package up.
+
+ghost use Rattle.std.specs.Prelude.{◌≡◌, ℕ, List, [], ◌∷◌, ◌++◌, length, map, Option, Some};
+ghost use Rattle.std.specs.Prelude.{MatchOption, IfOk, IfSome, OnErr};
+ghost use Rattle.warg_crypto.specs.Digests.{sha256};
+ghost use Rattle.warg_crypto.specs.Tree.{leaf_digest};
+ghost use Rattle.warg_map.specs.Bits.{key_bits};
+ghost use Rattle.warg_map.specs.Last.{last_under};
+ghost use Rattle.warg_map.specs.ProofValue.{proof_value};
+ghost use Rattle.warg_pages.specs.ProvedKeys.{IsOwnSource};
+ghost use Rattle.warg_registry.specs.Insertions.{entry_of, entries_of, IsInsertion};
+ghost use Rattle.warg_registry.specs.Registry.{line_of};
+
+use anyhow::Result;
+use std::alloc::Global;
+use warg_crypto::{Hash, Sha256};
+use warg_pages::{KeyInPages, Pages, ProveError, prove_by_pages};
+use warg_registry::{inserted_value, map_line, write_insertion};
+use warg_tiles::CheckpointText;
+
+/// The log's entry of a package's newest version, for the registry to push; the text of the checkpoint after it says
+/// the root of the map that has it.
+pub fn announced(
+    alloc: Global,
+    text: &mut CheckpointText<Sha256>,
+    root: &Hash<Sha256>,
+    name: &str,
+    version: &str,
+) -> Result<Vec<u8>>
+    ensures ok { IfOk result (λ entry. (entry.items ≡ entry_of (name.now, version.now))
+        × (text.new ≡ record text.old { extensions = text.old.extensions ++ line_of root.now ∷ [] })) }
+    ensures err { OnErr result (text.new ≡ text.old) }
+{
+    let entry = write_insertion(alloc, name.as_bytes(), version.as_bytes())?;
+    let line = map_line(alloc, root)?;
+    text.push_extension(line.as_slice())?;
+    Ok(entry)
+}
+
+/// The version that a registry's map has under a package's name, out of the entries of its log, which anyone may have
+/// given: its leaf digest leads to the map's root. Over the registry's own pages and entries it is found where the last
+/// insertion under the name's digest is of this name.
+pub fn newest<'a, P: Pages<Global>>(
+    alloc: Global,
+    entries: &'a [Vec<u8>],
+    pages: &P,
+    root: &Hash<Sha256>,
+    name: &str,
+) -> Result<Option<&'a [u8]>, ProveError<P::Error>>
+    ensures leads { IfOk result (λ found. IfSome found (λ version. (peers : List (Option (List ℕ)))
+        × (proof_value sha256 peers (leaf_digest sha256 version.now) (key_bits sha256 name.now)
+        ≡ root.now))) }
+    ensures own { IfOk result (λ found. (insertions : List (List ℕ × List ℕ)) (version : List ℕ)
+        → IsOwnSource sha256 (P.bytes_at pages.now) root.now (length entries.now) insertions
+        → map (λ e. e.items) entries.now ≡ entries_of insertions → IsInsertion (name.now, version)
+        → last_under sha256 (key_bits sha256 name.now) insertions ≡ Some (name.now, version)
+        → MatchOption found ⊥ (λ read. read.now ≡ version)) }
+{
+    let KeyInPages::Held(index, leaf, _) = prove_by_pages(
+        alloc,
+        pages,
+        root,
+        entries.len() as u64,
+        &name,
+    )?
+    else {
+        return Ok(None);
+    };
+    let Some(entry) = entries.get(index as usize) else {
+        return Ok(None);
+    };
+    Ok(inserted_value(entry.as_slice(), name.as_bytes(), &leaf))
+}
