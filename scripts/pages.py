@@ -38,8 +38,6 @@ ITEM = re.compile(r"^(?:unfoldable |abbrev )*pub (?:unfoldable |abbrev |record |
 OF_OTHERS = {"Debug", "D", "H", "L", "Ok", "Err", "usize", "digest", "MAX", "n", "sha2"}
 # Where the programs say their version.
 PROGRAMS = ("warg_check_cli/src/texts.rt", "warg_verdict/src/usage.rt", "warg_tlog/src/usage.rt")
-# A library of which warg_uses has no caller yet.
-WITHOUT_CALLER = ("warg_store",)
 # A page that goes into an archive, where this repository isn't.
 TAKEN_HOME = "docs/ARCHIVE.md"
 # Faults of a log's image, which no bundle has, and what the header calls other numbers.
@@ -199,7 +197,7 @@ def code_faults():
     """Yields code that is shown and stands nowhere, pages that are too long, and a page that no text of a program can have."""
     readme, headline = ROOT / "README.md", DOCS / "HEADLINE.md"
     uses = "\n".join(path.read_text() for path in sorted((CRATES / "warg_uses/src").glob("*.rt")))
-    shown = [(it, code_blocks(it), uses) for it in sorted(CRATES.glob("*/CALLING.md")) if it.parent.name not in WITHOUT_CALLER]
+    shown = [(it, code_blocks(it), uses) for it in sorted(CRATES.glob("*/CALLING.md"))]
     shown += [(readme, [(CRATES / "example_first/src/main.rt").read_text()], "\n".join(code_blocks(readme)))]
     shown += [(headline, code_blocks(headline), (CRATES / "warg_claims/src/laws.rt").read_text())]
     for page, blocks, code in shown:

@@ -14,7 +14,7 @@ pub fn one_insertion()
     ensures { (a b : List ℕ × List ℕ) → IsInsertion a → entry_of a ≡ entry_of b → a ≡ b }
 {}
 
-/// Lists of insertions with the same entries are one list.
+/// Lists of insertions with the same entries are one list, if 8 bytes can say the lengths of one of them.
 pub fn one_list()
     ensures { (xs ys : List (List ℕ × List ℕ)) → All IsInsertion xs → entries_of xs ≡ entries_of ys
         → xs ≡ ys }
