@@ -11,6 +11,7 @@ use warg_registry::{
     BadMapLine, InsertionFault, inserted_value, map_line, map_root, read_insertion, write_insertion,
 };
 use warg_tiles::{CheckpointText, EntryError};
+use warg_uses::registry::announced;
 
 const ENTRY: &[u8; 29] = b"\0\0\0\0\0\0\0\x08left-pad\0\0\0\0\0\0\0\x051.1.0";
 
@@ -70,6 +71,19 @@ fn the_longest_insertion(rt: HostRuntime) -> Result<(), Fail> {
         assert!(rt; longer.err() == Some(EntryError::TooLong));
     }
     assert!(rt; !none.has_refused());
+    Ok(())
+}
+
+#[test]
+fn what_a_registry_announces(rt: HostRuntime) -> Result<(), Fail> {
+    let alloc = rt.alloc();
+    let root = hash(ROOT)?;
+    let mut text = CheckpointText::new(alloc, b"example.com/log", Checkpoint::new(hash(LEAF)?, 1))?;
+    let entry = announced(alloc, &mut text, &root, "left-pad", "1.1.0")?;
+    assert!(rt; entry.as_slice() == ENTRY.as_slice());
+    assert_eq!(rt; text.extensions().len(), 1);
+    let line = text.extensions().first().ok_or("no line")?;
+    assert!(rt; line.as_slice() == LINE.as_slice());
     Ok(())
 }
 
