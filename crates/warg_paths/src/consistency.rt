@@ -170,7 +170,7 @@ pub fn roots_of_consistency<D: SupportedDigest>(
 }
 
 /// The roots over the first `old_length` leaves and over all `new_length` of a part of a log, in this order, by what a
-/// consistency path has for that part (RFC 6962, section 2.1.2: SUBPROOF). The old root is None where these leaves
+/// consistency path has for that part (SUBPROOF of RFC 6962, section 2.1.2). The old root is None where these leaves
 /// aren't the whole old log, so that the path begins with their root. None where the path has another length than that
 /// of these lengths, and where the old length isn't between 1 and the new one. It does not allocate.
 pub fn roots_of_subproof<D: SupportedDigest>(
