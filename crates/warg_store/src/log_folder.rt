@@ -218,9 +218,9 @@ impl<F: Folder + Drop> LogFolder<F> {
         self.folder
     }
 
-    /// Adds an entry behind the others. Nothing that is served changes before a commit. A refused call leaves the log as it
-    /// was: `TooLong` exactly if the entry has more than 65,535 bytes, else `Full` exactly if the log has 2^63, else `Closed`
-    /// exactly if a commit has failed.
+    /// Adds an entry behind the others. Nothing that is served changes before a commit. `TooLong` exactly if the entry has more
+    /// than 65,535 bytes, else `Full` exactly if the log has 2^63, else `Closed` exactly if a commit has failed: each leaves the
+    /// log as it was. Else it fails only if memory is refused or the device fails, and no entry is added.
     pub fn push(&mut self, entry: &[u8]) -> Result<(), PushError>
         requires { F.IsFaithful → IsReady F.seen F.may_leave self.old }
         ensures pushed { F.IsFaithful → OnOk result ((served old next : LogOf)
@@ -230,6 +230,8 @@ impl<F: Folder + Drop> LogFolder<F> {
         ensures text { self.new.text ≡ self.old.text }
         ensures length { OnOk result (self.new.edge.len ≡ self.old.edge.len + 1) }
         ensures refused { OnErr result (self.new.edge.len ≡ self.old.edge.len) }
+        ensures kept { (65535 < length entry.now) ⊎ (GREATEST_LENGTH ≤ self.old.edge.len) ⊎ (self.old.is_open ≡ false)
+            → self.new ≡ self.old }
         ensures too_long { (result ≡ Err PushError.TooLong) ↔ (65535 < length entry.now) }
         ensures full { (result ≡ Err PushError.Full)
             ↔ ((length entry.now ≤ 65535) × (GREATEST_LENGTH ≤ self.old.edge.len)) }
