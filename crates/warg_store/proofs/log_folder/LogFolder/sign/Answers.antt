@@ -1,14 +1,20 @@
 use Rattle.std.proofs.Common.{◌≡◌, ℕ, List, true, sym, ap, subst, ◌∙◌}
-use Rattle.warg_tiles.specs.CheckpointText.{text_of}
+use Rattle.warg_tiles.specs.CheckpointText.{Said, text_of}
 use Rattle.warg_store.specs.Files.{Files}
 use Rattle.warg_store.specs.Moments.{LeavesOnly}
 use Rattle.warg_store.specs.Opening.{IsStaging}
-use Rattle.warg_store.specs.Log.{IsOneOf, IsNoteOf, checkpoint_of}
+use Rattle.warg_store.specs.Log.{LogOf, IsOneOf, IsNoteOf, said_of, checkpoint_of}
 use Rattle.warg_store.specs.Growing.{LogIn, Has}
 use Rattle.warg_store.proofs.MomentLemmas.{begins}
 use Rattle.warg_store.proofs.GrowingLemmas.{beside_one_of}
 use Rattle.warg_store.proofs.SignLemmas.{unsigned, sign_staging, sign_moment, sign_has}
 use Rattle.warg_store.proofs.log_folder.LogFolder.sign.Goals as goal
+
+-- a note over the text that was written is one over what is kept
+judged : (old : LogOf) (said : Said) (bytes text note : List ℕ) → bytes ≡ text → text ≡ text_of said → said ≡ said_of old
+    → IsNoteOf bytes note → IsNoteOf (checkpoint_of old) note
+judged old said bytes text note is was says over =
+    subst (λ (b : List ℕ). IsNoteOf b note) (is ∙ was ∙ ap text_of says) over
 
 pub returns-then-note-gt-MOST_TEXT-clause-any_moment : goal.returns-then-note-gt-MOST_TEXT-clause-any_moment
 returns-then-note-gt-MOST_TEXT-clause-any_moment g c = λ faithful served old next has.
@@ -28,9 +34,7 @@ returns-then-not-is_signed_note-clause-any_moment g c = λ faithful served old n
 pub returns-in_err-replace-clause-any_moment : goal.returns-in_err-replace-clause-any_moment
 returns-in_err-replace-clause-any_moment g c = λ faithful served old next has.
     let inside = subst (Has g.F.Folder.seen g.F.Folder.may_leave served old next) (sym c.self.view_is) has in
-    let says : c.as_slice.result.now ≡ checkpoint_of old = c.as_slice.ensures.value ∙ c.in_ok-text.ensures
-    ∙ ap text_of has.text in
-    let note : IsNoteOf (checkpoint_of old) c.args.note.now = subst (λ (b : List ℕ). IsNoteOf b c.args.note.now) says
+    let note = judged old _ _ _ c.args.note.now c.as_slice.ensures.value c.in_ok-text.ensures has.text
     (c.is_signed_note.ensures.0 c.if-not-is_signed_note.false) in
     subst (λ (l : LogIn g.row.F.Denot). LeavesOnly g.F.Folder.moment g.F.Folder.left_since l.folder c.replace.new.self
     (IsOneOf served old old)) c.self.view_is
@@ -44,9 +48,7 @@ returns-in_err-replace-clause-any_moment g c = λ faithful served old next has.
 pub returns-clause-any_moment : goal.returns-clause-any_moment
 returns-clause-any_moment g c = λ faithful served old next has.
     let inside = subst (Has g.F.Folder.seen g.F.Folder.may_leave served old next) (sym c.self.view_is) has in
-    let says : c.as_slice.result.now ≡ checkpoint_of old = c.as_slice.ensures.value ∙ c.in_ok-text.ensures
-    ∙ ap text_of has.text in
-    let note : IsNoteOf (checkpoint_of old) c.args.note.now = subst (λ (b : List ℕ). IsNoteOf b c.args.note.now) says
+    let note = judged old _ _ _ c.args.note.now c.as_slice.ensures.value c.in_ok-text.ensures has.text
     (c.is_signed_note.ensures.0 c.if-not-is_signed_note.false) in
     subst (λ (l : LogIn g.row.F.Denot). LeavesOnly g.F.Folder.moment g.F.Folder.left_since l.folder c.replace.new.self
     (IsOneOf served old old)) c.self.view_is
@@ -60,9 +62,7 @@ returns-clause-any_moment g c = λ faithful served old next has.
 pub returns-clause-signed : goal.returns-clause-signed
 returns-clause-signed g c = λ faithful served old next has.
     let inside = subst (Has g.F.Folder.seen g.F.Folder.may_leave served old next) (sym c.self.view_is) has in
-    let says : c.as_slice.result.now ≡ checkpoint_of old = c.as_slice.ensures.value ∙ c.in_ok-text.ensures
-    ∙ ap text_of has.text in
-    let note : IsNoteOf (checkpoint_of old) c.args.note.now = subst (λ (b : List ℕ). IsNoteOf b c.args.note.now) says
+    let note = judged old _ _ _ c.args.note.now c.as_slice.ensures.value c.in_ok-text.ensures has.text
     (c.is_signed_note.ensures.0 c.if-not-is_signed_note.false) in
     sign_has g.F.Folder.seen g.F.Folder.may_leave served old next
     (record {
