@@ -142,16 +142,21 @@ func underGoOrigin(text []byte) ([]byte, error) {
 	return append([]byte(goOrigin), text[len(folderOrigin):]...), nil
 }
 
-// Proves an entry by the tiles alone, and reads it out of its bundle.
-func (r *tileReader) record(index int64) {
+// Reads an entry out of its bundle, and proves it by the tiles alone.
+func (r *tileReader) proved(index int64) []byte {
 	hashes := tlog.TileHashReader(r.tree, r)
 	path, err := tlog.ProveRecord(r.tree.N, index, hashes)
 	stop(err)
 	entry := r.entry(index)
-	if string(entry) != value(index) {
+	stop(tlog.CheckRecord(path, r.tree.N, r.tree.Hash, index, tlog.RecordHash(entry)))
+	return entry
+}
+
+// Proves an entry by the tiles alone, and compares it.
+func (r *tileReader) record(index int64) {
+	if entry := r.proved(index); string(entry) != value(index) {
 		stop(fmt.Errorf("entry %d is %q", index, entry))
 	}
-	stop(tlog.CheckRecord(path, r.tree.N, r.tree.Hash, index, tlog.RecordHash(entry)))
 }
 
 func (f *folder) record(index int64) {

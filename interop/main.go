@@ -1,4 +1,5 @@
-// The comparison of this project's paths, tiles and checkpoint texts with those of Go's checksum database.
+// The comparison of this project's paths, tiles and checkpoint texts with those of Go's checksum database, and of its registries with
+// their definitions.
 //
 // Usage: interop WARG_VECTORS WARG_CHECK WARG_TLOG. With BENCH=1 in the environment it prints times too. docs/INTEROP.md says what is
 // compared.
@@ -25,6 +26,7 @@ func main() {
 	compareCheckpoints()
 	compareFolders()
 	compareServed()
+	compareRegistry()
 	if os.Getenv("BENCH") == "1" {
 		bench()
 	}

@@ -11,6 +11,43 @@ unhex() { printf "$(sed 's/../\\x&/g' <<< "$1")"; }
 # Writes so many entries, the same ones each time for a word: some COUNT WORD.
 some() { seq -f "$(printf "$2" | od -An -tx1 | tr -d ' ')%06.0f" "$1"; }
 
+# Writes so many insertions, whose keys are the same ones for each word: pairs COUNT WORD.
+pairs() { some "$@" | sed 's/.*\(......\)$/\1 &/'; }
+
+# The digits of a registry's map root.
+map_root() { sed -n 's/^map //p' "$1/checkpoint" | base64 -d | od -An -v -tx1 | tr -d ' \n'; }
+
+# Says what a registry has under a key, and what warg_verdict says of the proof: judged FOLDER KEY.
+judged() {
+    local said value
+    said=$(warg_tlog get "$1" "$2") || return
+    value=$(sed -n 's/^value -\?//p' <<< "$said")
+    sed '$d' <<< "$said"
+    case $said in
+        absent*) sed -n 's/^proof //p' <<< "$said" | warg_verdict absent - --hex --root "$(map_root "$1")" --key "hex:${2#-}" ;;
+        *) sed -n 's/^proof //p' <<< "$said" | warg_verdict key - --hex --root "$(map_root "$1")" --key "hex:${2#-}" --value "hex:$value" ;;
+    esac
+}
+
+# The page below the first one on a key's way, of which there is one version: second KEY.
+second() { echo "map/x$(unhex "$1" | sha256sum | head -c 2)"/[0-9]*; }
+
+# Makes a registry of these insertions without publish: their entries are appended, and Python's hashlib makes the map.
+by_hashlib() {
+    warg_tlog init "$1" example.com/log
+    sed 's/-//g' "$2" | awk -F '[ ]' '{ for (at = 1; at < 3; at++) printf "%016x%s", length($at) / 2, $at; print "" }' | warg_tlog append "$1"
+    python3 -c 'import pathlib, sys; sys.path.append(sys.argv[1]); import trees
+lines = [line.replace("-", "").rstrip("\n").split(" ") for line in open(sys.argv[3])]
+trees.add_map(pathlib.Path(sys.argv[2]), [[bytes.fromhex(word) for word in line] for line in lines])' "$TREE/scripts" "$1" "$2"
+}
+
+# Makes a registry `reg` of 100 insertions, and the same as `before`.
+registry() {
+    warg_tlog init reg example.com/log --map
+    pairs 100 a | warg_tlog publish reg > /dev/null
+    cp -r reg before
+}
+
 # A command on `log`, or on what $log names, as whom $AS says.
 tlog() { $AS warg_tlog "$1" "${log-log}" "${@:2}"; }
 
@@ -72,31 +109,40 @@ waits() {
     until ls -d "$1"/.log/staged/tile > /dev/null 2>&1; do sleep .01; done
 }
 
-# Fetches what a folder serves as a mirror does, which never fetches a name below tile/ twice: no file is empty, each name that was
-# fetched has the same bytes, and log and mirror pass.
+# Fetches what a folder serves as a mirror does, which never fetches a name below tile/ or map/ twice: no file is empty, each name
+# that was fetched has the same bytes, and log and mirror pass.
 mirrored() {
-    mkdir -p mirror/tile
-    [ ! -d "$1/tile" ] || cp -rn "$1/tile" mirror
-    [ ! -d "$1/tile" ] || diff -r "$1/tile" mirror/tile | grep -v '^Only in mirror'
-    [ ! -d "$1/tile" ] || find "$1/tile" -type f -empty
+    local below
+    mkdir -p mirror
+    for below in tile map; do
+        [ -d "$1/$below" ] || continue
+        mkdir -p "mirror/$below"
+        cp -rn "$1/$below" mirror
+        diff -r "$1/$below" "mirror/$below" | grep -v '^Only in mirror'
+        find "$1/$below" -type f -empty
+    done
     cp "$1/checkpoint" mirror
     warg_tlog audit "$1" > /dev/null && warg_tlog audit mirror > /dev/null
 }
 
 # Makes the log `start` by two appends, and two batches that could follow: `first`, which will be disturbed, and `second`, which
-# comes next where the first one has left nothing: batches LENGTH END.
+# comes next where the first one has left nothing: batches LENGTH END. A registry, by publish: batches LENGTH END publish. The command
+# that adds is told in `adding`.
 batches() {
+    local made=some
+    [ $# = 2 ] || made=pairs
     echo "$1 $2" > lengths
-    some $(($2 - $1)) first > first
-    some $(($2 - $1)) second > second
-    some "$1" start | tail -n $(($1 / 2)) > last
-    warg_tlog init earlier example.com/log
-    some "$1" start | head -n $(($1 - $1 / 2)) | warg_tlog append earlier
+    echo "${3-append}" > adding
+    $made $(($2 - $1)) first > first
+    $made $(($2 - $1)) second > second
+    $made "$1" start | tail -n $(($1 / 2)) > last
+    warg_tlog init earlier example.com/log ${3+--map}
+    $made "$1" start | head -n $(($1 - $1 / 2)) | warg_tlog "$(cat adding)" earlier
     cp -r earlier start
-    warg_tlog append start < last
+    warg_tlog "$(cat adding)" start < last
     for it in first second; do
         cp -r start "behind-$it"
-        warg_tlog append "behind-$it" < "$it"
+        warg_tlog "$(cat adding)" "behind-$it" < "$it"
     done
 }
 
@@ -106,11 +152,11 @@ go_on() {
     read -r length end < lengths
     rm -rf mirror
     mirrored "$1"
-    warg_tlog append "$1" < /dev/null > /dev/null
+    warg_tlog "$(cat adding)" "$1" < /dev/null > /dev/null
     mirrored "$1"
     case "$(sed -n 2p "$1/checkpoint")" in
         "$end") diff -r "$1" behind-first && echo stood ;;
-        "$length") warg_tlog append "$1" < second > /dev/null && mirrored "$1" && diff -r "$1" behind-second && echo gone ;;
+        "$length") warg_tlog "$(cat adding)" "$1" < second > /dev/null && mirrored "$1" && diff -r "$1" behind-second && echo gone ;;
         *) echo "a checkpoint of $(sed -n 2p "$1/checkpoint") entries" ;;
     esac
 }
@@ -120,7 +166,7 @@ disturbed() {
     rm -rf log
     cp -r start log
     # (by a pipe, since a limit on files is one on what it says, too)
-    (trap '' XFSZ; "$@" warg_tlog append log < first; exit $?) 2>&1 > /dev/null | cat > said
+    (trap '' XFSZ; "$@" warg_tlog "$(cat adding)" log < first; exit $?) 2>&1 > /dev/null | cat > said
     ended "${PIPESTATUS[0]}" log
 }
 
@@ -149,7 +195,7 @@ each_call() {
 
 # Starts an append of the first batch to a log, and waits for a random part of so many microseconds: started LOG MICROSECONDS.
 started() {
-    warg_tlog append "$1" < first > /dev/null 2>&1 &
+    warg_tlog "$(cat adding)" "$1" < first > /dev/null 2>&1 &
     sleep "$(printf '%d.%06d' $((RANDOM * $2 / 32768 / 1000000)) $((RANDOM * $2 / 32768 % 1000000)))"
 }
 
@@ -164,7 +210,7 @@ microseconds() {
 killed_at_random() {
     local killed=0 runs whole
     cp -r start log
-    whole=$(microseconds warg_tlog append log < first)
+    whole=$(microseconds warg_tlog "$(cat adding)" log < first)
     for ((runs = 0; killed < $1 && runs < 10 * $1; runs++)); do
         rm -rf log
         cp -r start log
@@ -175,7 +221,7 @@ killed_at_random() {
         go_on log > found
         grep -qx 'stood\|gone' found || cat found
     done
-    echo "seen: killed at $killed random moments of an append, and at $((runs - killed)) behind its end"
+    echo "seen: killed at $killed random moments of $(cat adding), and at $((runs - killed)) behind its end"
 }
 
 # Appends on a disk of some bytes, mounted anew by options before that and after it: on_disk BYTES BEFORE AFTER.
@@ -184,9 +230,9 @@ on_disk() {
     mount -t tmpfs -o "size=$1" tmpfs disk
     cp -r start disk/log
     mount -o "remount,$2" disk
-    warg_tlog append disk/log < first > /dev/null 2> said
+    warg_tlog "$(cat adding)" disk/log < first > /dev/null 2> said
     status=$?
-    for it in audit checkpoint 'prove 299' 'consistency 5'; do log=disk/log tlog $it > /dev/null; done
+    for it in audit checkpoint "prove $(($(sed 's/ .*//' lengths) - 1))" 'consistency 5'; do log=disk/log tlog $it > /dev/null; done
     mount -o "remount,$3" disk
     ended $status disk/log
     umount disk
@@ -203,7 +249,7 @@ small_disks() {
 # Appends a batch under a trace, and kills that before a call that forces, if one is named: traced BATCH [CALL].
 traced() {
     strace -y -qq -o trace -e trace=openat,write,mkdir,fsync,rename,unlink -s 8 ${2:+-e "inject=fsync:error=EIO:signal=KILL:when=$2"} \
-        warg_tlog append "$PWD/log" < "$1"
+        warg_tlog "$(cat adding)" "$PWD/log" < "$1"
     status=$?
     (cat trace; echo "ended $status") >> traces
 }
@@ -242,7 +288,7 @@ power_disk() {
     "${@:2}" disk.image > /dev/null 2>&1
     mkdir disk
     mount -o "$OPTION" disk.image disk
-    warg_tlog init disk/log example.com/log
+    warg_tlog init disk/log example.com/log $(sed -n 's/publish/--map/p' adding)
     cut
     mirrored after/log
     umount after
@@ -254,7 +300,7 @@ power_cut() {
     rm -rf disk/log
     cp -r earlier disk/log
     sync -f disk
-    warg_tlog append disk/log < last > /dev/null
+    warg_tlog "$(cat adding)" disk/log < last > /dev/null
     started disk/log "$1"
     [ $# = 1 ] || { wait $!; sleep "$2"; }
     kill -0 $! 2> /dev/null; is_ended=$?
@@ -272,7 +318,7 @@ power_cuts() {
     local whole times
     rm -rf disk/log
     cp -r start disk/log
-    whole=$(microseconds warg_tlog append disk/log < first)
+    whole=$(microseconds warg_tlog "$(cat adding)" disk/log < first)
     for ((SECONDS = times = 0; times < $1 && SECONDS < $2; times++)); do power_cut $((whole * 3 / 4)); done > cuts
     echo "seen: the power cut during appends: $(grep -c '^stood$' cuts) batches stood, $(grep -c '^gone$' cuts) were gone"
     grep -v '^stood$\|^gone$' cuts || true

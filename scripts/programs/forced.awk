@@ -3,8 +3,8 @@
 # that has them.
 #
 # - `.log/staged/state` is put once each staged file is forced, and each folder with a name on its path;
-# - a file comes to its name below tile/ once `.log/staged/state` is forced, its folder included;
-# - `.log/state` is replaced once all below tile/ is forced, and `.log/staged/state` removed once `.log/state` and `checkpoint` are;
+# - a file comes to its name below tile/ or map/ once `.log/staged/state` is forced, its folder included;
+# - `.log/state` is replaced once all below these is forced, and `.log/staged/state` removed once `.log/state` and `checkpoint` are;
 # - at an end with status 0, all but what is staged is forced.
 
 function folder(name) { return match(name, /\/[^\/]*$/) ? substr(name, 1, RSTART - 1) : "" }
@@ -57,8 +57,8 @@ to == MARK {
     need(".log/staged", "the commit stands")
 }
 
-to ~ /^tile\// { need(MARK, to " is put"); need(name, to " is put") }
-to == STATE { need_all("^tile", "the state is replaced") }
+to ~ /^(tile|map)\// { need(MARK, to " is put"); need(name, to " is put") }
+to == STATE { need_all("^(tile|map)", "the state is replaced") }
 to && name in files { files[to] }
 to { names[to] }
 call == "rename" || call == "unlink" { delete files[name]; names[name] }

@@ -24,15 +24,19 @@ enum NotLent {
     Memory,
 }
 
-impl Pages<Global> for Newest {
+impl<'a> Pages<Global> for &'a Newest {
     ghost use Rattle.std.specs.Prelude.{None};
 
     type Error = NotLent;
 
     // Nothing is proved of what a measure reads.
+    ghost Known = { Unit {0} };
+
+    ghost IsKnown = { λ _ _. Unit {0} };
+
     ghost bytes_at = { λ _ _ _. None };
 
-    fn page(&self, prefix: &[u8], _version: u64) -> Result<Vec<u8>, NotLent> {
+    fn page(&mut self, prefix: &[u8], _version: u64) -> Result<Vec<u8>, NotLent> {
         match self.bytes.get(prefix) {
             Some(bytes) => Vec::from_slice(self.alloc, bytes.as_slice()).map_err(
                 |_| NotLent::Memory,
@@ -92,14 +96,14 @@ fn is_inserted(bench: &Bench<'_>, map: &PagedMap<Sha256>, pages: &Newest, keys: 
 fn inserted(
     bench: &Bench<'_>,
     map: &mut PagedMap<Sha256>,
-    pages: &Newest,
+    mut pages: &Newest,
     keys: &[Entry],
 ) -> Result<Vec<ChangedPage<Sha256>>> {
     let pairs = pairs_of(bench, keys)?;
     if pairs.len() as u64 > u64::MAX - map.version {
         bail!("too many insertions");
     }
-    match map.insert_all(bench.alloc(), pages, pairs.as_slice()) {
+    match map.insert_all(bench.alloc(), &mut pages, pairs.as_slice()) {
         Ok(changed) => Ok(changed),
         Err(_) => bail!("the pages are not those of the map"),
     }

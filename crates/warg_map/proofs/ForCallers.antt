@@ -2,7 +2,7 @@
 use Rattle.std.proofs.Common.{◌≡◌, ℕ, ◌+◌, ◌-◌, ◌<◌, ◌≤◌, Bool, true, false, List, [], ◌∷◌, ◌++◌, ◌∙◌, length, length-append, Option, Some, unwrap_or, refl, sym, ap}
 use Rattle.std.specs.Option.{option_map}
 use Rattle.std.specs.Bool.{Decides}
-use Rattle.std.specs.FinMap.{get, insert}
+use Rattle.std.specs.FinMap.{get, insert, empty}
 use Rattle.warg_crypto.specs.Digests.{IsDigest}
 use Rattle.warg_crypto.specs.EmptyTrees.{empty_root}
 use Rattle.warg_map.specs.Bits.{bit_at, last_bits, key_bits}
@@ -120,3 +120,7 @@ pub beside_kept : (H : List ℕ → List ℕ) (m : SparseMap) (bits : List Bool)
     → IsBeside H peers (get m) bits → IsBeside H peers (get (insert m bits x)) bits
 beside_kept H m bits peers x beside = honest.beside_alike H peers (get m) (get (insert m bits x)) bits
     (λ q other. sym (tree.get-insert_other m bits q x other)) beside
+
+-- the root of the empty map
+pub empty_map_root : (H : List ℕ → List ℕ) → sparse_root H 256 empty ≡ empty_root H 256
+empty_map_root H = tree.sparse_root-empty H 256

@@ -17,8 +17,8 @@ use Rattle.warg_map.proofs.ForCallers.{last_held, length-last_bits}
 use Rattle.warg_pages.specs.Prefixes.{is_below, below, version, last_place}
 use Rattle.warg_pages.specs.OwnPages.{stands, stands_over}
 use Rattle.warg_pages.specs.ProvedKeys.{IsOwnSource}
-use Rattle.warg_pages.specs.Private.Descents.{value_above, IsOwnAt, IsWayDown}
-use Rattle.warg_pages.specs.Private.Finals.{IsWholeWay, EndsInSome, AreLeft, filled_from, presence_peers}
+use Rattle.warg_pages.specs.Private.Descents.{value_above, IsOwnAt, IsOwnWay, IsWayDown}
+use Rattle.warg_pages.specs.Private.Finals.{IsWholeWay, IsWholeWayOf, EndsInSome, AreLeft, filled_from, presence_peers}
 use Rattle.warg_pages.proofs.PageRoots.{root-same, root-nothing}
 use Rattle.warg_pages.proofs.HeldHalves.{short_bits}
 use Rattle.warg_pages.proofs.LoneEnds.{nothing_end}
@@ -234,19 +234,21 @@ own_at_root H bytes_at root key count es fits some own = record {
     there [] n = absurd (some (sym n))
     there (e ∷ es) n = last_of_all H e es
 
-pub whole_way : (H : List ℕ → List ℕ) (bytes_at : List ℕ → ℕ → Option (List ℕ)) (root key : List ℕ) (count : ℕ)
-    (os more : List (Option (List ℕ))) (held : Option (ℕ × List ℕ)) → count < 2 ^ 64 → ¬ (count ≡ 0) → os ≡ more
-    → IsWayDown H bytes_at key 0 root count more held → IsWholeWay H bytes_at root count key os held
-whole_way H bytes_at root key count os more held fits some e way = rw e record {
-  few = way.few;
-  leads = way.leads;
-  own = λ es own. let own_way = way.own es (own_at_root H bytes_at root key count es fits some own) in
-      (at_root es own_way.are_peers, own_way.is_leaf, own_way.is_index);
+pub whole_way : (H : List ℕ → List ℕ) (root key : List ℕ) (os more : List (Option (List ℕ)))
+    (held : Option (ℕ × List ℕ)) → os ≡ more → IsWayDown H key 0 root more held → IsWholeWay H root key os held
+whole_way H root key os more held e way = rw e record { few = way.few; leads = way.leads }
+
+pub whole_own : (H : List ℕ → List ℕ) (key : List ℕ) (os more : List (Option (List ℕ))) (held : Option (ℕ × List ℕ))
+    (es : List (List ℕ × List ℕ)) → os ≡ more → IsOwnWay H es key 0 more held → IsWholeWayOf H es key os held
+whole_own H key os more held es e own = rw e record {
+  are_peers = at_root own.are_peers;
+  is_leaf = own.is_leaf;
+  is_index = own.is_index;
 }
   where
-    at_root : (es : List (List ℕ × List ℕ)) → IsPeers H (λ k. None) (below (map_of H es) (bits_from key 0 0))
-        (last_bits key 256) more → IsPeers H (λ k. None) (get (map_of H es)) (last_bits key 256) more
-    at_root es h = let P : List Bool → Type 0 = λ p. IsPeers H (λ k. None) (below (map_of H es) p)
+    at_root : IsPeers H (λ k. None) (below (map_of H es) (bits_from key 0 0)) (last_bits key 256) more
+        → IsPeers H (λ k. None) (get (map_of H es)) (last_bits key 256) more
+    at_root h = let P : List Bool → Type 0 = λ p. IsPeers H (λ k. None) (below (map_of H es) p)
         (last_bits key 256) more in subst P (no_bits key) h
 
 -- where there are none
@@ -256,17 +258,17 @@ unfolding last_with
 nothing_held H [] n q = last_held H q []
 nothing_held H (e ∷ es) n q = absurd (omega arith)
 
-pub empty_way : (H : List ℕ → List ℕ) (bytes_at : List ℕ → ℕ → Option (List ℕ)) (root key : List ℕ) (count : ℕ)
-    (os : List (Option (List ℕ))) → count ≡ 0 → os ≡ [] → root ≡ empty_root H 256
-    → IsWholeWay H bytes_at root count key os None
-empty_way H bytes_at root key count os z e empty = rw e record {
-  few = omega arith;
-  leads = nothing_value H key 256 ∙ sym empty;
-  own = λ es own. (
-    nothing_end H (get (map_of H es)) (last_bits key 256) (nothing_held H es (own.all ∙ z)),
-    nothing_held H es (own.all ∙ z) (last_bits key 256),
-    tt,
-  );
+pub empty_way : (H : List ℕ → List ℕ) (root key : List ℕ) (os : List (Option (List ℕ))) → os ≡ []
+    → root ≡ empty_root H 256 → IsWholeWay H root key os None
+empty_way H root key os e empty = rw e record { few = omega arith; leads = nothing_value H key 256 ∙ sym empty }
+
+pub empty_own : (H : List ℕ → List ℕ) (bytes_at : List ℕ → ℕ → Option (List ℕ)) (root key : List ℕ) (count : ℕ)
+    (os : List (Option (List ℕ))) (es : List (List ℕ × List ℕ)) → count ≡ 0 → os ≡ []
+    → IsOwnSource H bytes_at root count es → IsWholeWayOf H es key os None
+empty_own H bytes_at root key count os es z e own = rw e record {
+  are_peers = nothing_end H (get (map_of H es)) (last_bits key 256) (nothing_held H es (own.all ∙ z));
+  is_leaf = nothing_held H es (own.all ∙ z) (last_bits key 256);
+  is_index = tt;
 }
 
 pub no_empty_way : (H : List ℕ → List ℕ) (bytes_at : List ℕ → ℕ → Option (List ℕ)) (root : List ℕ) (count : ℕ)

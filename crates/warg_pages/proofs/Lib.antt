@@ -36,3 +36,4 @@ mod SplitChanges
 mod Refused
 mod FinalPeers
 mod PremiseLemmas
+pub mod ForCallers

@@ -203,17 +203,14 @@ own_whole H es k depth lt =
     ∙ sym (append_assoc p (byte_bits (get_or k depth 0)) (last_bits k (slot_height depth))))
 
 -- a slot that isn't there
-pub missing_way : (H : List ℕ → List ℕ) → GivesHashes H → (bytes_at : List ℕ → ℕ → Option (List ℕ)) (k digest : List ℕ)
-    (depth number : ℕ) (page : List SlotAt) → depth < 32 → IsDigest k → IsPage page
-    → IfSome (bytes_at (take depth k) number) (λ known. known ≡ page_bytes page) → page_value H depth page k ≡ digest
-    → slot_at page (get_or k depth 0) ≡ None → IsWayDown H bytes_at k depth digest number
-    (page_peers H depth page k) None
-missing_way H gives bytes_at k digest depth number page lt is page_is at leads none = record {
+pub missing_way : (H : List ℕ → List ℕ) (k digest : List ℕ) (depth : ℕ) (page : List SlotAt) → depth < 32
+    → page_value H depth page k ≡ digest → slot_at page (get_or k depth 0) ≡ None
+    → IsWayDown H k depth digest (page_peers H depth page k) None
+missing_way H k digest depth page lt leads none = record {
   few = (let size = eight_peers H depth page (get_or k depth 0) 8 in omega arith);
   leads = ap (λ os. value_above H 0 os (empty_root H 0) (last_bits k (256 - 8 * depth)))
       (sym (append-nil (page_peers H depth page k))) ∙ below_page H k digest (empty_root H 0) depth page [] lt leads
       foot;
-  own = own;
 }
   where
     foot : value_above H 0 [] (empty_root H 0) (last_bits k (slot_height depth)) ≡ digest_at H (slot_height depth) page
@@ -221,34 +218,37 @@ missing_way H gives bytes_at k digest depth number page lt is page_is at leads n
     foot = nothing_value H k (slot_height depth) ∙ sym (digest_at-slot H (slot_height depth) page (get_or k depth 0)
         ∙ ap (digest_of H (slot_height depth)) none)
 
-    own : (es : List (List ℕ × List ℕ)) → IsOwnAt H bytes_at k depth digest number es
-        → IsOwnWay H es k depth (page_peers H depth page k) None
-    own es at_own =
-        let size = is.has_32 in
-        let same = own_page_is H gives bytes_at k digest depth number page es lt is page_is at at_own in
-        let byte : get_or k depth 0 < 256 = is.are_bytes depth 0 (omega arith) in
-        let p : List Bool = bits_from k 0 (8 * depth) in
-        let no_one : slot_of H es p (get_or k depth 0) ≡ None = sym (own_slot_at H es p (get_or k depth 0) byte)
-        ∙ ap (λ xs. slot_at xs (get_or k depth 0)) (sym same) ∙ none in
-        let nothing : (q : List Bool) → below (map_of H es) (p ++ byte_bits (get_or k depth 0)) q ≡ None =
-        no_slot H es (p ++ byte_bits (get_or k depth 0)) (get_or k depth 0) _ refl no_one in
-        let peers = own_append H es k depth [] lt is
-        (nothing_end H (below (map_of H es) (p ++ byte_bits (get_or k depth 0))) (last_bits k (slot_height depth))
-        nothing) in
-        record {
-          are_peers = at_page es same (append-nil (page_peers H depth (page_of H es p) k)) peers;
-          is_leaf = own_whole H es k depth lt ∙ nothing (last_bits k (slot_height depth));
-          is_index = tt;
-        }
-      where
-        at_page : (es : List (List ℕ × List ℕ)) {xs : List SlotAt} {os : List (Option (List ℕ))} → page ≡ xs
-            → os ≡ page_peers H depth xs k → IsPeers H (λ h. None) (below (map_of H es) (bits_from k 0 (8 * depth)))
-            (last_bits k (256 - 8 * depth)) os
-            → IsPeers H (λ h. None) (below (map_of H es) (bits_from k 0 (8 * depth))) (last_bits k (256 - 8 * depth))
-            (page_peers H depth page k)
-        at_page es same e h = let P : List (Option (List ℕ))
-            → Type 0 = λ os. IsPeers H (λ h. None) (below (map_of H es) (bits_from k 0 (8 * depth)))
-            (last_bits k (256 - 8 * depth)) os in subst P (e ∙ ap (λ xs. page_peers H depth xs k) (sym same)) h
+pub missing_own : (H : List ℕ → List ℕ) → GivesHashes H → (bytes_at : List ℕ → ℕ → Option (List ℕ)) (k digest : List ℕ)
+    (depth number : ℕ) (page : List SlotAt) (es : List (List ℕ × List ℕ)) → depth < 32 → IsDigest k → IsPage page
+    → IfSome (bytes_at (take depth k) number) (λ known. known ≡ page_bytes page)
+    → slot_at page (get_or k depth 0) ≡ None → IsOwnAt H bytes_at k depth digest number es
+    → IsOwnWay H es k depth (page_peers H depth page k) None
+missing_own H gives bytes_at k digest depth number page es lt is page_is at none at_own =
+    let size = is.has_32 in
+    let same = own_page_is H gives bytes_at k digest depth number page es lt is page_is at at_own in
+    let byte : get_or k depth 0 < 256 = is.are_bytes depth 0 (omega arith) in
+    let p : List Bool = bits_from k 0 (8 * depth) in
+    let no_one : slot_of H es p (get_or k depth 0) ≡ None = sym (own_slot_at H es p (get_or k depth 0) byte)
+    ∙ ap (λ xs. slot_at xs (get_or k depth 0)) (sym same) ∙ none in
+    let nothing : (q : List Bool) → below (map_of H es) (p ++ byte_bits (get_or k depth 0)) q ≡ None =
+    no_slot H es (p ++ byte_bits (get_or k depth 0)) (get_or k depth 0) _ refl no_one in
+    let peers = own_append H es k depth [] lt is
+    (nothing_end H (below (map_of H es) (p ++ byte_bits (get_or k depth 0))) (last_bits k (slot_height depth))
+    nothing) in
+    record {
+      are_peers = at_page es same (append-nil (page_peers H depth (page_of H es p) k)) peers;
+      is_leaf = own_whole H es k depth lt ∙ nothing (last_bits k (slot_height depth));
+      is_index = tt;
+    }
+  where
+    at_page : (es : List (List ℕ × List ℕ)) {xs : List SlotAt} {os : List (Option (List ℕ))} → page ≡ xs
+        → os ≡ page_peers H depth xs k → IsPeers H (λ h. None) (below (map_of H es) (bits_from k 0 (8 * depth)))
+        (last_bits k (256 - 8 * depth)) os
+        → IsPeers H (λ h. None) (below (map_of H es) (bits_from k 0 (8 * depth))) (last_bits k (256 - 8 * depth))
+        (page_peers H depth page k)
+    at_page es same e h = let P : List (Option (List ℕ))
+        → Type 0 = λ os. IsPeers H (λ h. None) (below (map_of H es) (bits_from k 0 (8 * depth)))
+        (last_bits k (256 - 8 * depth)) os in subst P (e ∙ ap (λ xs. page_peers H depth xs k) (sym same)) h
 
 -- the peers of a given page that is an own one
 at_own_page : (H : List ℕ → List ℕ) (es : List (List ℕ × List ℕ)) (k : List ℕ) (depth : ℕ) (page : List SlotAt)
@@ -375,46 +375,47 @@ own_stands H es k depth slot lone lt own =
     }
 
 -- the way ends at a lone key
-pub lone_way : (H : List ℕ → List ℕ) → GivesHashes H → (bytes_at : List ℕ → ℕ → Option (List ℕ)) (k digest : List ℕ)
+pub lone_way : (H : List ℕ → List ℕ) (k digest : List ℕ) (depth : ℕ) (page : List SlotAt) (slot : SlotAt)
+    (lone : List ℕ × List ℕ) (more : List (Option (List ℕ))) (held : Option (ℕ × List ℕ)) → depth < 32
+    → page_value H depth page k ≡ digest → slot_at page (get_or k depth 0) ≡ Some slot
+    → EndsAt H k depth slot lone more held → IsWayDown H k depth digest (page_peers H depth page k ++ more) held
+lone_way H k digest depth page slot lone more held lt leads there ends = record {
+  few = (let size = eight_peers H depth page (get_or k depth 0) 8 in let few = ends.few in
+      let all = length-append (page_peers H depth page k) more in omega arith);
+  leads = below_page H k digest _ depth page more lt leads
+      (ends.leads ∙ sym (digest_at-slot H (slot_height depth) page (get_or k depth 0)
+      ∙ ap (digest_of H (slot_height depth)) there));
+}
+
+pub lone_own : (H : List ℕ → List ℕ) → GivesHashes H → (bytes_at : List ℕ → ℕ → Option (List ℕ)) (k digest : List ℕ)
     (depth number : ℕ) (page : List SlotAt) (slot : SlotAt) (lone : List ℕ × List ℕ) (more : List (Option (List ℕ)))
-    (held : Option (ℕ × List ℕ)) → depth < 32 → IsDigest k → IsPage page
-    → IfSome (bytes_at (take depth k) number) (λ known. known ≡ page_bytes page) → page_value H depth page k ≡ digest
+    (held : Option (ℕ × List ℕ)) (es : List (List ℕ × List ℕ)) → depth < 32 → IsDigest k → IsPage page
+    → IfSome (bytes_at (take depth k) number) (λ known. known ≡ page_bytes page)
     → slot_at page (get_or k depth 0) ≡ Some slot → slot.lone ≡ Some lone → EndsAt H k depth slot lone more held
-    → IsWayDown H bytes_at k depth digest number (page_peers H depth page k ++ more) held
-lone_way H gives bytes_at k digest depth number page slot lone more held lt is page_is at leads there is_lone_key ends =
+    → IsOwnAt H bytes_at k depth digest number es → IsOwnWay H es k depth (page_peers H depth page k ++ more) held
+lone_own H gives bytes_at k digest depth number page slot lone more held es lt is page_is at there is_lone_key ends
+    at_own =
+    let size = is.has_32 in
+    let same = own_page_is H gives bytes_at k digest depth number page es lt is page_is at at_own in
+    let byte : get_or k depth 0 < 256 = is.are_bytes depth 0 (omega arith) in
+    let p : List Bool = bits_from k 0 (8 * depth) in
+    let slot_is : slot_of H es p (get_or k depth 0) ≡ Some slot = sym (own_slot_at H es p (get_or k depth 0) byte)
+    ∙ ap (λ xs. slot_at xs (get_or k depth 0)) (sym same) ∙ there in
+    let own_is = own_lone_over H es (p ++ byte_bits (get_or k depth 0)) (get_or k depth 0) _ slot lone refl slot_is
+    is_lone_key in
+    let below_it = ends.own (below (map_of H es) (p ++ byte_bits (get_or k depth 0)))
+    (own_stands H es k depth slot lone lt own_is) in
     record {
-      few = (let size = eight_peers H depth page (get_or k depth 0) 8 in let few = ends.few in
-          let all = length-append (page_peers H depth page k) more in omega arith);
-      leads = below_page H k digest _ depth page more lt leads
-          (ends.leads ∙ sym (digest_at-slot H (slot_height depth) page (get_or k depth 0)
-          ∙ ap (digest_of H (slot_height depth)) there));
-      own = own;
+      are_peers = at_own_page H es k depth page more same (own_append H es k depth more lt is below_it.0);
+      is_leaf = own_whole H es k depth lt ∙ below_it.1;
+      is_index = own_index held slot.version (last_bits lone.0 256) es own_is.whole ends.index;
     }
   where
-    own : (es : List (List ℕ × List ℕ)) → IsOwnAt H bytes_at k depth digest number es
-        → IsOwnWay H es k depth (page_peers H depth page k ++ more) held
-    own es at_own =
-        let size = is.has_32 in
-        let same = own_page_is H gives bytes_at k digest depth number page es lt is page_is at at_own in
-        let byte : get_or k depth 0 < 256 = is.are_bytes depth 0 (omega arith) in
-        let p : List Bool = bits_from k 0 (8 * depth) in
-        let slot_is : slot_of H es p (get_or k depth 0) ≡ Some slot = sym (own_slot_at H es p (get_or k depth 0) byte)
-        ∙ ap (λ xs. slot_at xs (get_or k depth 0)) (sym same) ∙ there in
-        let own_is = own_lone_over H es (p ++ byte_bits (get_or k depth 0)) (get_or k depth 0) _ slot lone refl slot_is
-        is_lone_key in
-        let below_it = ends.own (below (map_of H es) (p ++ byte_bits (get_or k depth 0)))
-        (own_stands H es k depth slot lone lt own_is) in
-        record {
-          are_peers = at_own_page H es k depth page more same (own_append H es k depth more lt is below_it.0);
-          is_leaf = own_whole H es k depth lt ∙ below_it.1;
-          is_index = own_index held slot.version (last_bits lone.0 256) es own_is.whole ends.index;
-        }
-      where
-        own_index : (held : Option (ℕ × List ℕ)) (number : ℕ) (bits : List Bool) (es : List (List ℕ × List ℕ))
-            → number ≡ version H es bits → IfSome held (λ h. (h.0 + 1 ≡ number) × (last_bits k 256 ≡ bits))
-            → IfSome held (λ h. h.0 + 1 ≡ version H es (last_bits k 256))
-        own_index None number bits es e h = tt
-        own_index (Some v) number bits es e h = h.0 ∙ e ∙ ap (version H es) (sym h.1)
+    own_index : (held : Option (ℕ × List ℕ)) (number : ℕ) (bits : List Bool) (es : List (List ℕ × List ℕ))
+        → number ≡ version H es bits → IfSome held (λ h. (h.0 + 1 ≡ number) × (last_bits k 256 ≡ bits))
+        → IfSome held (λ h. h.0 + 1 ≡ version H es (last_bits k 256))
+    own_index None number bits es e h = tt
+    own_index (Some v) number bits es e h = h.0 ∙ e ∙ ap (version H es) (sym h.1)
 
 -- an own page's lone key has an end
 pub own_lone_end : (H : List ℕ → List ℕ) → GivesHashes H → (bytes_at : List ℕ → ℕ → Option (List ℕ)) (k digest : List ℕ)
@@ -465,50 +466,54 @@ own_next H gives bytes_at k digest depth number page slot es lt is page_is at th
       is_digest = own_is.digest ∙ (λ i. root_of_levels H (height i) (below (map_of H es) (sym more i)));
     }
 
-pub next_way : (H : List ℕ → List ℕ) → GivesHashes H → (bytes_at : List ℕ → ℕ → Option (List ℕ)) (k digest : List ℕ)
-    (depth number : ℕ) (page : List SlotAt) (slot : SlotAt) (more : List (Option (List ℕ))) (held : Option (ℕ × List ℕ))
-    → depth < 32 → IsDigest k → IsPage page
-    → IfSome (bytes_at (take depth k) number) (λ known. known ≡ page_bytes page) → page_value H depth page k ≡ digest
-    → slot_at page (get_or k depth 0) ≡ Some slot → slot.lone ≡ None
-    → IsWayDown H bytes_at k (depth + 1) slot.digest slot.version more held
-    → IsWayDown H bytes_at k depth digest number (page_peers H depth page k ++ more) held
-next_way H gives bytes_at k digest depth number page slot more held lt is page_is at leads there no_lone way = record {
+pub next_way : (H : List ℕ → List ℕ) (k digest : List ℕ) (depth : ℕ) (page : List SlotAt) (slot : SlotAt)
+    (more : List (Option (List ℕ))) (held : Option (ℕ × List ℕ)) → depth < 32 → page_value H depth page k ≡ digest
+    → slot_at page (get_or k depth 0) ≡ Some slot → IsWayDown H k (depth + 1) slot.digest more held
+    → IsWayDown H k depth digest (page_peers H depth page k ++ more) held
+next_way H k digest depth page slot more held lt leads there way = record {
   few = (let size = eight_peers H depth page (get_or k depth 0) 8 in let few = way.few in
       let all = length-append (page_peers H depth page k) more in omega arith);
   leads = below_page H k digest _ depth page more lt leads
       (ap (λ h. value_above H 0 more (unwrap_or (held_leaf held) (empty_root H 0)) (last_bits k h)) (sym height)
       ∙ way.leads ∙ sym (digest_at-slot H (slot_height depth) page (get_or k depth 0)
       ∙ ap (digest_of H (slot_height depth)) there));
-  own = own;
 }
   where
     height : 256 - 8 * (depth + 1) ≡ slot_height depth
     height = omega arith
 
-    own : (es : List (List ℕ × List ℕ)) → IsOwnAt H bytes_at k depth digest number es
-        → IsOwnWay H es k depth (page_peers H depth page k ++ more) held
-    own es at_own =
-        let same = own_page_is H gives bytes_at k digest depth number page es lt is page_is at at_own in
-        let rest = way.own es (own_next H gives bytes_at k digest depth number page slot es lt is page_is at there
-        no_lone at_own) in
-        record {
-          are_peers = at_own_page H es k depth page more same
-              (own_append H es k depth more lt is (at_next es rest.are_peers));
-          is_leaf = rest.is_leaf;
-          is_index = rest.is_index;
-        }
-      where
-        at_next : (es : List (List ℕ × List ℕ))
-            → IsPeers H (λ h. None) (below (map_of H es) (bits_from k 0 (8 * (depth + 1))))
-            (last_bits k (256 - 8 * (depth + 1))) more
-            → IsPeers H (λ h. None) (below (map_of H es) (bits_from k 0 (8 * depth) ++ byte_bits (get_or k depth 0)))
-            (last_bits k (slot_height depth)) more
-        at_next es h =
-            let P : List Bool → Type 0 = λ q. IsPeers H (λ h. None) (below (map_of H es) q)
-            (last_bits k (slot_height depth)) more in
-            let Q : ℕ → Type 0 = λ n. IsPeers H (λ h. None) (below (map_of H es) (bits_from k 0 (8 * (depth + 1))))
-            (last_bits k n) more in
-            subst P (prefix_more k depth) (subst Q height h)
+pub next_own : (H : List ℕ → List ℕ) → GivesHashes H → (bytes_at : List ℕ → ℕ → Option (List ℕ)) (k digest : List ℕ)
+    (depth number : ℕ) (page : List SlotAt) (slot : SlotAt) (more : List (Option (List ℕ))) (held : Option (ℕ × List ℕ))
+    (es : List (List ℕ × List ℕ)) → depth < 32 → IsDigest k → IsPage page
+    → IfSome (bytes_at (take depth k) number) (λ known. known ≡ page_bytes page)
+    → slot_at page (get_or k depth 0) ≡ Some slot → slot.lone ≡ None
+    → (IsOwnAt H bytes_at k (depth + 1) slot.digest slot.version es → IsOwnWay H es k (depth + 1) more held)
+    → IsOwnAt H bytes_at k depth digest number es → IsOwnWay H es k depth (page_peers H depth page k ++ more) held
+next_own H gives bytes_at k digest depth number page slot more held es lt is page_is at there no_lone way at_own =
+    let same = own_page_is H gives bytes_at k digest depth number page es lt is page_is at at_own in
+    let rest = way (own_next H gives bytes_at k digest depth number page slot es lt is page_is at there no_lone
+    at_own) in
+    record {
+      are_peers = at_own_page H es k depth page more same
+          (own_append H es k depth more lt is (at_next es rest.are_peers));
+      is_leaf = rest.is_leaf;
+      is_index = rest.is_index;
+    }
+  where
+    height : 256 - 8 * (depth + 1) ≡ slot_height depth
+    height = omega arith
+
+    at_next : (es : List (List ℕ × List ℕ))
+        → IsPeers H (λ h. None) (below (map_of H es) (bits_from k 0 (8 * (depth + 1))))
+        (last_bits k (256 - 8 * (depth + 1))) more
+        → IsPeers H (λ h. None) (below (map_of H es) (bits_from k 0 (8 * depth) ++ byte_bits (get_or k depth 0)))
+        (last_bits k (slot_height depth)) more
+    at_next es h =
+        let P : List Bool → Type 0 = λ q. IsPeers H (λ h. None) (below (map_of H es) q)
+        (last_bits k (slot_height depth)) more in
+        let Q : ℕ → Type 0 = λ n. IsPeers H (λ h. None) (below (map_of H es) (bits_from k 0 (8 * (depth + 1))))
+        (last_bits k n) more in
+        subst P (prefix_more k depth) (subst Q height h)
 
 pub own_next_end : (H : List ℕ → List ℕ) → GivesHashes H → (bytes_at : List ℕ → ℕ → Option (List ℕ)) (k digest : List ℕ)
     (depth number : ℕ) (page : List SlotAt) (slot : SlotAt) (es : List (List ℕ × List ℕ)) → depth < 32 → IsDigest k

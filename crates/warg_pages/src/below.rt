@@ -16,14 +16,17 @@ use warg_crypto::SupportedDigest;
 /// The page at a prefix that a slot names: the source's, or, where a lone key stands there, one slot, or none.
 pub(crate) fn page_below<D: SupportedDigest, P: Pages<A>, A: Allocator>(
     alloc: A,
-    pages: &P,
+    pages: &mut P,
     prefix: &[u8],
     slot: Option<&Slot<D>>,
 ) -> Result<MapPage<D, A>, ProveError<P::Error>>
     requires { length prefix.now < 32 }
-    ensures ok { IfOk result (IsReadBelow D.digest (P.bytes_at pages.now) prefix.now (option_copied slot.entry)) }
-    ensures err { IfErr result (IsOfSourceUnless ((insertions : List (List ℕ × List ℕ))
-        → IsOwnBelow D.digest (P.bytes_at pages.now) prefix.now (option_copied slot.entry) insertions → ⊥)) }
+    ensures ok { IfOk result (λ page. (known : P.Known) → P.IsKnown pages.old known
+        → IsReadBelow D.digest (P.bytes_at known) prefix.now (option_copied slot.entry) page) }
+    ensures err { IfErr result (IsOfSourceUnless ((known : P.Known) (insertions : List (List ℕ × List ℕ))
+        → P.IsKnown pages.old known
+        → IsOwnBelow D.digest (P.bytes_at known) prefix.now (option_copied slot.entry) insertions → ⊥)) }
+    ensures known { (known : P.Known) → P.IsKnown pages.old known → P.IsKnown pages.new known }
 {
     let Some(slot) = slot else {
         return Ok(MapPage::new(alloc));

@@ -4,7 +4,7 @@ ghost use Rattle.std.specs.Prelude.{◌≡◌, ◌≢◌, ◌<◌, ◌≤◌, �
 ghost use Rattle.std.specs.Option.{option_copied};
 ghost use Rattle.warg_pages.specs.Slots.{IsPage};
 ghost use Rattle.warg_pages.specs.Pages.{slot_at};
-ghost use Rattle.warg_pages.specs.Private.Descents.{peers_below, page_peers, page_value, IsOwnAt, IsWayDown};
+ghost use Rattle.warg_pages.specs.Private.Descents.{peers_below, page_peers, page_value, IsOwnAt, IsOwnWay, IsWayDown};
 ghost use Rattle.warg_pages.specs.Refusals.{IsMemoryUnless, IsOfSourceUnless};
 
 use crate::climb::value_of_page;
@@ -21,7 +21,7 @@ use warg_crypto::{Hash, SupportedDigest};
 /// behind those that came before, from the top, and gives what is held.
 pub(crate) fn descend<D: SupportedDigest, P: Pages<A>, A: Allocator + Copy>(
     alloc: A,
-    pages: &P,
+    pages: &mut P,
     key: &Hash<D>,
     depth: usize,
     digest: &Hash<D>,
@@ -30,10 +30,14 @@ pub(crate) fn descend<D: SupportedDigest, P: Pages<A>, A: Allocator + Copy>(
 ) -> Result<Option<HeldKey<D>>, ProveError<P::Error>>
     requires { depth ≤ 32 }
     ensures ok { IfOk result (λ held. (more : List (Option (List ℕ)))
-        × (peers.new.items ≡ peers.old.items ++ more)
-        × IsWayDown D.digest (P.bytes_at pages.now) key.now depth digest.now version more held) }
-    ensures err { IfErr result (IsOfSourceUnless ((insertions : List (List ℕ × List ℕ))
-        → IsOwnAt D.digest (P.bytes_at pages.now) key.now depth digest.now version insertions → ⊥)) }
+        × (peers.new.items ≡ peers.old.items ++ more) × IsWayDown D.digest key.now depth digest.now more held
+        × ((known : P.Known) (insertions : List (List ℕ × List ℕ)) → P.IsKnown pages.old known
+        → IsOwnAt D.digest (P.bytes_at known) key.now depth digest.now version insertions
+        → IsOwnWay D.digest insertions key.now depth more held)) }
+    ensures err { IfErr result (IsOfSourceUnless ((known : P.Known) (insertions : List (List ℕ × List ℕ))
+        → P.IsKnown pages.old known
+        → IsOwnAt D.digest (P.bytes_at known) key.now depth digest.now version insertions → ⊥)) }
+    ensures known { (known : P.Known) → P.IsKnown pages.old known → P.IsKnown pages.new known }
 {
     if depth == 32 {
         return Err(ProveError::Way(WayError::WrongLoneKey));

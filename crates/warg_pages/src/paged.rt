@@ -46,7 +46,8 @@ impl<D: SupportedDigest> PagedMap<D> {
     /// its new insertions change, and the new root is that of its map. Over any pages, each page that is returned is
     /// what stood at its prefix below the old root, by digests alone, but for the slots with an insertion below them.
     /// The refusals: `Pages` where the source has no page; `BadPage`, `WrongDigest` and `WrongLoneKey` only where its
-    /// pages aren't those of insertions with this root; or memory. A refused call leaves the map as it was.
+    /// pages aren't those of insertions with this root; or memory. A refused call leaves the map as it was. What is
+    /// known of the source stays true.
     ///
     /// It reads each page that changes once. Of its branches those that stay are hashed once, those above a change
     /// twice. A lone key that gets a new value has its way down hashed before and after; one that meets a new key has it
@@ -55,23 +56,27 @@ impl<D: SupportedDigest> PagedMap<D> {
     pub fn insert_all<K: VisitBytes, V: VisitBytes, P: Pages<A>, A: Allocator + Copy>(
         &mut self,
         alloc: A,
-        pages: &P,
+        pages: &mut P,
         insertions: &[(K, V)],
     ) -> Result<Vec<ChangedPage<D, A>, A>, ProveError<P::Error>>
         requires { self.old.version + length insertions.now < 2 ^ 64 }
-        ensures pages { IfOk result (λ changed. (old : List (List ℕ × List ℕ))
-            → IsOwnSource D.digest (P.bytes_at pages.now) self.old.root self.old.version old
+        ensures pages { IfOk result (λ changed. (known : P.Known) (old : List (List ℕ × List ℕ))
+            → P.IsKnown pages.old known
+            → IsOwnSource D.digest (P.bytes_at known) self.old.root self.old.version old
             → AreChangedPages D.digest old (pair_bytes K.bytes V.bytes insertions.now) changed.items) }
-        ensures root { OnOk result ((old : List (List ℕ × List ℕ))
-            → IsOwnSource D.digest (P.bytes_at pages.now) self.old.root self.old.version old
+        ensures root { OnOk result ((known : P.Known) (old : List (List ℕ × List ℕ))
+            → P.IsKnown pages.old known
+            → IsOwnSource D.digest (P.bytes_at known) self.old.root self.old.version old
             → self.new.root ≡ sparse_root D.digest 256
             (map_of D.digest (old ++ pair_bytes K.bytes V.bytes insertions.now))) }
         ensures stood { IfOk result (λ changed. All (ChangesWhatStood D.digest self.old.root
             (pair_bytes K.bytes V.bytes insertions.now)) changed.items) }
         ensures version { OnOk result (self.new.version ≡ self.old.version + length insertions.now) }
-        ensures refused { IfErr result (IsOfSourceUnless ((old : List (List ℕ × List ℕ))
-            → IsOwnSource D.digest (P.bytes_at pages.now) self.old.root self.old.version old → ⊥)) }
+        ensures refused { IfErr result (IsOfSourceUnless ((known : P.Known) (old : List (List ℕ × List ℕ))
+            → P.IsKnown pages.old known
+            → IsOwnSource D.digest (P.bytes_at known) self.old.root self.old.version old → ⊥)) }
         ensures kept { IfErr result (λ e. self.new ≡ self.old) }
+        ensures known { (known : P.Known) → P.IsKnown pages.old known → P.IsKnown pages.new known }
     {
         let mut changed = Vec::new(alloc);
         if insertions.is_empty() {
@@ -96,11 +101,14 @@ impl<D: SupportedDigest> PagedMap<D> {
     fn first_page<P: Pages<A>, A: Allocator>(
         &self,
         alloc: A,
-        pages: &P,
+        pages: &mut P,
     ) -> Result<MapPage<D, A>, ProveError<P::Error>>
-        ensures ok { IfOk result (IsFirstPage D.digest (P.bytes_at pages.now) self.now.root self.now.version) }
-        ensures err { IfErr result (IsOfSourceUnless ((old : List (List ℕ × List ℕ))
-            → IsOwnSource D.digest (P.bytes_at pages.now) self.now.root self.now.version old → ⊥)) }
+        ensures ok { IfOk result (λ page. (known : P.Known) → P.IsKnown pages.old known
+            → IsFirstPage D.digest (P.bytes_at known) self.now.root self.now.version page) }
+        ensures err { IfErr result (IsOfSourceUnless ((known : P.Known) (old : List (List ℕ × List ℕ))
+            → P.IsKnown pages.old known
+            → IsOwnSource D.digest (P.bytes_at known) self.now.root self.now.version old → ⊥)) }
+        ensures known { (known : P.Known) → P.IsKnown pages.old known → P.IsKnown pages.new known }
     {
         if self.version == 0 {
             return Ok(MapPage::new(alloc));

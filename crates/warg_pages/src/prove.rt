@@ -3,7 +3,7 @@
 ghost use Rattle.std.specs.Prelude.{◌≡◌, ◌≤◌, [], ℕ, List, reverse, length, take, IfOk, IfErr};
 ghost use Rattle.warg_map.specs.Bits.{key_bits};
 ghost use Rattle.warg_pages.specs.ProvedKeys.{IsOwnSource, LeadsTo, IsProved};
-ghost use Rattle.warg_pages.specs.Private.Finals.{IsWholeWay, AreLeft, presence_peers};
+ghost use Rattle.warg_pages.specs.Private.Finals.{IsWholeWay, IsWholeWayOf, AreLeft, presence_peers};
 ghost use Rattle.warg_pages.specs.Refusals.{IsOfSourceUnless};
 
 use crate::descent::descend;
@@ -29,23 +29,24 @@ pub enum KeyInPages<D, A: Allocator = Global> {
 /// Over the pages of a list of insertions it gives the very peers of the map's proof. Over any pages each one that is
 /// used has the digest of the slot that names it, and the proof leads to the root; no digest binds a version, and so the
 /// index. The refusals: `Pages` where the source has no page; `BadPage`, `WrongDigest` and `WrongLoneKey` only where its
-/// pages aren't those of insertions with this root; or memory.
+/// pages aren't those of insertions with this root; or memory. What is known of the source stays true.
 ///
 /// It reads a page for each byte that the key's digest shares with another, and one more; each branch beside the way is
 /// hashed once, and a lone key's way down once.
 pub fn prove_by_pages<D: SupportedDigest, K: VisitBytes, P: Pages<A>, A: Allocator + Copy>(
     alloc: A,
-    pages: &P,
+    pages: &mut P,
     root: &Hash<D>,
     version: u64,
     key: &K,
 ) -> Result<KeyInPages<D, A>, ProveError<P::Error>>
     ensures leads { IfOk result (LeadsTo D.digest (key_bits D.digest (K.bytes key.now)) root.now) }
-    ensures own { IfOk result (λ found. (insertions : List (List ℕ × List ℕ))
-        → IsOwnSource D.digest (P.bytes_at pages.now) root.now version insertions
+    ensures own { IfOk result (λ found. (known : P.Known) (insertions : List (List ℕ × List ℕ))
+        → P.IsKnown pages.old known → IsOwnSource D.digest (P.bytes_at known) root.now version insertions
         → IsProved D.digest insertions (K.bytes key.now) found) }
-    ensures refused { IfErr result (IsOfSourceUnless ((insertions : List (List ℕ × List ℕ))
-        → IsOwnSource D.digest (P.bytes_at pages.now) root.now version insertions → ⊥)) }
+    ensures refused { IfErr result (IsOfSourceUnless ((known : P.Known) (insertions : List (List ℕ × List ℕ))
+        → P.IsKnown pages.old known → IsOwnSource D.digest (P.bytes_at known) root.now version insertions → ⊥)) }
+    ensures known { (known : P.Known) → P.IsKnown pages.old known → P.IsKnown pages.new known }
 {
     let digest = Hash::of(key);
     let mut peers = Vec::new(alloc);
@@ -63,17 +64,20 @@ pub fn prove_by_pages<D: SupportedDigest, K: VisitBytes, P: Pages<A>, A: Allocat
 // The peers of a key digest's way from a root, from the top, and what is held.
 fn way_from_root<D: SupportedDigest, P: Pages<A>, A: Allocator + Copy>(
     alloc: A,
-    pages: &P,
+    pages: &mut P,
     root: &Hash<D>,
     version: u64,
     key: &Hash<D>,
     peers: &mut Vec<Option<Hash<D>>, A>,
 ) -> Result<Option<HeldKey<D>>, ProveError<P::Error>>
     requires { peers.old.items ≡ [] }
-    ensures ok { IfOk result (IsWholeWay D.digest (P.bytes_at pages.now) root.now version key.now
-        peers.new.items) }
-    ensures err { IfErr result (IsOfSourceUnless ((insertions : List (List ℕ × List ℕ))
-        → IsOwnSource D.digest (P.bytes_at pages.now) root.now version insertions → ⊥)) }
+    ensures ok { IfOk result (IsWholeWay D.digest root.now key.now peers.new.items) }
+    ensures own { IfOk result (λ held. (known : P.Known) (insertions : List (List ℕ × List ℕ))
+        → P.IsKnown pages.old known → IsOwnSource D.digest (P.bytes_at known) root.now version insertions
+        → IsWholeWayOf D.digest insertions key.now peers.new.items held) }
+    ensures err { IfErr result (IsOfSourceUnless ((known : P.Known) (insertions : List (List ℕ × List ℕ))
+        → P.IsKnown pages.old known → IsOwnSource D.digest (P.bytes_at known) root.now version insertions → ⊥)) }
+    ensures known { (known : P.Known) → P.IsKnown pages.old known → P.IsKnown pages.new known }
 {
     if version != 0 {
         return descend(alloc, pages, key, 0, root, version, peers);

@@ -14,27 +14,35 @@ pub trait Pages<A: Allocator> {
     /// Why it gives no page.
     type Error: Drop;
 
-    // Which bytes stand at the name of a prefix and a version; none where nothing is said of it.
-    ghost bytes_at: { Self → List ℕ → ℕ → Option (List ℕ) };
+    // What may be known of a source. Reading a page leaves it true.
+    ghost Known: { Type 0 };
+
+    // It is known of the source.
+    ghost IsKnown: { Self → Known → Type 0 };
+
+    // Which bytes stand at the name of a prefix and a version by what is known; none where nothing is said of it.
+    ghost bytes_at: { Known → List ℕ → ℕ → Option (List ℕ) };
 
     /// The bytes of the page at a prefix, of a version.
-    fn page(&self, prefix: &[u8], version: u64) -> Result<Vec<u8, A>, Self::Error>
-        ensures { IfOk result (λ bytes. IfSome (bytes_at self.now prefix.now version)
-            (λ known. known ≡ bytes.items)) };
+    fn page(&mut self, prefix: &[u8], version: u64) -> Result<Vec<u8, A>, Self::Error>
+        ensures bytes { IfOk result (λ bytes. (known : Known) → IsKnown self.old known
+            → IfSome (bytes_at known prefix.now version) (λ stands. stands ≡ bytes.items)) }
+        ensures known { (known : Known) → IsKnown self.old known → IsKnown self.new known };
 }
 
 /// The page that a source has at a prefix, of a version.
 pub(crate) fn read_page<D, P: Pages<A>, A: Allocator>(
     alloc: A,
-    pages: &P,
+    pages: &mut P,
     prefix: &[u8],
     version: u64,
 ) -> Result<MapPage<D, A>, ProveError<P::Error>>
-    ensures ok { IfOk result (λ page. IfSome (P.bytes_at pages.now prefix.now version)
-        (λ known. known ≡ page_bytes page)) }
+    ensures ok { IfOk result (λ page. (known : P.Known) → P.IsKnown pages.old known
+        → IfSome (P.bytes_at known prefix.now version) (λ stands. stands ≡ page_bytes page)) }
     ensures page { IfOk result (λ page. IsPage page) }
-    ensures err { IfErr result (IsOfSourceUnless ((slots : List SlotAt) → IsPage slots
-        → P.bytes_at pages.now prefix.now version ≢ Some (page_bytes slots))) }
+    ensures err { IfErr result (IsOfSourceUnless ((known : P.Known) (slots : List SlotAt) → P.IsKnown pages.old known
+        → IsPage slots → P.bytes_at known prefix.now version ≢ Some (page_bytes slots))) }
+    ensures known { (known : P.Known) → P.IsKnown pages.old known → P.IsKnown pages.new known }
 {
     let bytes = pages.page(prefix, version).map_err(ProveError::Pages)?;
     match MapPage::read(alloc, bytes.as_slice()) {

@@ -6,7 +6,7 @@ ghost use Rattle.std.specs.List.{All, filter};
 ghost use Rattle.warg_pages.specs.Pages.{page_digest, slot_at};
 ghost use Rattle.warg_pages.specs.ChangedPages.{ChangedPageAt, ChangesWhatStood};
 ghost use Rattle.warg_pages.specs.Private.Updates.{goes_to, AreChangesAt, IsNamedAt, ChangeWhatStood, IsOwnChange, IsOwnUpdate, IsUpdated, IsUpdatedSlot, IsOwnBelow, IsReadBelow, slot_digest};
-ghost use Rattle.warg_pages.specs.Private.SlotUpdates.{IsSlotUpdate};
+ghost use Rattle.warg_pages.specs.Private.SlotUpdates.{IsSlotUpdate, IsOwnSlotUpdate};
 ghost use Rattle.warg_pages.specs.Refusals.{IsOfSourceUnless};
 
 use crate::alone::{lone_slot_after, stays_alone};
@@ -72,23 +72,25 @@ pub(crate) enum SlotUpdate<D, A: Allocator> {
 #[cycle(update)]
 pub(crate) fn update_page<D: SupportedDigest, P: Pages<A>, A: Allocator + Copy>(
     alloc: A,
-    pages: &P,
+    pages: &mut P,
     update: PageUpdate<D, A>,
     changed: &mut Vec<ChangedPage<D, A>, A>,
 ) -> Result<Hash<D>, ProveError<P::Error>>
     requires { length update.prefix.items < 32 }
     ensures ok { IfOk result (λ digest. (added : List ChangedPageAt)
         × (changed.new.items ≡ changed.old.items ++ added)
-        × ((old more : List (List ℕ × List ℕ)) → IsOwnUpdate D.digest (P.bytes_at pages.now) update.prefix.items
+        × ((known : P.Known) (old more : List (List ℕ × List ℕ)) → P.IsKnown pages.old known
+        → IsOwnUpdate D.digest (P.bytes_at known) update.prefix.items
         update.version update.digest update.page update.changes.items old more
         → IsUpdated D.digest old more update.prefix.items digest added)
         × ((root : List ℕ) (count : ℕ) (more : List (List ℕ × List ℕ)) → IsNamedAt D.digest root update.prefix.items update.digest
         → AreChangesAt D.digest count more update.prefix.items update.changes.items
         → All (ChangesWhatStood D.digest root more) added)) }
     ensures digest { OnOk result (page_digest D.digest (length update.prefix.items) update.page ≡ update.digest) }
-    ensures err { IfErr result (IsOfSourceUnless ((old more : List (List ℕ × List ℕ))
-        → IsOwnUpdate D.digest (P.bytes_at pages.now) update.prefix.items
+    ensures err { IfErr result (IsOfSourceUnless ((known : P.Known) (old more : List (List ℕ × List ℕ))
+        → P.IsKnown pages.old known → IsOwnUpdate D.digest (P.bytes_at known) update.prefix.items
         update.version update.digest update.page update.changes.items old more → ⊥)) }
+    ensures known { (known : P.Known) → P.IsKnown pages.old known → P.IsKnown pages.new known }
 {
     let depth = update.prefix.as_slice().len();
     let mut lists = changes_by_byte(alloc, update.changes.as_slice(), depth)?;
@@ -111,7 +113,7 @@ pub(crate) fn update_page<D: SupportedDigest, P: Pages<A>, A: Allocator + Copy>(
 #[cycle(update)]
 fn slot_after<D: SupportedDigest, P: Pages<A>, A: Allocator + Copy>(
     alloc: A,
-    pages: &P,
+    pages: &mut P,
     update: &PageUpdate<D, A>,
     byte: u8,
     there: Vec<Change<D>, A>,
@@ -122,15 +124,17 @@ fn slot_after<D: SupportedDigest, P: Pages<A>, A: Allocator + Copy>(
     ensures byte { IfOk result (λ slot. IfSome slot (λ x. x.byte ≡ byte)) }
     ensures ok { IfOk result (λ slot. (added : List ChangedPageAt)
         × (changed.new.items ≡ changed.old.items ++ added)
-        × ((old more : List (List ℕ × List ℕ)) → IsOwnChange D.digest (P.bytes_at pages.now) update.now.prefix.items
+        × ((known : P.Known) (old more : List (List ℕ × List ℕ)) → P.IsKnown pages.old known
+        → IsOwnChange D.digest (P.bytes_at known) update.now.prefix.items
         update.now.page update.now.changes.items old more
         → IsUpdatedSlot D.digest old more update.now.prefix.items byte slot added)
         × ChangeWhatStood D.digest update.now.prefix.items update.now.page update.now.changes.items added) }
     ensures kept { IfOk result (λ slot. filter (goes_to (length update.now.prefix.items) byte) update.now.changes.items ≡ []
         → slot ≡ slot_at update.now.page byte) }
-    ensures err { IfErr result (IsOfSourceUnless ((old more : List (List ℕ × List ℕ))
-        → IsOwnChange D.digest (P.bytes_at pages.now) update.now.prefix.items
+    ensures err { IfErr result (IsOfSourceUnless ((known : P.Known) (old more : List (List ℕ × List ℕ))
+        → P.IsKnown pages.old known → IsOwnChange D.digest (P.bytes_at known) update.now.prefix.items
         update.now.page update.now.changes.items old more → ⊥)) }
+    ensures known { (known : P.Known) → P.IsKnown pages.old known → P.IsKnown pages.new known }
 {
     match slot_update(alloc, pages, update, byte, there)? {
         SlotUpdate::Whole(slot) => Ok(slot),
@@ -150,18 +154,22 @@ fn slot_after<D: SupportedDigest, P: Pages<A>, A: Allocator + Copy>(
 // What becomes of the slot of a byte, with these changes there.
 fn slot_update<D: SupportedDigest, P: Pages<A>, A: Allocator + Copy>(
     alloc: A,
-    pages: &P,
+    pages: &mut P,
     update: &PageUpdate<D, A>,
     byte: u8,
     there: Vec<Change<D>, A>,
 ) -> Result<SlotUpdate<D, A>, ProveError<P::Error>>
     requires short { length update.now.prefix.items < 32 }
     requires there { there.items ≡ filter (goes_to (length update.now.prefix.items) byte) update.now.changes.items }
-    ensures ok { IfOk result (IsSlotUpdate D.digest (P.bytes_at pages.now) update.now.prefix.items
+    ensures ok { IfOk result (IsSlotUpdate D.digest update.now.prefix.items
         update.now.page update.now.changes.items byte) }
-    ensures err { IfErr result (IsOfSourceUnless ((old more : List (List ℕ × List ℕ))
-        → IsOwnChange D.digest (P.bytes_at pages.now) update.now.prefix.items
+    ensures own { IfOk result (λ after. (known : P.Known) → P.IsKnown pages.old known
+        → IsOwnSlotUpdate D.digest (P.bytes_at known) update.now.prefix.items
+        update.now.page update.now.changes.items byte after) }
+    ensures err { IfErr result (IsOfSourceUnless ((known : P.Known) (old more : List (List ℕ × List ℕ))
+        → P.IsKnown pages.old known → IsOwnChange D.digest (P.bytes_at known) update.now.prefix.items
         update.now.page update.now.changes.items old more → ⊥)) }
+    ensures known { (known : P.Known) → P.IsKnown pages.old known → P.IsKnown pages.new known }
 {
     let prefix = update.prefix.as_slice();
     let slot = update.page.slot(byte);
@@ -190,7 +198,7 @@ fn copied_slot<D>(slot: Option<&Slot<D>>) -> Option<Slot<D>>
 // The page below the slot of a byte, as it was, with the changes there.
 fn update_below<D: SupportedDigest, P: Pages<A>, A: Allocator + Copy>(
     alloc: A,
-    pages: &P,
+    pages: &mut P,
     prefix: &[u8],
     byte: u8,
     slot: Option<&Slot<D>>,
@@ -202,9 +210,12 @@ fn update_below<D: SupportedDigest, P: Pages<A>, A: Allocator + Copy>(
         × (below.version ≡ version)
         × (below.digest ≡ slot_digest D.digest (length prefix.now) (option_copied slot.entry))
         × (below.changes.items ≡ changes.items)
-        × IsReadBelow D.digest (P.bytes_at pages.now) (prefix.now ++ byte ∷ []) (option_copied slot.entry) below.page) }
-    ensures err { IfErr result (IsOfSourceUnless (length prefix.now < 31 → (insertions : List (List ℕ × List ℕ))
-        → IsOwnBelow D.digest (P.bytes_at pages.now) (prefix.now ++ byte ∷ []) (option_copied slot.entry) insertions → ⊥)) }
+        × ((known : P.Known) → P.IsKnown pages.old known → IsReadBelow D.digest (P.bytes_at known)
+        (prefix.now ++ byte ∷ []) (option_copied slot.entry) below.page)) }
+    ensures err { IfErr result (IsOfSourceUnless (length prefix.now < 31
+        → (known : P.Known) (insertions : List (List ℕ × List ℕ)) → P.IsKnown pages.old known
+        → IsOwnBelow D.digest (P.bytes_at known) (prefix.now ++ byte ∷ []) (option_copied slot.entry) insertions → ⊥)) }
+    ensures known { (known : P.Known) → P.IsKnown pages.old known → P.IsKnown pages.new known }
 {
     if prefix.len() == 31 {
         return Err(ProveError::Way(WayError::WrongLoneKey));

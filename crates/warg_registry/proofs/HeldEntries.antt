@@ -1,10 +1,11 @@
 -- The last insertion under a key, by its place and by its value.
-use Rattle.std.proofs.Common.{◌≡◌, ℕ, suc, ◌+◌, Bool, true, false, List, [], ◌∷◌, length, Some, None, refl, sym, ap, ◌∙◌, ◌⊎◌, inl, inr, arith}
+use Rattle.std.proofs.Common.{◌≡◌, ℕ, suc, ◌+◌, ◌<◌, ◌^◌, ◌++◌, Bool, true, false, List, [], ◌∷◌, length, Some, None, refl, sym, ap, ◌∙◌, ◌⊎◌, inl, inr, arith}
 use Rattle.std.specs.Prelude.{slice_get}
 use Rattle.std.specs.Option.{option_map}
 use Rattle.std.specs.FinMap.{get}
 use Rattle.std.proofs.lemmas.Bool.{cases_Bool}
 use Rattle.std.proofs.lemmas.Option.{slice_get-map}
+use Rattle.std.proofs.lemmas.List.{length-append}
 use Rattle.std.proofs.Math.Dec.{eqb-suc-zero}
 use Rattle.warg_crypto.specs.Tree.{leaf_digest}
 use Rattle.warg_map.specs.Bits.{key_bits}
@@ -12,7 +13,9 @@ use Rattle.warg_map.specs.Sparse.{map_of}
 use Rattle.warg_map.specs.Last.{last_with, last_under, same_bits}
 use Rattle.warg_map.proofs.ForCallers.{all_bits, last_held, same_bits-true}
 use Rattle.warg_pages.specs.Prefixes.{begins, is_below, last_place, version}
-use Rattle.warg_registry.specs.Insertions.{entry_of, entries_of}
+use Rattle.warg_crypto.specs.Framed.{framed_part}
+use Rattle.warg_registry.specs.Insertions.{entry_of, entries_of, IsInsertion}
+use Rattle.warg_registry.proofs.Entries.{one_insertion}
 
 -- Bits that begin with as many bits are these.
 begins_all : (p q : List Bool) → length p ≡ length q → begins p q ≡ same_bits p q
@@ -77,3 +80,18 @@ own_entry H insertions key value leaf index at held own =
     let both : Some last.0 ≡ Some (key, value) = sym last.1 ∙ own in
     let same : last.0 ≡ (key, value) = cc in
     (last.2 ∙ ap (λ e. Some (entry_of e)) same, ap (λ e. leaf_digest H e.1) (sym same) ∙ last.4)
+
+-- The entry at a held key's index, if it is one of the key itself, is that of the last insertion under the key's digest.
+pub own_value : (H : List ℕ → List ℕ) (insertions : List (List ℕ × List ℕ)) (key value entry leaf : List ℕ) (index : ℕ)
+    → length entry < 2 ^ 64 → slice_get (entries_of insertions) index ≡ Some entry → entry ≡ entry_of (key, value)
+    → index + 1 ≡ version H insertions (key_bits H key) → get (map_of H insertions) (key_bits H key) ≡ Some leaf
+    → last_under H (key_bits H key) insertions ≡ Some (key, value)
+own_value H insertions key value entry leaf index small there is at held =
+    let last = last_entry H insertions key leaf index at held in
+    let both : Some entry ≡ Some (entry_of last.0) = sym there ∙ last.2 in
+    let same : entry_of (key, value) ≡ entry_of last.0 = let e : entry ≡ entry_of last.0 = cc in sym is ∙ e in
+    let size = ap length is in
+    let left = length-append key (framed_part value ++ []) in
+    let right = length-append value [] in
+    let fine : IsInsertion (key, value) = (omega (arith, size, left, right, small), omega (arith, size, left, right, small)) in
+    last.1 ∙ ap (λ (e : List ℕ × List ℕ). Some e) (sym (one_insertion (key, value) last.0 fine same))

@@ -1,15 +1,20 @@
 -- The line of a map's root is read in one way.
-use Rattle.std.proofs.Common.{◌≡◌, ◌≢◌, ℕ, ◌+◌, nat_eq, true, false, List, ◌++◌, length, take, drop, replicate, Result, Ok, codes, refl, sym, ap, ◌∙◌, inl, inr, arith}
+use Rattle.std.proofs.Common.{◌≡◌, ◌≢◌, ℕ, suc, ◌+◌, nat_eq, Bool, true, false, Option, List, [], ◌∷◌, ◌++◌, length, take, drop, replicate, Result, Ok, codes, refl, sym, ap, ◌∙◌, inl, inr, arith}
 use Rattle.std.proofs.lemmas.Bool.{cases_lt}
 use Rattle.std.proofs.lemmas.List.{length-append, length-replicate, get_or_past, get_or-drop, take-append-drop}
 use Rattle.std.proofs.lemmas.List.Elements.{All-get_or}
+use Rattle.std.specs.FinMap.{get}
 use Rattle.std.specs.Cmp.Lexicographic.{pointwise, bytes_decides}
 use Rattle.base64.specs.Engines.{standard}
 use Rattle.base64.specs.GeneralPurpose.{encode_of, decode_of, IsBytes}
 use Rattle.base64.specs.Rfc4648.{encode_symbols, padding_len}
 use Rattle.base64.proofs.EngineFacts.{decode_of-encode_of, decode_of_strict}
 use Rattle.base64.proofs.RoundTrip.{length-encode_symbols}
-use Rattle.warg_crypto.specs.Digests.{IsDigest, IsByte}
+use Rattle.warg_crypto.specs.Digests.{IsDigest, IsByte, sha256}
+use Rattle.warg_crypto.specs.DigestFacts.{IsDigest-sha256}
+use Rattle.warg_map.specs.Sparse.{SparseMap, root_of_levels, sparse_root}
+use Rattle.warg_tiles.specs.CheckpointText.{IsLine}
+use Rattle.warg_tiles.proofs.ForCallers.{no_newline-encode}
 use Rattle.warg_registry.specs.Registry.{line_of}
 
 -- What begins otherwise is no line of a root.
@@ -57,3 +62,31 @@ decoded_length r root decoded one two is =
     let e = sym one ∙ two in
     let same : root ≡ decoded = cc e in
     omega (arith, ap length same, is.has_32)
+
+-- The line of a root is a line.
+pub is_line : (root : List ℕ) → IsLine (line_of root)
+is_line root = record {
+  some = let size = length-append (codes "map ") (encode_of standard root) in omega (arith, size);
+  no_newline = (
+    λ e. omega (arith, e),
+    (λ e. omega (arith, e), (λ e. omega (arith, e), (λ e. omega (arith, e), no_newline-encode root))),
+  );
+}
+
+-- Roots of one line are one.
+pub one_root : (a b : List ℕ) → IsDigest a → IsDigest b → line_of a ∷ [] ≡ line_of b ∷ [] → a ≡ b
+one_root a b fa fb e =
+    let line : line_of a ≡ line_of b = cc in
+    let text : encode_of standard a ≡ encode_of standard b = ap (drop 4) line in
+    let first = decode_of-encode_of standard a refl (digest_bytes a fa) in
+    let second = decode_of-encode_of standard b refl (digest_bytes b fb) in
+    let both = sym first ∙ ap (decode_of standard) text ∙ second in
+    cc
+
+-- A map's root is a digest.
+root_digest : (k : ℕ) (held : List Bool → Option (List ℕ)) → IsDigest (root_of_levels sha256 (suc k) held)
+unfolding root_of_levels
+root_digest k held = IsDigest-sha256 _
+
+pub map_digest : (m : SparseMap) → IsDigest (sparse_root sha256 256 m)
+map_digest m = root_digest 255 (get m)

@@ -1,2 +1,4 @@
+pub mod Folder
 pub mod Insertions
+pub mod Reading
 pub mod Registry

@@ -1,6 +1,9 @@
-//! Why bytes are read as no insertion, and a text as none of a registry.
+//! Why bytes are read as no insertion, a text as none of a registry, and a call on a registry's folder is refused.
 
+use std::alloc::{AllocError, AllocFailed, Global};
 use thiserror::Error;
+use warg_pages::{ProveError, WayError};
+use warg_store::{CommitError, Damage, FolderError, LogError, PushError};
 
 /// Why bytes are no insertion's entry.
 #[derive(Clone, Copy, Debug, PartialEq, Eq, Error)]
@@ -20,3 +23,114 @@ pub enum InsertionFault {
 #[derive(Clone, Copy, Debug, PartialEq, Eq, Error)]
 #[error("further lines of a checkpoint that aren't one line of a map's root")]
 pub struct BadMapLine;
+
+/// Why a registry isn't opened.
+#[derive(Debug, PartialEq, Eq, Drop, Error)]
+pub enum RegistryError {
+    /// The folder has a log without a map: no further line of its checkpoint names one.
+    #[error("log has no map")]
+    NoMap,
+    /// The log isn't opened. `Damaged` also names a checkpoint whose further lines aren't one line of a map's root.
+    #[error("{0}")]
+    Log(LogError),
+}
+
+impl From<LogError> for RegistryError {
+    ghost use Rattle.std.specs.Prelude.{◌≡◌};
+    ghost use Rattle.warg_registry.specs.declared.error.RegistryError.TheVariants.{Log};
+
+    ghost from_gives = { λ cause error. error ≡ Log cause };
+
+    fn from(cause: LogError) -> Self {
+        RegistryError::Log(cause)
+    }
+}
+
+/// Why insertions aren't published.
+#[derive(Debug, PartialEq, Eq, Drop, Error)]
+pub enum PublishError {
+    /// The entry of an insertion would have more than 65,535 bytes.
+    #[error("entry of an insertion has more than 65,535 bytes")]
+    TooLong,
+    /// The log would have more than 2^63 entries.
+    #[error("log would have more than 2^63 entries")]
+    Full,
+    /// An earlier call has failed once it had begun to write: open the folder again.
+    #[error("a call has failed")]
+    Closed,
+    /// A page is missing or corrupt, memory was refused, or the device failed.
+    #[error("{0}")]
+    Log(LogError),
+}
+
+impl From<LogError> for PublishError {
+    ghost use Rattle.std.specs.Prelude.{◌≡◌};
+    ghost use Rattle.warg_registry.specs.declared.error.PublishError.TheVariants.{Log};
+
+    ghost from_gives = { λ cause error. error ≡ Log cause };
+
+    fn from(cause: LogError) -> Self {
+        PublishError::Log(cause)
+    }
+}
+
+impl From<AllocError> for PublishError {
+    fn from(_error: AllocError) -> Self {
+        PublishError::Log(LogError::Folder(FolderError::Memory))
+    }
+}
+
+impl<T: Drop> From<AllocFailed<T>> for PublishError {
+    fn from(_error: AllocFailed<T>) -> Self {
+        PublishError::Log(LogError::Folder(FolderError::Memory))
+    }
+}
+
+impl From<PushError> for PublishError {
+    fn from(cause: PushError) -> Self {
+        match cause {
+            PushError::TooLong => PublishError::TooLong,
+            PushError::Full => PublishError::Full,
+            PushError::Closed => PublishError::Closed,
+            PushError::Folder(error) => PublishError::Log(LogError::Folder(error)),
+        }
+    }
+}
+
+impl From<CommitError> for PublishError {
+    fn from(cause: CommitError) -> Self {
+        match cause {
+            CommitError::Memory => PublishError::Log(LogError::Folder(FolderError::Memory)),
+            CommitError::TooLong => PublishError::Full,
+            CommitError::Closed => PublishError::Closed,
+            CommitError::Folder(error) => PublishError::Log(LogError::Folder(error)),
+        }
+    }
+}
+
+/// That a file isn't what it is to be.
+pub(crate) fn damaged(alloc: Global, name: &str, fault: &'static str) -> LogError {
+    match String::from_str(alloc, name) {
+        Ok(name) => LogError::Damaged(Damage { name, fault }),
+        Err(_) => LogError::Folder(FolderError::Memory),
+    }
+}
+
+/// Why pages lead to nothing, where this one was read last.
+pub(crate) fn of_way(alloc: Global, last: &str, error: ProveError<LogError>) -> LogError {
+    match error {
+        ProveError::Pages(error) => error,
+        ProveError::Way(WayError::Memory) => LogError::Folder(FolderError::Memory),
+        ProveError::Way(WayError::BadPage) => damaged(alloc, last, "isn't a page of a map"),
+        ProveError::Way(WayError::WrongDigest) => {
+            damaged(
+                alloc,
+                last,
+                "hasn't the digest that the checkpoint or the page above it has",
+            )
+        }
+        ProveError::Way(WayError::WrongLoneKey) => {
+            damaged(alloc, last, "has a lone key that isn't its slot's")
+        }
+    }
+}

@@ -1,11 +1,18 @@
 //! Laws of insertions, over their definitions alone.
 
-ghost use Rattle.std.specs.Prelude.{◌≡◌, ℕ, ◌+◌, List, All, Some, slice_get};
+ghost use Rattle.std.specs.Prelude.{◌≡◌, ℕ, ◌+◌, List, All, Option, Some, slice_get};
 ghost use Rattle.std.specs.FinMap.{get};
+ghost use Rattle.warg_crypto.specs.Digests.{sha256};
 ghost use Rattle.warg_crypto.specs.Tree.{leaf_digest};
 ghost use Rattle.warg_map.specs.Bits.{key_bits};
 ghost use Rattle.warg_map.specs.Sparse.{map_of};
 ghost use Rattle.warg_pages.specs.Prefixes.{version};
+ghost use Rattle.warg_pages.specs.OwnPages.{AreOwnPages};
+ghost use Rattle.warg_tiles.specs.CheckpointText.{text_before};
+ghost use Rattle.warg_store.specs.Files.{Files};
+ghost use Rattle.warg_store.specs.Log.{Serves};
+ghost use Rattle.warg_store.specs.Names.{checkpoint};
+ghost use Rattle.warg_registry.specs.Folder.{registry_of, page_found};
 ghost use Rattle.warg_registry.specs.Insertions.{entry_of, entries_of, IsInsertion};
 ghost use Rattle.warg_registry.specs.Registry.{said_of};
 
@@ -35,4 +42,14 @@ pub fn held_entry()
         → get (map_of H insertions) (key_bits H key) ≡ Some leaf
         → (e : List ℕ × List ℕ) × (slice_get (entries_of insertions) index ≡ Some (entry_of e))
         × (key_bits H e.0 ≡ key_bits H key) × (leaf_digest H e.1 ≡ leaf) }
+{}
+
+/// Under a served registry's checkpoint the map's root is the sparse root of exactly the insertions whose entries are the
+/// log's, and the folder has the pages of their map.
+pub fn served_registry()
+    ensures checkpoint { (origin : List ℕ) (insertions : List (List ℕ × List ℕ)) (files : Files)
+        → Serves (registry_of origin insertions) files → (behind : Option (List ℕ))
+        × (files checkpoint ≡ Some (text_before (said_of sha256 origin insertions) behind)) }
+    ensures pages { (origin : List ℕ) (insertions : List (List ℕ × List ℕ)) (files : Files)
+        → Serves (registry_of origin insertions) files → AreOwnPages sha256 (page_found files) insertions }
 {}

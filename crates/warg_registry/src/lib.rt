@@ -1,15 +1,20 @@
-//! A registry: a log of insertions, and the sparse map that these insertions make, bound by one checkpoint. What of it
-//! needs no folder: the entries of insertions, the checkpoint's line of the map's root, and the value of a held key.
+//! A registry: a log of insertions, and the sparse map that these insertions make, bound by one checkpoint; and a folder
+//! of files that keeps and serves both.
 //!
-//! The definitions that the contracts cite stand in `specs/`: read Insertions first.
+//! The definitions that the contracts cite stand in `specs/`: read Insertions first, then Registry and Folder.
 #![tactic(auto)]
 
 mod error;
 mod extension;
+mod folder;
 mod insertion;
 pub mod laws;
 pub mod premises;
+mod reader;
+mod source;
 
-pub use error::{BadMapLine, InsertionFault};
+pub use error::{BadMapLine, InsertionFault, PublishError, RegistryError};
 pub use extension::{map_line, map_root};
+pub use folder::RegistryFolder;
 pub use insertion::{Insertion, inserted_value, read_insertion, write_insertion};
+pub use reader::{KeyInRegistry, RegistryReader};

@@ -1,13 +1,19 @@
 //! What the premises of the laws are for: the contract of each function says that the law of its name is false without
 //! any one of them, and it has no effect.
 
-ghost use Rattle.std.specs.Prelude.{◌≡◌, ℕ, ◌+◌, List, Some, slice_get};
+ghost use Rattle.std.specs.Prelude.{◌≡◌, ℕ, ◌+◌, List, Option, Some, slice_get};
 ghost use Rattle.std.specs.FinMap.{get};
 ghost use Rattle.warg_crypto.specs.Framed.{IsPart};
+ghost use Rattle.warg_crypto.specs.Digests.{sha256};
 ghost use Rattle.warg_crypto.specs.Tree.{leaf_digest};
 ghost use Rattle.warg_map.specs.Bits.{key_bits};
 ghost use Rattle.warg_map.specs.Sparse.{map_of};
 ghost use Rattle.warg_pages.specs.Prefixes.{version};
+ghost use Rattle.warg_pages.specs.OwnPages.{AreOwnPages};
+ghost use Rattle.warg_tiles.specs.CheckpointText.{text_before};
+ghost use Rattle.warg_store.specs.Files.{Files};
+ghost use Rattle.warg_store.specs.Names.{checkpoint};
+ghost use Rattle.warg_registry.specs.Folder.{page_found};
 ghost use Rattle.warg_registry.specs.Insertions.{entry_of, entries_of};
 ghost use Rattle.warg_registry.specs.Registry.{said_of};
 
@@ -38,4 +44,13 @@ pub fn held_entry()
         (key leaf : List ℕ) (index : ℕ) → index + 1 ≡ version H insertions (key_bits H key)
         → (e : List ℕ × List ℕ) × (slice_get (entries_of insertions) index ≡ Some (entry_of e))
         × (key_bits H e.0 ≡ key_bits H key) × (leaf_digest H e.1 ≡ leaf)) }
+{}
+
+/// An empty folder serves no registry, and has no checkpoint and no page.
+pub fn served_registry()
+    ensures checkpoint { ¬ ((origin : List ℕ) (insertions : List (List ℕ × List ℕ)) (files : Files)
+        → (behind : Option (List ℕ))
+        × (files checkpoint ≡ Some (text_before (said_of sha256 origin insertions) behind))) }
+    ensures pages { ¬ ((insertions : List (List ℕ × List ℕ)) (files : Files)
+        → AreOwnPages sha256 (page_found files) insertions) }
 {}

@@ -10,11 +10,10 @@ use Rattle.warg_tiles.specs.Tiles.{TileAt}
 use Rattle.warg_tiles.specs.Between.{IsTileOf}
 use Rattle.warg_tiles.specs.TileLog.{RightEdge, StandsFor}
 use Rattle.warg_tiles.specs.EntryBundles.{bundle_of}
-use Rattle.warg_tiles.specs.CheckpointText.{Said}
 use Rattle.warg_store.specs.Files.{File, Files, put}
 use Rattle.warg_store.specs.Names.{checkpoint, state, mark, staged, is_staged, page_name}
 use Rattle.warg_store.specs.Opening.{is_signed, opened_by, committed, finished, published, told, IsStaging, NothingStaged}
-use Rattle.warg_store.specs.Log.{LogOf, CanBeKept, said_of, checkpoint_of, Keeps, HasFiles, no_entries}
+use Rattle.warg_store.specs.Log.{CanBeKept, said_of, checkpoint_of, Keeps, HasFiles, no_entries_with}
 use Rattle.warg_store.specs.Growing.{Has}
 use Rattle.warg_store.proofs.FileLemmas.{put_here}
 use Rattle.warg_store.proofs.ReadLemmas.{unsigned_is}
@@ -41,13 +40,15 @@ no_tile t is =
     omega (arith, is.some, is.width, none)
 
 -- and no page
-no_page : {P : Type 0} (origin : List ℕ) (f : File) → Contains (no_entries origin).pages f → P
-no_page origin f (k, low, is) = absurd (omega arith)
+no_page : {P : Type 0} (origin : List ℕ) (lines : List (List ℕ)) (f : File)
+    → Contains (no_entries_with origin lines).pages f → P
+no_page origin lines f (k, low, is) = absurd (omega arith)
 
 -- What a commit of its text makes of a folder without a checkpoint.
-module _ (origin : List ℕ) (named : CanBeKept (no_entries origin)) (s : Files) (none : s checkpoint ≡ None) where
+module _ (origin : List ℕ) (lines : List (List ℕ)) (named : CanBeKept (no_entries_with origin lines))
+    (s : Files) (none : s checkpoint ≡ None) where
   abbrev text : List ℕ
-  text = checkpoint_of (no_entries origin)
+  text = checkpoint_of (no_entries_with origin lines)
 
   abbrev marked : Files
   marked = put (mark, text) s
@@ -56,14 +57,15 @@ module _ (origin : List ℕ) (named : CanBeKept (no_entries origin)) (s : Files)
   at_own n isnt = ap (λ (o : Option (List ℕ)). opened_by o marked n) (put_here (mark, text) s)
       ∙ without_at (finished text marked) n isnt
 
-  no_files : HasFiles (no_entries origin) (committed text s)
+  no_files : HasFiles (no_entries_with origin lines) (committed text s)
   no_files = record {
     tile = λ t is. absurd (no_tile t is.exists);
     bundle = λ t is. absurd (no_tile t is.exists);
-    page = λ f is. no_page origin f is;
+    page = λ f is. no_page origin lines f is;
   }
 
-  pub created : Keeps (no_entries origin) (no_entries origin) (committed (checkpoint_of (no_entries origin)) s)
+  pub created : Keeps (no_entries_with origin lines) (no_entries_with origin lines)
+      (committed (checkpoint_of (no_entries_with origin lines)) s)
   created = record {
     can = named;
     state = at_own state refl ∙ put_here (state, text) (published marked);
@@ -78,39 +80,33 @@ module _ (origin : List ℕ) (named : CanBeKept (no_entries origin)) (s : Files)
       );
       holds = no_files;
     };
-    begins = extends_self (no_entries origin);
+    begins = extends_self (no_entries_with origin lines);
     newest = λ _. refl;
   }
 
--- what the text of no entries says
-pub says_none : (origin : List ℕ) (said : Said) (n : ℕ) (root : List ℕ) → n ≡ 0 → root ≡ sha256 []
-    → said ≡ record { origin = origin; length = n; root = root; extensions = [] } → said ≡ said_of (no_entries origin)
-says_none origin said n root len empty is =
-    subst (λ m. said ≡ record { origin = origin; length = m; root = sha256 []; extensions = [] }) len
-    (subst (λ r. said ≡ record { origin = origin; length = n; root = r; extensions = [] }) empty is)
-
 -- a new log has no entries
-pub has_none : {F : Type 0} (seen : F → Files) (may_leave : F → Files → Type 0) (origin : List ℕ) (folder : F)
-    (edge : RightEdge) → edge ≡ record { len = 0; taken = 0; digests = []; full = [] } → StandsFor sha256 edge []
-    → Keeps (no_entries origin) (no_entries origin) (seen folder) → NothingStaged (seen folder)
+pub has_none : {F : Type 0} (seen : F → Files) (may_leave : F → Files → Type 0) (origin : List ℕ)
+    (lines : List (List ℕ)) (folder : F) (edge : RightEdge) → edge ≡ record { len = 0; taken = 0; digests = []; full = [] }
+    → StandsFor sha256 edge []
+    → Keeps (no_entries_with origin lines) (no_entries_with origin lines) (seen folder) → NothingStaged (seen folder)
     → IsStaging (seen folder) (may_leave folder)
-    → Has seen may_leave (no_entries origin) (no_entries origin) (no_entries origin)
+    → Has seen may_leave (no_entries_with origin lines) (no_entries_with origin lines) (no_entries_with origin lines)
     (record {
       folder = folder;
-      text = said_of (no_entries origin);
+      text = said_of (no_entries_with origin lines);
       is_open = true;
       edge = edge;
       bundle = [];
       held = 0;
     })
 unfolding bundle_of
-has_none seen may_leave origin folder edge is stands keeps nothing staging =
+has_none seen may_leave origin lines folder edge is stands keeps nothing staging =
     let len : edge.len ≡ 0 = ap (λ (e : RightEdge). e.len) is in
     let taken : edge.taken ≡ 0 = ap (λ (e : RightEdge). e.taken) is in
     record {
       is_open = refl;
       keeps = keeps;
-      extends = extends_self (no_entries origin);
+      extends = extends_self (no_entries_with origin lines);
       short = tt;
       text = refl;
       edge = stands;

@@ -19,7 +19,7 @@ use Rattle.warg_tiles.specs.EntryBundles.{bundle_of}
 use Rattle.warg_store.specs.Files.{File, Files}
 use Rattle.warg_store.specs.Names.{checkpoint, state, mark, staged, is_own, page_name, is_served}
 use Rattle.warg_store.specs.Opening.{is_signed, checkpoint_after, opened, committed, IsBetween}
-use Rattle.warg_store.specs.Log.{LogOf, CanBeKept, checkpoint_of, tile_bytes, bundle_bytes, IsTileIn, IsBundleIn, HasFiles, Serves, IsFileOf, Extends, Keeps, IsServed, IsOneOf, IsCommitting, HasPage, IsNewPage, IsNewName, ArePagesStaged, AreStagedFor}
+use Rattle.warg_store.specs.Log.{LogOf, CanBeKept, checkpoint_of, tile_bytes, bundle_bytes, IsTileIn, IsBundleIn, HasFiles, Serves, IsFileOf, Extends, Keeps, KeepsNext, IsServed, IsOneOf, IsCommitting, HasPage, IsNewPage, IsNewName, ArePagesStaged, AreStagedFor}
 use Rattle.warg_store.proofs.NameLemmas.{apart, served_not_own, served_kind, page_once}
 use Rattle.warg_store.proofs.PathLemmas.{tile_path_once, entries_path_once, no_tile_a_bundle, no_page_a_tile, no_page_a_bundle}
 use Rattle.warg_store.proofs.ServeLemmas.{idle_same, committed_served, opened_idle}
@@ -329,9 +329,9 @@ module _ (served old next : LogOf) (files : Files) (keeps : Keeps served old fil
     newest = λ unsigned. refl;
   }
 
-  pub next_keeps : (log : LogOf) × Keeps log next (committed text files)
+  pub next_keeps : KeepsNext served next (committed text files)
   next_keeps = elim (cases_Bool (is_signed (files checkpoint)))
-      [ inl is ↦ (served, signed_keeps is) | inr isnt ↦ (next, unsigned_keeps isnt) ]
+      [ inl is ↦ (served, inl refl, signed_keeps is) | inr isnt ↦ (next, inr refl, unsigned_keeps isnt) ]
 
   module _ (idle : files mark ≡ None) (c : Files) (was : IsBetween files (committed text files) c) where
     -- a file of the served log is the same, opened and not
@@ -374,7 +374,7 @@ module _ (served old next : LogOf) (files : Files) (keeps : Keeps served old fil
           was.state;
       opened = ⊎_elim
           (λ (e, same). inl (subst (Keeps served old) (sym e) (opened_idle_keeps)))
-          (λ e. inr (next_keeps.0, subst (Keeps next_keeps.0 next) (sym e) next_keeps.1))
+          (λ e. inr (next_keeps.0, next_keeps.1, subst (Keeps next_keeps.0 next) (sym e) next_keeps.2))
           was.stands_for;
     }
       where

@@ -18,6 +18,8 @@ mod OpenLemmas
 mod SignLemmas
 mod FetchedLemmas
 mod PruneLemmas
+mod RemoveLemmas
 mod WholeLemmas
 mod EnoughLemmas
 mod PageLemmas
+pub mod ForCallers

@@ -1,7 +1,7 @@
 -- How a run of calls goes on.
-use Rattle.std.proofs.Common.{◌≤◌, inl, inr, ⊎_elim, ℕ, arith}
+use Rattle.std.proofs.Common.{◌≡◌, ◌≤◌, inl, inr, ⊎_elim, ℕ, refl, ◌∙◌, arith}
 use Rattle.warg_store.specs.Files.{Files}
-use Rattle.warg_store.specs.Moments.{Within, Elapses, LeavesOnly}
+use Rattle.warg_store.specs.Moments.{Within, Elapses, IsRead, LeavesOnly}
 
 module _ {D : Type 0} (moment : D → ℕ) (left_since : D → ℕ → Files → Type 0) (may_leave : D → Files → Type 0) where
   -- one call more
@@ -25,6 +25,14 @@ module _ {D : Type 0} (moment : D → ℕ) (left_since : D → ℕ → Files →
     each = λ c left. ⊎_elim (λ was. first c (only c was)) (here c)
         (time.nothing_else (moment old) c (omega arith) left);
     before = λ t c le left. ⊎_elim (λ was. inl was) (λ now. inr (here c now)) (time.nothing_else t c le left);
+  }
+
+  -- time goes on by no call
+  pub elapses_none : (old : D) → Elapses moment left_since may_leave old old
+  elapses_none old = record {
+    later = omega arith;
+    nothing_else = λ t c le left. inl left;
+    keeps = λ t c le left. left;
   }
 
   -- two calls that only read
@@ -77,3 +85,43 @@ module _ {D : Type 0} (moment : D → ℕ) (left_since : D → ℕ → Files →
         left_since mid new (may_leave mid) → LeavesOnly moment left_since old new P
     then_reads old mid new P run reads = then moment left_since old mid new P (may_leave mid) P run reads (λ c was. was)
         (in_end old mid P run)
+
+module _ {D : Type 0} (seen : D → Files) (may_leave : D → Files → Type 0) (moment : D → ℕ)
+    (left_since : D → ℕ → Files → Type 0) where
+  -- no call only reads
+  pub read_is : (old : D) → IsRead seen may_leave moment left_since old old
+  read_is old = record {
+    found = refl;
+    crash = λ c left. left;
+    time = elapses_none moment left_since may_leave old;
+  }
+
+  -- nor do two calls that only read change anything
+  pub read_then : (old mid new : D)
+      → ((t : ℕ) (c : Files) → t ≤ moment old → may_leave old c → left_since old t c)
+      → IsRead seen may_leave moment left_since old mid → IsRead seen may_leave moment left_since mid new
+      → IsRead seen may_leave moment left_since old new
+  read_then old mid new counts one two = record {
+    found = two.found ∙ one.found;
+    crash = λ c left. one.crash c (two.crash c left);
+    time = record {
+      later = omega (arith, one.time.later, two.time.later);
+      nothing_else = λ t c le left. ⊎_elim
+          (λ was. ⊎_elim (λ first. inl first) (λ now. inl (counts t c le (one.crash c now)))
+          (one.time.nothing_else t c le was))
+          (λ now. inr now) (two.time.nothing_else t c (omega (arith, le, one.time.later)) left);
+      keeps = λ t c le left. two.time.keeps t c (omega (arith, le, one.time.later)) (one.time.keeps t c le left);
+    };
+  }
+
+  -- a call that only reads, by its clauses
+  pub read_by : (old new : D) → seen new ≡ seen old → Within (may_leave old) (may_leave new)
+      → Elapses moment left_since may_leave old new → IsRead seen may_leave moment left_since old new
+  read_by old new found crash time = record { found = found; crash = crash; time = time }
+
+  -- what a crash leaves while a folder is only read
+  pub read_leaves : (old new : D) (P : Files → Type 0) → ((c : Files) → left_since old (moment old) c → may_leave old c)
+      → ((c : Files) → may_leave old c → P c) → IsRead seen may_leave moment left_since old new
+      → LeavesOnly moment left_since old new P
+  read_leaves old new P only first read = begins moment left_since may_leave old new P only read.time first
+      (λ c left. first c (read.crash c left))

@@ -1,12 +1,11 @@
 -- A page that is put beside what was pushed.
-use Rattle.std.proofs.Common.{◌≡◌, ◌≢◌, ◌⊎◌, inl, inr, ⊎_elim, ℕ, zero, suc, ◌+◌, ◌<◌, List, [], ◌∷◌, length, true, false, Option, Some, None, IsSome, refl, sym, ap, subst, ◌∙◌, arith}
+use Rattle.std.proofs.Common.{◌≡◌, ◌≢◌, ◌⊎◌, inl, inr, ⊎_elim, ℕ, zero, suc, List, ◌∷◌, true, false, Some, IsSome, refl, sym, ap, subst, ◌∙◌, arith}
 use Rattle.std.specs.List.{Contains}
-use Rattle.warg_tiles.specs.Tiles.{TileAt}
 use Rattle.warg_tiles.specs.TilePaths.{tile_path, entries_path}
 use Rattle.warg_store.specs.Files.{File, Files, put}
 use Rattle.warg_store.specs.Names.{staged, is_staged, is_tile, page_name}
 use Rattle.warg_store.specs.Opening.{IsStaging}
-use Rattle.warg_store.specs.Log.{LogOf, HasPage, ArePagesStaged, Extends, Keeps}
+use Rattle.warg_store.specs.Log.{LogOf, HasPage, ArePagesStaged, Keeps}
 use Rattle.warg_store.specs.Growing.{LogIn, Has, AreFullStaged, IsFresh, with_page}
 use Rattle.warg_store.proofs.NameLemmas.{one_name, apart, staged_once, page_once}
 use Rattle.warg_store.proofs.FileLemmas.{put_here, put_apart}

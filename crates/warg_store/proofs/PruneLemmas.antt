@@ -75,6 +75,29 @@ module _ (kept served : ℕ) (s : Files) where
       } in
       either (IsPruning kept served s) (without name) from c removed before (pruned_one from name is before)
 
+-- A folder in which no commit stands keeps a log, and serves a beginning of it, while their files stay.
+module _ (served old : LogOf) (s : Files) (keeps : Keeps served old s) (c : Files) (no_mark : c mark ≡ None)
+    (stays_at : (n : List ℕ) → IsFileOf old n ⊎ IsFileOf served n → c n ≡ s n)
+    (stays_checkpoint : c checkpoint ≡ s checkpoint) (stays_state : c state ≡ s state) where
+  pub still_keeps : Keeps served old c
+  still_keeps = same_kept served old s c stays_at stays_checkpoint stays_state keeps
+
+  same : (n : List ℕ) → is_staged n ≡ false → opened c n ≡ c n
+  same n isnt = opened_idle c n no_mark isnt
+
+  pub still_one_of : IsOneOf served old old c
+  still_one_of = record {
+    read = inl (record {
+      serves = same_served served s c (λ n is. stays_at n (inr is)) stays_checkpoint keeps.serves;
+      stay = λ n is. same n (served_not_staged n (file_served served n is));
+    });
+    state = inl (record { can = keeps.can; text = stays_state ∙ keeps.state });
+    opened = inl (same_kept served old c (opened c)
+        (λ n is. same n (served_not_staged n
+        (⊎_elim (λ one. file_served old n one) (λ other. file_served served n other) is)))
+        (same checkpoint refl) (same state refl) still_keeps);
+  }
+
 -- What a folder keeps, and what it serves, stays.
 module _ (served old : LogOf) (s : Files) (keeps : Keeps served old s) where
   full_wins : (t u : TileAt) → t ≡ u → t.width < 256 → IsTileOf (length old.entries) (full_of t)
@@ -151,36 +174,25 @@ module _ (served old : LogOf) (s : Files) (keeps : Keeps served old s) where
         (was.outside n isnt)
 
     pub pruned_keeps : Keeps served old c
-    pruned_keeps = same_kept served old s c stays_at (stays_own checkpoint refl refl) (stays_own state refl refl) keeps
+    pruned_keeps = still_keeps served old s keeps c was.no_mark stays_at (stays_own checkpoint refl refl)
+        (stays_own state refl refl)
 
     pub pruned_moment : IsOneOf served old old c
-    pruned_moment =
-        let same : (n : List ℕ) → is_staged n ≡ false → opened c n ≡ c n = λ n isnt. opened_idle c n was.no_mark isnt in
-        record {
-          read = inl (record {
-            serves = same_served served s c (λ n is. stays_at n (inr is)) (stays_own checkpoint refl refl) keeps.serves;
-            stay = λ n is. same n (served_not_staged n (file_served served n is));
-          });
-          state = inl (record { can = keeps.can; text = stays_own state refl refl ∙ keeps.state });
-          opened = inl (same_kept served old c (opened c)
-              (λ n is. same n (served_not_staged n
-              (⊎_elim (λ one. file_served old n one) (λ other. file_served served n other) is)))
-              (same checkpoint refl) (same state refl) pruned_keeps);
-        }
+    pruned_moment = still_one_of served old s keeps c was.no_mark stays_at (stays_own checkpoint refl refl)
+        (stays_own state refl refl)
 
 -- of the names at which commits put files, those that were spare are gone
 pub served_pruned : (kept served : ℕ) (s c : Files) → IsPruning kept served s c → IsPruned kept served s c
 served_pruned kept served s c was n is = was.outside n (served_not_staged n is)
 
--- a log whose folder was pruned
-pub prune_has : {F : Type 0} (seen : F → Files) (may_leave : F → Files → Type 0) (served old next : LogOf) (l : LogIn F)
-    (folder : F) → Has seen may_leave served old next l
-    → IsPruning (length old.entries) (length served.entries) (seen l.folder) (seen folder)
-    → ((n : List ℕ) → is_staged n ≡ true → seen folder n ≡ seen l.folder n) → Only (seen folder) (may_leave folder)
+-- a log whose folder still keeps it, with what is staged
+pub still_has : {F : Type 0} (seen : F → Files) (may_leave : F → Files → Type 0) (served old next : LogOf) (l : LogIn F)
+    (folder : F) → Has seen may_leave served old next l → Keeps served old (seen folder) → seen folder mark ≡ None
+    → ((n : List ℕ) → seen folder (staged n) ≡ seen l.folder (staged n)) → Only (seen folder) (may_leave folder)
     → Has seen may_leave served old next (record l { folder = folder })
-prune_has seen may_leave served old next l folder has was same only = record {
+still_has seen may_leave served old next l folder has keeps no_mark same only = record {
   is_open = has.is_open;
-  keeps = pruned_keeps served old (seen l.folder) has.keeps (seen folder) was;
+  keeps = keeps;
   extends = has.extends;
   short = has.short;
   text = has.text;
@@ -190,13 +202,22 @@ prune_has seen may_leave served old next l folder has was same only = record {
   held = has.held;
   most = has.most;
   bundle = has.bundle;
-  staged = full_staged_same l.text.length l.edge.taken next (seen l.folder) (seen folder)
-      (λ n. same (staged n) refl) has.staged;
-  pages = pages_stay served.pages old.pages next.pages (seen l.folder) (seen folder)
-      (λ path. same (staged (page_name path)) refl) has.pages;
+  staged = full_staged_same l.text.length l.edge.taken next (seen l.folder) (seen folder) same has.staged;
+  pages = pages_stay served.pages old.pages next.pages (seen l.folder) (seen folder) (λ path. same (page_name path))
+      has.pages;
   staging = λ c left. subst (λ (f : Files). IsBeside (seen folder) f) (sym (only c left))
-      (record { outside = λ n isnt. refl; no_mark = was.no_mark });
+      (record { outside = λ n isnt. refl; no_mark = no_mark });
 }
+
+-- a log whose folder was pruned
+pub prune_has : {F : Type 0} (seen : F → Files) (may_leave : F → Files → Type 0) (served old next : LogOf) (l : LogIn F)
+    (folder : F) → Has seen may_leave served old next l
+    → IsPruning (length old.entries) (length served.entries) (seen l.folder) (seen folder)
+    → ((n : List ℕ) → is_staged n ≡ true → seen folder n ≡ seen l.folder n) → Only (seen folder) (may_leave folder)
+    → Has seen may_leave served old next (record l { folder = folder })
+prune_has seen may_leave served old next l folder has was same only =
+    still_has seen may_leave served old next l folder has
+    (pruned_keeps served old (seen l.folder) has.keeps (seen folder) was) was.no_mark (λ n. same (staged n) refl) only
 
 -- a file of which something was read is there
 pub some_read : (o : Option (List ℕ)) (bytes : List ℕ) (n : ℕ) → Some bytes ≡ option_map (take n) o → IsSome o

@@ -1,5 +1,5 @@
 -- A signed checkpoint, over what a folder keeps.
-use Rattle.std.proofs.Common.{◌≡◌, ◌≢◌, ℕ, ◌<◌, List, [], ◌∷◌, ◌++◌, length, take, drop, get_or, nat_eq, true, false, Some, IsSome, inl, inr, refl, sym, ap, subst, ◌∙◌, arith}
+use Rattle.std.proofs.Common.{◌≡◌, ◌≢◌, ℕ, ◌<◌, List, [], ◌∷◌, ◌++◌, length, take, drop, get_or, nat_eq, true, false, Some, IsSome, inl, inr, ⊎_elim, refl, sym, ap, subst, ◌∙◌, arith}
 use Rattle.std.specs.Cmp.Lexicographic.{pointwise, bytes_decides}
 use Rattle.std.proofs.lemmas.List.{take-append-drop, take_at, drop_at}
 use Rattle.warg_tiles.specs.TilePaths.{tile_path, entries_path}
@@ -117,7 +117,8 @@ module _ (note : List ℕ) (s : Files) where
       later one = record {
         read = elim (one.read) [ inl r ↦ inr r | inr r ↦ inr r ];
         state = one.state;
-        opened = elim (one.opened) [ inl k ↦ inr (old, k) | inr k ↦ inr k ];
+        opened = elim (one.opened)
+            [ inl k ↦ inr (old, inr refl, k) | inr k ↦ inr (k.0, inr (⊎_elim (λ e. e) (λ e. e) k.1), k.2) ];
       }
 
 -- where no call is made, it serves what it served

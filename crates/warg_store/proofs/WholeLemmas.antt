@@ -166,7 +166,7 @@ one_state served old next files one = ⊎_elim (λ is. (old, is)) (λ is. (next,
 one_kept : (served old next : LogOf) (files : Files) → IsOneOf served old next files → files mark ≡ None
     → (first log : LogOf) × Keeps first log files
 one_kept served old next files one none = ⊎_elim (λ keeps. (served, old, kept served old keeps))
-    (λ (first, keeps). (first, next, kept first next keeps)) one.opened
+    (λ (first, which, keeps). (first, next, kept first next keeps)) one.opened
   where
     kept : (first log : LogOf) → Keeps first log (opened files) → Keeps first log files
     kept first log keeps = same_kept first log (opened files) files

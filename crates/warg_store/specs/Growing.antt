@@ -110,6 +110,11 @@ pub record IsEndOf (next : LogOf) (said : Said) (text : List ℕ) (parts : List 
   pub bytes : text ≡ checkpoint_of next
   pub tiles : ArePartsOf next parts
 
--- The log's folder keeps the entries of `next`, whose checkpoint's text is still to be noted.
-abbrev pub IsPut : {F : Type 0} → (F → Files) → (F → Files → Type 0) → LogOf → LogIn F → Type 0
-IsPut seen may_leave next l = (log : LogOf) × Has seen may_leave log next next (record l { text = said_of next })
+-- The log's folder keeps the next log, and serves it, or the one that was served.
+abbrev pub HasNext : {F : Type 0} → (F → Files) → (F → Files → Type 0) → LogOf → LogOf → LogIn F → Type 0
+HasNext seen may_leave served next l =
+    (log : LogOf) × ((log ≡ served) ⊎ (log ≡ next)) × Has seen may_leave log next next l
+
+-- The same, where the next checkpoint's text is still to be noted.
+abbrev pub IsPut : {F : Type 0} → (F → Files) → (F → Files → Type 0) → LogOf → LogOf → LogIn F → Type 0
+IsPut seen may_leave served next l = HasNext seen may_leave served next (record l { text = said_of next })

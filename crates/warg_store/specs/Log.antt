@@ -25,6 +25,10 @@ pub record LogOf : Type 0 where
 abbrev pub no_entries : List ℕ → LogOf
 no_entries origin = record { origin = origin; entries = []; lines = []; pages = [] }
 
+-- The same with these further lines in its checkpoint's text.
+abbrev pub no_entries_with : List ℕ → List (List ℕ) → LogOf
+no_entries_with origin lines = record (no_entries origin) { lines = lines }
+
 -- What the log's checkpoint says.
 abbrev pub said_of : LogOf → Said
 said_of log = record {
@@ -122,12 +126,16 @@ pub record HasState (log : LogOf) (files : Files) : Type 0 where
   pub can : CanBeKept log
   pub text : files state ≡ Some (checkpoint_of log)
 
+-- The folder keeps the next log, and serves it, or the one that was served.
+abbrev pub KeepsNext : LogOf → LogOf → Files → Type 0
+KeepsNext served next files = (log : LogOf) × ((log ≡ served) ⊎ (log ≡ next)) × Keeps log next files
+
 -- What a commit's crash leaves: who reads the files finds the log that was served or the next one, and the old one's
 -- state or the next one's; opened they keep the old one or the next one.
 pub record IsOneOf (served old next : LogOf) (files : Files) : Type 0 where
   pub read : IsServed served files ⊎ IsServed next files
   pub state : HasState old files ⊎ HasState next files
-  pub opened : Keeps served old (opened files) ⊎ ((log : LogOf) × Keeps log next (opened files))
+  pub opened : Keeps served old (opened files) ⊎ KeepsNext served next (opened files)
 
 -- The name is that of a tile or of a bundle which the next log has and the old one hasn't.
 abbrev pub IsNewTile : LogOf → LogOf → List ℕ → Type 0

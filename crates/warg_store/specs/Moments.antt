@@ -22,6 +22,13 @@ pub record Elapses {D : Type 0} (moment : D → ℕ) (left_since : D → ℕ →
   pub nothing_else : (t : ℕ) (c : Files) → t ≤ moment old → left_since new t c → left_since old t c ⊎ may_leave new c
   pub keeps : (t : ℕ) (c : Files) → t ≤ moment old → left_since old t c → left_since new t c
 
+-- A folder was only read: a reader finds the same, and a crash leaves no more than before.
+pub record IsRead {D : Type 0} (seen : D → Files) (may_leave : D → Files → Type 0) (moment : D → ℕ)
+    (left_since : D → ℕ → Files → Type 0) (old new : D) : Type 0 where
+  pub found : seen new ≡ seen old
+  pub crash : Within (may_leave old) (may_leave new)
+  pub time : Elapses moment left_since may_leave old new
+
 -- A crash at any moment since old leaves files that have P.
 pub record LeavesOnly {D : Type 0} (moment : D → ℕ) (left_since : D → ℕ → Files → Type 0) (old new : D) (P : Files → Type 0) : Type 0 where
   pub later : moment old ≤ moment new

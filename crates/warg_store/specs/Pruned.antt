@@ -1,10 +1,12 @@
--- What pruning removes: partial tiles and bundles whose full one is there.
-use Rattle.std.specs.Prelude.{◌≡◌, ◌⊎◌, ℕ, ◌<◌, true, List, None, IsSome}
+-- What is removed: by pruning, partial tiles and bundles whose full one is there; by their names, pages.
+use Rattle.std.specs.Prelude.{◌≡◌, ◌≢◌, ◌⊎◌, ℕ, ◌<◌, true, List, None, IsSome}
+use Rattle.std.specs.List.{Contains}
 use Rattle.warg_tiles.specs.Tiles.{TileAt}
 use Rattle.warg_tiles.specs.TilePaths.{tile_path, entries_path}
 use Rattle.warg_tiles.specs.Between.{IsTileOf}
-use Rattle.warg_store.specs.Files.{Files}
-use Rattle.warg_store.specs.Names.{is_served}
+use Rattle.warg_store.specs.Files.{File, Files}
+use Rattle.warg_store.specs.Names.{is_served, is_page, page_name}
+use Rattle.warg_store.specs.Log.{LogOf}
 
 -- The full tile in a tile's place.
 abbrev pub full_of : TileAt → TileAt
@@ -28,3 +30,17 @@ pub record IsSpare (kept served : ℕ) (files : Files) (n : List ℕ) : Type 0 w
 -- Each served file is as it was, or was spare and is gone.
 abbrev pub IsPruned : ℕ → ℕ → Files → Files → Type 0
 IsPruned kept served old new = (n : List ℕ) → is_served n ≡ true → (new n ≡ old n) ⊎ ((new n ≡ None) × IsSpare kept served old n)
+
+-- None of the names is that of one of the pages.
+abbrev pub IsNoneOf : List (List ℕ) → List File → Type 0
+IsNoneOf names pages = (n : List ℕ) → Contains names n → (f : File) → Contains pages f → page_name f.0 ≢ n
+
+-- None of the names is that of a page which is served, kept or to be kept.
+pub record ArePagesNotOf (names : List (List ℕ)) (served old next : LogOf) : Type 0 where
+  pub not_served : IsNoneOf names served.pages
+  pub not_kept : IsNoneOf names old.pages
+  pub not_next : IsNoneOf names next.pages
+
+-- Each file is as it was, or is one of these names' below `map/` and is gone.
+abbrev pub IsWithoutPages : List (List ℕ) → Files → Files → Type 0
+IsWithoutPages names old new = (n : List ℕ) → (new n ≡ old n) ⊎ ((new n ≡ None) × Contains names n × (is_page n ≡ true))

@@ -14,6 +14,7 @@ mod log_folder;
 mod memory;
 mod names;
 mod opening;
+mod pages;
 mod pruning;
 mod reader;
 mod reading;

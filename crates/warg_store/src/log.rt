@@ -7,7 +7,7 @@ ghost use Rattle.warg_store.specs.Files.{put};
 ghost use Rattle.warg_store.specs.Moments.{Only, LeavesOnly, HasCause};
 ghost use Rattle.warg_store.specs.Names.{staged};
 ghost use Rattle.warg_store.specs.Opening.{IsBeside, IsStaging, NothingStaged};
-ghost use Rattle.warg_store.specs.Log.{LogOf, CanBeKept, checkpoint_of, Extends, Keeps, IsCommitting, AreStagedFor};
+ghost use Rattle.warg_store.specs.Log.{LogOf, CanBeKept, checkpoint_of, Extends, Keeps, KeepsNext, IsCommitting, AreStagedFor};
 ghost use Rattle.warg_store.specs.Staged.{staged_all, new_files};
 
 use crate::committing::{MOST_TEXT, commit};
@@ -32,7 +32,7 @@ pub(crate) fn commit_log<F: Folder>(
         (IsCommitting served old next (F.seen folder.old)) }
     ensures next { F.IsFaithful → OnOk result ((served old next : LogOf) → Keeps served old (F.seen folder.old)
         → Extends old next → AreStagedFor served old next (F.seen folder.old) → text.now ≡ checkpoint_of next → CanBeKept next
-        → (log : LogOf) × Keeps log next (F.seen folder.new)) }
+        → KeepsNext served next (F.seen folder.new)) }
     ensures durable { F.IsFaithful → OnOk result (Only (F.seen folder.new) (F.may_leave folder.new)) }
     ensures ready { F.IsFaithful → OnOk result (IsStaging (F.seen folder.new) (F.may_leave folder.new)) }
     ensures empty { F.IsFaithful → OnOk result (NothingStaged (F.seen folder.new)) }

@@ -8,7 +8,7 @@ ghost use Rattle.warg_tiles.specs.CheckpointText.{IsLine, text_of};
 ghost use Rattle.warg_tiles.specs.TileLog.{StandsFor};
 ghost use Rattle.warg_store.specs.Moments.{LeavesOnly, HasCause, HasCauseOf};
 ghost use Rattle.warg_store.specs.Opening.{IsBeside, IsStaging};
-ghost use Rattle.warg_store.specs.Growing.{IsReady, IsSameBut, Has, HasAll, IsEndOf, IsPut, ArePartsOf, with_entry, IsFresh, with_page};
+ghost use Rattle.warg_store.specs.Growing.{IsReady, IsSameBut, Has, HasAll, HasNext, IsEndOf, IsPut, ArePartsOf, with_entry, IsFresh, with_page};
 ghost use Rattle.warg_store.specs.Log.{LogOf, CanBeKept, IsCommitting, said_of, checkpoint_of};
 
 use crate::committing::MOST_TEXT;
@@ -196,6 +196,13 @@ impl<F: Folder + Drop> LogFolder<F> {
         self.text.checkpoint()
     }
 
+    /// What the text of the log's state says: what the last commit has kept.
+    pub fn text(&self) -> &CheckpointText<Sha256>
+        ensures { result.now ≡ self.now.text }
+    {
+        &self.text
+    }
+
     // The text of the log's state.
     pub(crate) fn state_text(&self) -> Result<Vec<u8>, AllocError>
         ensures { IfOk result (λ bytes. bytes.items ≡ text_of self.now.text) }
@@ -297,7 +304,7 @@ impl<F: Folder + Drop> LogFolder<F> {
             (IsCommitting served old next (F.seen self.old.folder)) }
         ensures committed { F.IsFaithful → OnOk result ((served old next : LogOf)
             → Has F.seen F.may_leave served old next self.old → next.lines ≡ old.lines
-            → (log : LogOf) × Has F.seen F.may_leave log next next self.new) }
+            → HasNext F.seen F.may_leave served next self.new) }
         ensures closed { (result ≡ Err CommitError.Closed) ↔ (self.old.is_open ≡ false) }
         ensures cause { HasCauseOf (CommitError.Folder FolderError.Failed) F.IsFaithful
             (F.faults self.old.folder) (F.faults self.new.folder) result }
@@ -318,7 +325,7 @@ impl<F: Folder + Drop> LogFolder<F> {
         ensures committed { F.IsFaithful → OnOk result ((served old next : LogOf)
             → Has F.seen F.may_leave served old next self.old → next.lines
             ≡ map (λ l. l.items) lines.now
-            → (log : LogOf) × Has F.seen F.may_leave log next next self.new) }
+            → HasNext F.seen F.may_leave served next self.new) }
         ensures closed { (result ≡ Err CommitError.Closed) ↔ (self.old.is_open ≡ false) }
         ensures cause { HasCauseOf (CommitError.Folder FolderError.Failed) F.IsFaithful
             (F.faults self.old.folder) (F.faults self.new.folder) result }
@@ -339,7 +346,7 @@ impl<F: Folder + Drop> LogFolder<F> {
         ensures committed { F.IsFaithful → OnOk result ((served old next : LogOf)
             → Has F.seen F.may_leave served old next self.old → next.lines
             ≡ unwrap_or (option_map (λ ls. map (λ l. l.items) ls.now) lines.entry) old.lines
-            → (log : LogOf) × Has F.seen F.may_leave log next next self.new) }
+            → HasNext F.seen F.may_leave served next self.new) }
         ensures closed { (result ≡ Err CommitError.Closed) ↔ (self.old.is_open ≡ false) }
         ensures cause { HasCauseOf (CommitError.Folder FolderError.Failed) F.IsFaithful
             (F.faults self.old.folder) (F.faults self.new.folder) result }
@@ -396,7 +403,7 @@ impl<F: Folder + Drop> LogFolder<F> {
         ensures put { F.IsFaithful → OnOk result ((served old next : LogOf)
             → Has F.seen F.may_leave served old next self.old → self.old.text.length < self.old.edge.len
             → IsEndOf next end.now.text end.now.bytes.items end.now.tiles.items
-            → IsPut F.seen F.may_leave next self.new) }
+            → IsPut F.seen F.may_leave served next self.new) }
         ensures cause { HasCause F.IsFaithful (F.faults self.old.folder) (F.faults self.new.folder) result }
     {
         self.stage_edge(end.tiles.as_slice())?;
@@ -535,7 +542,7 @@ impl<F: Folder + Drop> LogFolder<F> {
 }
 
 // The text with further lines behind its own.
-fn with_lines(
+pub(crate) fn with_lines(
     mut text: CheckpointText<Sha256>,
     lines: &[Vec<u8>],
 ) -> Result<CheckpointText<Sha256>, CommitError>

@@ -1,7 +1,7 @@
 //! The names of a log's files.
 
 ghost use Rattle.std.specs.Prelude.{◌≡◌, ◌≢◌, ℕ, List, ◌++◌, true, codes, IfOk, MatchOption, string_bytes};
-ghost use Rattle.warg_store.specs.Names.{staged, page_name, is_served, is_own, is_log_file};
+ghost use Rattle.warg_store.specs.Names.{staged, is_page, page_name, is_served, is_own, is_log_file};
 
 use std::alloc::{AllocError, Global};
 
@@ -39,7 +39,14 @@ pub fn page_name(alloc: Global, path: &str) -> Result<String, AllocError>
 pub fn is_served(name: &str) -> bool
     ensures { result ≡ is_served name.now }
 {
-    name.starts_with("tile/") || name.starts_with("map/")
+    name.starts_with("tile/") || is_page(name)
+}
+
+/// Whether the name is one of a page.
+pub(crate) fn is_page(name: &str) -> bool
+    ensures { result ≡ is_page name.now }
+{
+    name.starts_with("map/")
 }
 
 /// The name at which a commit puts a staged file; none for a file that is no commit's.

@@ -1,12 +1,12 @@
 //! A log's folder, made and opened.
 
-ghost use Rattle.std.specs.Prelude.{◌≡◌, ◌≢◌, ◌⊎◌, ◌↔◌, ◌<◌, ℕ, true, false, List, [], Option, Some, None, Err, length, IfOk, IfErr, OnOk, IsTrue, string_bytes};
-ghost use Rattle.std.specs.List.{All};
-ghost use Rattle.warg_tiles.specs.CheckpointText.{Said, CanBeSaid, text_before};
+ghost use Rattle.std.specs.Prelude.{◌≡◌, ◌≢◌, ◌⊎◌, ◌↔◌, ◌<◌, ℕ, true, false, List, [], Option, Some, None, Err, length, IfOk, IfErr, OnOk, IsTrue, map, string_bytes};
+ghost use Rattle.std.specs.List.{All, AllByRecursion};
+ghost use Rattle.warg_tiles.specs.CheckpointText.{Said, CanBeSaid, IsLine, text_before};
 ghost use Rattle.warg_store.specs.Files.{SameBut};
 ghost use Rattle.warg_store.specs.Moments.{Only, Within, Elapses, LeavesOnly, HasCause, HasCauseOf, HasLostCause};
 ghost use Rattle.warg_store.specs.Growing.{IsReady, Has};
-ghost use Rattle.warg_store.specs.Log.{LogOf, CanBeKept, no_entries, Serves, Keeps, HasLog, IsOneOf, said_of};
+ghost use Rattle.warg_store.specs.Log.{LogOf, CanBeKept, no_entries, no_entries_with, Serves, Keeps, HasLog, IsOneOf, said_of};
 ghost use Rattle.warg_store.specs.Names.{checkpoint, state, mark};
 ghost use Rattle.warg_store.specs.Opening.{IsStaging, CanBeServed, AgreesWith, IsTakenOver, IsOpening, opened};
 ghost use Rattle.warg_store.specs.Refusals.{IsNoFault, IsNoFailure};
@@ -15,7 +15,7 @@ use crate::committing::{MOST_TEXT, commit, is_signed};
 use crate::device::{Folder, FolderError};
 use crate::edge::{open_edge, read_edge, read_last_bundle};
 use crate::error::LogError;
-use crate::log_folder::LogFolder;
+use crate::log_folder::{LogFolder, with_lines};
 use crate::names::{CHECKPOINT, MARK, STATE, is_log_file};
 use crate::recovery::{RecoverError, recover};
 use std::alloc::{AllocError, Global};
@@ -30,7 +30,7 @@ pub enum CreateError {
     /// The folder has files of a log.
     #[error("folder has files of a log")]
     Exists,
-    /// The origin isn't one line of text, or is too long.
+    /// The origin isn't one line of text, or is too long, or the checkpoint's text would be.
     #[error("origin isn't one line of text, or is too long")]
     Origin,
     /// A call on the folder was refused.
@@ -62,7 +62,7 @@ impl From<AllocError> for CreateError {
 impl<F: Folder + Drop> LogFolder<F> {
     /// Makes a log of no entries in a folder. `Origin` where the origin is empty, has a newline or more than 65,535 bytes;
     /// `Exists` where a file of a log is there; other files don't matter.
-    pub fn create(alloc: Global, mut folder: F, origin: &[u8]) -> Result<LogFolder<F>, CreateError>
+    pub fn create(alloc: Global, folder: F, origin: &[u8]) -> Result<LogFolder<F>, CreateError>
         ensures ready { F.IsFaithful → IfOk result (IsReady F.seen F.may_leave) }
         ensures empty { IfOk result (λ log. (log.edge.len ≡ 0) × (log.text.origin ≡ origin.now)) }
         ensures has { F.IsFaithful → IfOk result (λ log. let none = no_entries origin.now in
@@ -71,16 +71,31 @@ impl<F: Folder + Drop> LogFolder<F> {
             ⊎ (CanBeKept (no_entries origin.now) → ⊥) }
         ensures cause { HasLostCause F.faults (CreateError.Folder FolderError.Failed) F.IsFaithful folder result }
     {
+        LogFolder::create_with(alloc, folder, origin, &[])
+    }
+
+    /// As [`create`](Self::create), with these as the further lines of the checkpoint's text. `Origin` also where the text would
+    /// have more than 2^20 bytes.
+    pub fn create_with(
+        alloc: Global,
+        mut folder: F,
+        origin: &[u8],
+        lines: &[Vec<u8>],
+    ) -> Result<LogFolder<F>, CreateError>
+        requires { AllByRecursion IsLine (map (λ l. l.items) lines.now) }
+        ensures ready { F.IsFaithful → IfOk result (IsReady F.seen F.may_leave) }
+        ensures empty { IfOk result (λ log. (log.edge.len ≡ 0) × (log.text.origin ≡ origin.now)) }
+        ensures has { F.IsFaithful → IfOk result (λ log.
+            let none = no_entries_with origin.now (map (λ l. l.items) lines.now) in
+            Has F.seen F.may_leave none none none log) }
+        ensures origin { result ≡ Err CreateError.Origin → (65535 < length origin.now)
+            ⊎ (CanBeKept (no_entries_with origin.now (map (λ l. l.items) lines.now)) → ⊥) }
+        ensures cause { HasLostCause F.faults (CreateError.Folder FolderError.Failed) F.IsFaithful folder result }
+    {
         if origin.len() > 65_535 {
             return Err(CreateError::Origin);
         }
-        let text = match CheckpointText::new(alloc, origin, Checkpoint::new(hash_empty(), 0)) {
-            Ok(text) => text,
-            Err(CheckpointTextError::Memory) => return Err(CreateError::Folder(
-                FolderError::Memory,
-            )),
-            Err(_) => return Err(CreateError::Origin),
-        };
+        let text = first_text(alloc, origin, lines)?;
         let bytes = text.write(alloc)?;
         if bytes.len() > MOST_TEXT {
             return Err(CreateError::Origin);
@@ -124,6 +139,28 @@ impl<F: Folder + Drop> LogFolder<F> {
         let bundle = read_last_bundle(alloc, &mut folder, edge.as_slice())?;
         let held = checkpoint.length() % 256;
         Ok(LogFolder::with(alloc, folder, text, log, bundle, held))
+    }
+}
+
+// What the checkpoint of no entries says, with these further lines.
+fn first_text(
+    alloc: Global,
+    origin: &[u8],
+    lines: &[Vec<u8>],
+) -> Result<CheckpointText<Sha256>, CreateError>
+    ensures said { IfOk result (λ text. text
+        ≡ said_of (no_entries_with origin.now (map (λ l. l.items) lines.now))) }
+    ensures line { OnOk result (IsLine origin.now) }
+    ensures origin { result ≡ Err CreateError.Origin → IsLine origin.now → ⊥ }
+    ensures other { result ≢ Err (CreateError.Folder FolderError.Failed) }
+{
+    match CheckpointText::new(alloc, origin, Checkpoint::new(hash_empty(), 0)) {
+        Ok(text) => match with_lines(text, lines) {
+            Ok(longer) => Ok(longer),
+            Err(_) => Err(CreateError::Folder(FolderError::Memory)),
+        },
+        Err(CheckpointTextError::Memory) => Err(CreateError::Folder(FolderError::Memory)),
+        Err(_) => Err(CreateError::Origin),
     }
 }
 

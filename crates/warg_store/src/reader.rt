@@ -1,10 +1,11 @@
 //! A log as a folder serves it, as whoever reads it holds it.
 
-ghost use Rattle.std.specs.Prelude.{◌≡◌, ◌⊎◌, ◌<◌, ◌≤◌, length, Some, IfOk, IfErr, MatchResult, slice_get};
+ghost use Rattle.std.specs.Prelude.{◌≡◌, ◌⊎◌, ◌+◌, ◌<◌, ◌≤◌, length, take, Some, IfOk, IfErr, MatchResult, option_map, slice_get};
 ghost use Rattle.warg_tiles.specs.CheckpointText.{text_of};
 ghost use Rattle.warg_store.specs.Audited.{IsOfEntries};
 ghost use Rattle.warg_store.specs.Log.{LogOf, HasLog, Serves, IsOneOf};
-ghost use Rattle.warg_store.specs.Moments.{HasCauseOf, HasLostCause};
+ghost use Rattle.warg_store.specs.Moments.{IsRead, HasCause, HasCauseOf, HasLostCause};
+ghost use Rattle.warg_store.specs.Names.{page_name};
 ghost use Rattle.warg_store.specs.Reading.{Reads, checkpoint_said, inclusion_in, consistency_in, IsShown, IncludesBy, GrowsBy};
 ghost use Rattle.warg_store.specs.Refusals.{IsNoFault};
 
@@ -13,6 +14,7 @@ use crate::device::{Folder, FolderError};
 use crate::edge::{open_edge, read_edge};
 use crate::error::LogError;
 use crate::opening::read_newest;
+use crate::pages::read_page;
 use crate::reading::{Path, entry, growth, inclusion};
 use std::alloc::Global;
 use std::marker::Model;
@@ -80,6 +82,25 @@ impl<F: Folder + Drop> LogReader<F> {
         ensures { result.now ≡ self.now.text.origin }
     {
         self.text.origin()
+    }
+
+    /// What the checkpoint's text says.
+    pub fn text(&self) -> &CheckpointText<Sha256>
+        ensures { result.now ≡ self.now.text }
+    {
+        &self.text
+    }
+
+    /// As [`LogFolder::page`].
+    pub fn page(&mut self, path: &str, most: usize) -> Result<Option<Vec<u8>>, FolderError>
+        ensures found { F.IsFaithful → IfOk result (λ found. option_map (λ v. v.items) found
+            ≡ option_map (take (most + 1)) (F.seen self.old.folder (page_name path.now))) }
+        ensures same { self.new ≡ record self.old { folder = self.new.folder } }
+        ensures read { F.IsFaithful
+            → IsRead F.seen F.may_leave F.moment F.left_since self.old.folder self.new.folder }
+        ensures cause { HasCause F.IsFaithful (F.faults self.old.folder) (F.faults self.new.folder) result }
+    {
+        read_page(self.alloc, &mut self.folder, path, most)
     }
 
     /// The checkpoint's text, without its signatures, once the log's last tiles lead to its root. `Damaged` where one of them is

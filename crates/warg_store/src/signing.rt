@@ -1,19 +1,24 @@
 //! A signed checkpoint.
 
-ghost use Rattle.std.specs.Prelude.{◌≡◌, ◌⊎◌, ◌↔◌, ◌<◌, length, Err, IsTrue, OnOk};
+ghost use Rattle.std.specs.Prelude.{◌≡◌, ◌⊎◌, ◌↔◌, ◌<◌, length, Err, IfOk, IfErr, IsTrue, OnOk};
 ghost use Rattle.warg_tiles.specs.CheckpointText.{text_of};
 ghost use Rattle.warg_store.specs.Files.{put};
-ghost use Rattle.warg_store.specs.Moments.{LeavesOnly, HasCauseOf};
+ghost use Rattle.warg_store.specs.Moments.{IsRead, LeavesOnly, HasCauseOf};
 ghost use Rattle.warg_store.specs.Names.{checkpoint};
-ghost use Rattle.warg_store.specs.Log.{LogOf, IsOneOf, IsNoteOf};
+ghost use Rattle.warg_store.specs.Log.{LogOf, Serves, IsOneOf, IsNoteOf, said_of};
 ghost use Rattle.warg_store.specs.Growing.{IsReady, Has};
+ghost use Rattle.warg_store.specs.Refusals.{IsNoFault};
 
 use crate::committing::MOST_TEXT;
 use crate::device::{Folder, FolderError};
+use crate::error::LogError;
 use crate::log_folder::LogFolder;
 use crate::names::CHECKPOINT;
+use crate::opening::read_served;
 use std::alloc::AllocError;
 use thiserror::Error;
+use warg_crypto::Sha256;
+use warg_tiles::CheckpointText;
 
 /// Why a signed note isn't served.
 #[derive(Debug, PartialEq, Eq, Drop, Error)]
@@ -81,6 +86,22 @@ impl<F: Folder + Drop> LogFolder<F> {
             return Err(SignError::Text);
         }
         Ok(self.folder.replace(CHECKPOINT, note)?)
+    }
+
+    /// What the served checkpoint says: where it is a signed one, commits may have kept more since. It changes nothing.
+    /// `Damaged` where the checkpoint is missing or corrupt.
+    pub fn served(&mut self) -> Result<CheckpointText<Sha256>, LogError>
+        ensures said { F.IsFaithful → IfOk result (λ text. (log : LogOf)
+            → Serves log (F.seen self.old.folder) → text ≡ said_of log) }
+        ensures whole { F.IsFaithful → (log : LogOf) → Serves log (F.seen self.old.folder)
+            → IfErr result (IsNoFault ⊥) }
+        ensures same { self.new ≡ record self.old { folder = self.new.folder } }
+        ensures read { F.IsFaithful
+            → IsRead F.seen F.may_leave F.moment F.left_since self.old.folder self.new.folder }
+        ensures cause { HasCauseOf (LogError.Folder FolderError.Failed) F.IsFaithful
+            (F.faults self.old.folder) (F.faults self.new.folder) result }
+    {
+        read_served(self.alloc, &mut self.folder)
     }
 }
 

@@ -1,5 +1,8 @@
 //! Every moment of small runs, and everything that a crash may leave there; and calls on folders that are damaged.
 
+ghost use Rattle.std.specs.Prelude.{IfOk};
+ghost use Rattle.warg_store.specs.Growing.{IsReady};
+
 use crate::{
     Call, CreateError, Folder, FolderError, LogError, LogFolder, LogReader, MemoryFolder, Progress,
     PushError, SignError, rebuild, recover,
@@ -17,12 +20,21 @@ impl Progress for usize {
 }
 
 // A log of no entries.
-fn new_log(alloc: Global) -> Result<LogFolder<MemoryFolder>, Fail> {
+fn new_log(alloc: Global) -> Result<LogFolder<MemoryFolder>, Fail>
+    ensures { IfOk result (IsReady ⟦<MemoryFolder as Folder>⟧.seen ⟦<MemoryFolder as Folder>⟧.may_leave) }
+{
     Ok(LogFolder::create(alloc, MemoryFolder::new(alloc), b"example.com/log")?)
 }
 
 // Pushes entries of two bytes, those from one number up to another.
-fn push_some(log: &mut LogFolder<MemoryFolder>, from: usize, to: usize) -> Result<(), PushError> {
+fn push_some<F: Folder + Drop>(
+    log: &mut LogFolder<F>,
+    from: usize,
+    to: usize,
+) -> Result<(), PushError>
+    requires { F.IsFaithful → IsReady F.seen F.may_leave log.old }
+    ensures { F.IsFaithful → IsReady F.seen F.may_leave log.new }
+{
     for number in from..to {
         log.push(&[(number / 256 % 256) as u8, (number % 256) as u8])?;
     }
@@ -196,33 +208,118 @@ fn a_page_and_a_line_are_kept(rt: HostRuntime) -> Result<(), Fail> {
     Ok(())
 }
 
-#[test]
-fn what_is_not_committed_is_dropped(rt: HostRuntime) -> Result<(), Fail> {
-    let alloc = rt.alloc();
+// The page at a path, as a log's folder has it.
+fn page_of(log: &mut LogFolder<MemoryFolder>, path: &str) -> Result<Vec<u8>, Fail> {
+    Ok(log.page(path, 9)?.ok_or("no page")?)
+}
+
+// A log of three entries with two pages and a further line.
+fn log_with_pages(alloc: Global) -> Result<LogFolder<MemoryFolder>, Fail>
+    ensures { IfOk result (IsReady ⟦<MemoryFolder as Folder>⟧.seen ⟦<MemoryFolder as Folder>⟧.may_leave) }
+{
     let mut log = new_log(alloc)?;
-    push_some(&mut log, 0, 257)?;
-    assert!(rt; log.push(&[7; 65536]) == Err(PushError::TooLong));
-    let mut folder = log.into_folder();
-    assert_eq!(rt; folder.list(alloc, ".log/staged/")?.len(), 2);
-    let mut log = LogFolder::open(alloc, folder)?;
-    assert_eq!(rt; log.length(), 0);
-    assert!(rt; log.commit() == Ok(()));
-    assert!(rt; log.into_folder().list(alloc, "")?.len() < 6);
+    push_some(&mut log, 0, 3)?;
+    log.put_page("a", b"first page")?;
+    log.put_page("b/1", b"second")?;
+    log.commit_with(&[Vec::from_slice(alloc, b"further")?])?;
+    Ok(log)
+}
+
+#[test]
+fn a_page_is_read_by_its_path(rt: HostRuntime) -> Result<(), Fail> {
+    let alloc = rt.alloc();
+    let mut log = log_with_pages(alloc)?;
+    assert_eq!(rt; page_of(&mut log, "b/1")?.as_slice(), b"second".as_slice());
+    let front = log.page("a", 3)?.ok_or("no page")?;
+    assert_eq!(rt; front.as_slice(), b"firs".as_slice());
+    assert!(rt; log.page("b", 9)?.is_none());
+    let mut reader = LogReader::open(alloc, log.into_folder())?;
+    let page = reader.page("b/1", 9)?.ok_or("no page")?;
+    assert_eq!(rt; page.as_slice(), b"second".as_slice());
+    assert!(rt; reader.page("tile/0/000.p/3", 9)?.is_none());
     Ok(())
 }
 
 #[test]
-fn a_signed_checkpoint_stays_until_another_is_signed(rt: HostRuntime) -> Result<(), Fail> {
+fn a_log_is_made_with_a_line(rt: HostRuntime) -> Result<(), Fail> {
     let alloc = rt.alloc();
+    let line = Vec::from_slice(alloc, b"further")?;
+    let log = LogFolder::create_with(alloc, MemoryFolder::new(alloc), b"example.com/log", &[line])?;
+    let mut folder = log.into_folder();
+    let text = folder
+        .read(alloc, "checkpoint", 999)?
+        .ok_or("no checkpoint")?;
+    let empty = "example.com/log\n0\n47DEQpj8HBSa+/TImW+5JCeuQeRkm5NMpJWZG3hSuFU=\nfurther\n";
+    assert_eq!(rt; text.as_slice(), empty.as_bytes());
+    let log = LogFolder::open(alloc, folder)?;
+    assert_eq!(rt; log.length(), 0);
+    assert_eq!(rt; log.text().extensions().len(), 1);
+    Ok(())
+}
+
+#[test]
+fn pages_are_listed_and_removed(rt: HostRuntime) -> Result<(), Fail> {
+    let alloc = rt.alloc();
+    let mut log = log_with_pages(alloc)?;
+    let mut names = log.pages()?;
+    assert_eq!(rt; names.len(), 2);
+    assert!(rt; names.as_slice().iter().any(|name| name.as_str() == "map/a"));
+    assert!(rt;
+        names
+            .as_slice()
+            .iter()
+            .any(|name| name.as_str() == "map/b/1")
+    );
+    names.clear();
+    names.push(String::from_str(alloc, "map/a")?)?;
+    names.push(String::from_str(alloc, "tile/0/000.p/3")?)?;
+    log.remove_pages(names.as_slice())?;
+    let left = log.pages()?;
+    assert_eq!(rt; left.len(), 1);
+    assert_eq!(rt; left[0].as_str(), "map/b/1");
+    assert!(rt; log.audit(&mut 0)? == checkpoint_of(alloc, 3)?);
+    Ok(())
+}
+
+// A folder whose log had pushes and no commit.
+fn uncommitted(rt: &impl Abort, alloc: Global) -> Result<MemoryFolder, Fail> {
+    let mut log = new_log(alloc)?;
+    push_some(&mut log, 0, 257)?;
+    assert!(rt; log.push(&[7; 65536]) == Err(PushError::TooLong));
+    Ok(log.into_folder())
+}
+
+#[test]
+fn what_is_not_committed_is_dropped(rt: HostRuntime) -> Result<(), Fail> {
+    let alloc = rt.alloc();
+    let mut folder = uncommitted(&rt, alloc)?;
+    assert_eq!(rt; folder.list(alloc, ".log/staged/")?.len(), 2);
+    let mut log = LogFolder::open(alloc, folder)?;
+    assert_eq!(rt; log.length(), 0);
+    log.commit()?;
+    assert!(rt; log.into_folder().list(alloc, "")?.len() < 6);
+    Ok(())
+}
+
+// A log of one entry that serves this signed note.
+fn signed_log(alloc: Global) -> Result<(LogFolder<MemoryFolder>, Vec<u8>), Fail>
+    ensures { IfOk result (λ signed. IsReady ⟦<MemoryFolder as Folder>⟧.seen ⟦<MemoryFolder as Folder>⟧.may_leave signed.0) }
+{
     let mut log = new_log(alloc)?;
     push_some(&mut log, 0, 1)?;
     log.commit()?;
     let mut reader = LogReader::open(alloc, log.into_folder())?;
     let mut note = reader.checkpoint_text()?;
-    let mut log = LogFolder::open(alloc, reader.into_folder())?;
-    assert!(rt; log.sign(note.as_slice()) == Err(SignError::Text));
     note.extend_from_slice(b"\nsigned\n")?;
+    let mut log = LogFolder::open(alloc, reader.into_folder())?;
     log.sign(note.as_slice())?;
+    Ok((log, note))
+}
+
+#[test]
+fn a_signed_checkpoint_stays_until_another_is_signed(rt: HostRuntime) -> Result<(), Fail> {
+    let alloc = rt.alloc();
+    let (mut log, note) = signed_log(alloc)?;
     push_some(&mut log, 1, 3)?;
     log.commit()?;
     let reader = LogReader::open(alloc, log.into_folder())?;
@@ -231,6 +328,29 @@ fn a_signed_checkpoint_stays_until_another_is_signed(rt: HostRuntime) -> Result<
     assert!(rt; log.checkpoint() == checkpoint_of(alloc, 3)?);
     assert!(rt; log.sign(note.as_slice()) == Err(SignError::Text));
     assert_eq!(rt; log.prune()?, 0);
+    Ok(())
+}
+
+#[test]
+fn what_is_served_is_told_beside_what_is_kept(rt: HostRuntime) -> Result<(), Fail> {
+    let alloc = rt.alloc();
+    let (mut log, _) = signed_log(alloc)?;
+    push_some(&mut log, 1, 3)?;
+    log.commit()?;
+    let served = log.served()?;
+    assert!(rt; served.checkpoint() == checkpoint_of(alloc, 1)?);
+    assert!(rt; log.text().checkpoint() == checkpoint_of(alloc, 3)?);
+    let reader = LogReader::open(alloc, log.into_folder())?;
+    assert!(rt; reader.text().checkpoint() == served.checkpoint());
+    Ok(())
+}
+
+#[test]
+fn a_text_without_a_signature_is_not_served(rt: HostRuntime) -> Result<(), Fail> {
+    let alloc = rt.alloc();
+    let mut log = new_log(alloc)?;
+    let text = log.text().write(alloc)?;
+    assert!(rt; log.sign(text.as_slice()) == Err(SignError::Text));
     Ok(())
 }
 

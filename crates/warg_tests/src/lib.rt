@@ -12,6 +12,7 @@ mod map;
 mod program;
 #[cfg(test)]
 mod registry;
+mod registry_folder;
 #[cfg(test)]
 mod text;
 #[cfg(test)]

@@ -9,7 +9,9 @@ use Rattle.warg_tiles.specs.TileData.{Tiles, IsTileBy, covered_by, has_below, di
 use Rattle.warg_tiles.specs.Fetching.{gives}
 use Rattle.warg_tiles.specs.TileLog.{tile_digests, partial_tiles, full_between, AreFullBetween, ArePartialOf}
 use Rattle.warg_tiles.specs.EntryBundles.{two_bytes, bundle_of}
-use Rattle.warg_tiles.specs.CheckpointText.{Said, CanBeSaid, text_before}
+use Rattle.base64.specs.Engines.{standard}
+use Rattle.base64.specs.GeneralPurpose.{encode_of}
+use Rattle.warg_tiles.specs.CheckpointText.{Said, CanBeSaid, HasNoNewline, text_before}
 use Rattle.warg_tiles.proofs.EdgeLemmas as edges
 use Rattle.warg_tiles.proofs.EntryLemmas as entries
 use Rattle.warg_tiles.proofs.FetchLemmas as fetching
@@ -85,3 +87,7 @@ digest_by_own = own.digest_by_own
 -- a tile of a length up to 2 ^ 63 is of one of the eight levels
 pub low_level : (n : ℕ) (t : TileAt) → n ≤ 2 ^ 63 → IsTileOf n t → t.level < 8
 low_level = growth.low_level
+
+-- base64 has no newline
+pub no_newline-encode : (m : List ℕ) → HasNoNewline (encode_of standard m)
+no_newline-encode = texts.no_newline-encode

@@ -1,13 +1,17 @@
 //! Standard input, line by line.
 
 use crate::refusal::Refusal;
+use hex::FromHexError;
 use memchr::memchr;
-use std::alloc::Global;
+use std::alloc::{AllocError, Global};
 use std::io;
 use std::io::{BufRead, BufReader, Input, Read, Take};
 
 // The greatest number of bytes of an entry.
 const MOST: usize = 65_535;
+
+// The greatest number of bytes of a key and its value together: their entry has 8 bytes of length for each.
+const MOST_INSERTION: usize = MOST - 16;
 
 // A line of the greatest entry, with a carriage return, a newline and one byte more.
 const LONGEST: u64 = 131_073;
@@ -15,7 +19,17 @@ const LONGEST: u64 = 131_073;
 // How many bytes are read at a time.
 const AT_ONCE: usize = 1 << 16;
 
+const NO_INSERTION: &str =
+    "isn't an insertion: write KEY VALUE, each two hexadecimal digits for each byte or - for no bytes";
+
 type Reader = <HostRuntime as Input>::Reader;
+
+/// A key and the value that it is to have.
+#[derive(Drop)]
+pub struct Insertion {
+    pub key: Vec<u8>,
+    pub value: Vec<u8>,
+}
 
 /// The lines of standard input, one at a time.
 #[derive(Drop)]
@@ -82,15 +96,42 @@ impl Lines {
         Ok(self.entry.as_slice())
     }
 
-    /// Goes on to the next line and returns its entry; none at the end of the input.
-    pub fn next_entry(&mut self) -> Result<Option<&[u8]>, Refusal> {
+    // Goes on to the next line, whose newline has to be there. False at the end of the input.
+    fn go_on_whole(&mut self) -> Result<bool, Refusal> {
         if !self.go_on()? {
-            return Ok(None);
+            return Ok(false);
         }
         if !self.line.ends_with(b"\n") && (self.line.len() as u64) < LONGEST {
             return Err(self.refused("has no end: whoever wrote it may have died"));
         }
+        Ok(true)
+    }
+
+    /// Goes on to the next line and returns its entry; none at the end of the input.
+    pub fn next_entry(&mut self) -> Result<Option<&[u8]>, Refusal> {
+        if !self.go_on_whole()? {
+            return Ok(None);
+        }
         Ok(Some(self.entry()?))
+    }
+
+    /// Goes on to the next line and returns its key and its value; none at the end of the input.
+    pub fn next_insertion(&mut self) -> Result<Option<Insertion>, Refusal> {
+        if !self.go_on_whole()? {
+            return Ok(None);
+        }
+        let Some((key, value)) = digits_of_two(self.line()) else {
+            return Err(self.refused(NO_INSERTION));
+        };
+        if key.len() > 2 * MOST_INSERTION || value.len() > 2 * MOST_INSERTION - key.len() {
+            return Err(self.refused(
+                "is too long: a key and its value have at most 65,519 bytes together",
+            ));
+        }
+        match (decoded(self.alloc, key)?, decoded(self.alloc, value)?) {
+            (Some(key), Some(value)) => Ok(Some(Insertion { key, value })),
+            _ => Err(self.refused(NO_INSERTION)),
+        }
     }
 
     /// The next entry as a bundle has it: two bytes of length, the greater one first, and then its
@@ -131,4 +172,28 @@ pub fn read<T: Drop>(alloc: Global, done: io::Result<T>) -> Result<T, Refusal> {
 fn without_end(line: &[u8]) -> &[u8] {
     let line = line.strip_suffix(b"\n").unwrap_or(line);
     line.strip_suffix(b"\r").unwrap_or(line)
+}
+
+// The digits of a line's two words, which one space parts.
+fn digits_of_two(line: &[u8]) -> Option<(&[u8], &[u8])> {
+    let space = memchr(b' ', line)?;
+    Some((digits_of(&line[..space])?, digits_of(&line[space + 1..])?))
+}
+
+/// The digits of a word: none for `-`. No digits are no word.
+pub fn digits_of(word: &[u8]) -> Option<&[u8]> {
+    match word {
+        [] => None,
+        [b'-'] => Some(&[]),
+        digits => Some(digits),
+    }
+}
+
+/// The bytes of hexadecimal digits, if they are such.
+pub fn decoded(alloc: Global, digits: &[u8]) -> Result<Option<Vec<u8>>, AllocError> {
+    match hex::decode(alloc, digits) {
+        Ok(bytes) => Ok(Some(bytes)),
+        Err(FromHexError::OutOfMemory) => Err(AllocError),
+        Err(_) => Ok(None),
+    }
 }

@@ -1,5 +1,5 @@
-//! `warg_tlog`: a transparency log in a folder, as files that any web server serves (C2SP
-//! tlog-tiles, tlog-checkpoint).
+//! `warg_tlog`: a transparency log, or a registry, in a folder, as files that any web server serves
+//! (C2SP tlog-tiles, tlog-checkpoint).
 //!
 //! The exit status is 0 where all went well, 1 for a claim that `verify` finds false, and else that
 //! of the refusal, which is one line on standard error.
@@ -8,6 +8,7 @@
 mod lines;
 mod read;
 mod refusal;
+mod registry;
 mod session;
 mod usage;
 mod verify;
@@ -16,6 +17,7 @@ mod write;
 use clap::ArgMatches;
 use read::{print_audit, print_checkpoint, print_consistency, print_inclusion};
 use refusal::Refusal;
+use registry::{print_key, publish};
 use session::Session;
 use std::env;
 use std::io::ErrorKind;
@@ -80,9 +82,13 @@ fn run_command(rt: &HostRuntime, matches: &ArgMatches<'_>) -> Result<bool, Refus
 // Does what a command on a folder asks for.
 fn run(session: &Session<'_>, name: &str, asked: &ArgMatches<'_>) -> Result<(), Refusal> {
     match name {
-        "init" => init(session, text(asked, "ORIGIN")),
+        "init" => init(session, asked),
         "append" => {
             let (first, length) = append(session, asked)?;
+            session.said(println!(session.rt; "first {first}, length {length}"))
+        }
+        "publish" => {
+            let (first, length) = publish(session, asked)?;
             session.said(println!(session.rt; "first {first}, length {length}"))
         }
         "sign" => sign(session),
@@ -98,6 +104,7 @@ fn run(session: &Session<'_>, name: &str, asked: &ArgMatches<'_>) -> Result<(), 
         "checkpoint" => print_checkpoint(session),
         "prove" => print_inclusion(session, asked),
         "consistency" => print_consistency(session, asked),
+        "get" => print_key(session, asked),
         _ => print_audit(session),
     }
 }

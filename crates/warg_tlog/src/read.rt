@@ -1,7 +1,7 @@
 //! The commands that read. None of them changes a file or waits for a lock.
 
 use crate::refusal::Refusal;
-use crate::session::{Counted, Session};
+use crate::session::{Counted, Session, names_map};
 use crate::usage::number;
 use clap::ArgMatches;
 use std::io::Write;
@@ -38,12 +38,17 @@ fn print_path(session: &Session<'_>, path: Result<Path, LogError>) -> Result<(),
     Ok(())
 }
 
-/// Reads every entry, makes each tile again, and says that all are as the entries have them.
+/// Reads every entry, makes each tile again, and says that all are as the entries have them. It reads no page of a map.
 pub fn print_audit(session: &Session<'_>) -> Result<(), Refusal> {
-    let audited = session.reader()?.audit(&mut Counted(session.rt, 0));
+    let mut log = session.reader()?;
+    let has_map = names_map(log.text());
+    let audited = log.audit(&mut Counted(session.rt, 0));
     let checkpoint = audited.try_map_err(|error| session.of_log(error))?;
     let (length, root) = (checkpoint.length(), checkpoint.root());
-    session.said(println!(session.rt;
-        "{length} entries, root {root}: each file is as the entries have it"
-    ))
+    let read = if has_map {
+        "each file of the log is as the entries have it; the map's pages weren't read"
+    } else {
+        "each file is as the entries have it"
+    };
+    session.said(println!(session.rt; "{length} entries, root {root}: {read}"))
 }

@@ -5,6 +5,7 @@ use std::alloc::{AllocError, Global};
 use std::io;
 use std::io::ErrorKind;
 use thiserror::Error;
+use warg_registry::{PublishError, RegistryError};
 use warg_store::{CommitError, CreateError, Damage, FolderError, LogError, PushError, SignError};
 
 /// Why a command is refused: a line on standard error.
@@ -32,6 +33,8 @@ pub enum Refusal {
     OutOfRange(usize),
     #[error("{0} {1}: put it back from a copy of the log; warg_tlog audit FOLDER says which file differs, and warg_tlog rebuild FOLDER makes tiles again from bundles")]
     Damaged(String, &'static str),
+    #[error("{0} {1}: put it back from a copy of the registry; warg_tlog audit FOLDER says which file differs")]
+    DamagedPage(String, &'static str),
     #[error("{0} {1}: in a log without signatures put it back from {2}, else from a copy of the log")]
     DamagedText(String, &'static str, &'static str),
     #[error("{0} has {1} entries where the log has {2}: put back what .log/state has")]
@@ -50,6 +53,10 @@ pub enum Refusal {
     Memory(#[from(alloc)] AllocError),
     #[error("the log has 2^63 entries and takes no more: make another by warg_tlog init FOLDER ORIGIN")]
     Full,
+    #[error("{0} is a registry, with a map: add insertions to it by warg_tlog publish FOLDER")]
+    HasMap(String),
+    #[error("{0} is a log without a map: add entries to it by warg_tlog append FOLDER, or make a registry by warg_tlog init --map FOLDER ORIGIN")]
+    NoMap(String),
 }
 
 impl Refusal {
@@ -62,13 +69,14 @@ impl Refusal {
             Refusal::Exists(_) => 5,
             Refusal::Locked(_) => 6,
             Refusal::OutOfRange(_) => 7,
-            Refusal::Damaged(..) | Refusal::DamagedText(..) => 8,
+            Refusal::Damaged(..) | Refusal::DamagedPage(..) | Refusal::DamagedText(..) => 8,
             Refusal::RolledBack(..) | Refusal::Elsewhere(_) => 9,
             Refusal::NoRoom(_) => 10,
             Refusal::Unwritable(..) | Refusal::Lost(_) => 11,
             Refusal::Unreadable(..) => 12,
             Refusal::Memory(_) => 13,
             Refusal::Full => 14,
+            Refusal::HasMap(_) | Refusal::NoMap(_) => 15,
         }
     }
 
@@ -129,12 +137,31 @@ impl Session<'_> {
         }
     }
 
+    /// The refusal for opening a registry.
+    pub fn of_registry(&self, error: RegistryError) -> Result<Refusal, Refusal> {
+        match error {
+            RegistryError::NoMap => Ok(Refusal::NoMap(self.name()?)),
+            RegistryError::Log(error) => self.of_log(error),
+        }
+    }
+
+    /// The refusal for insertions.
+    pub fn of_publish(&self, error: PublishError) -> Result<Refusal, Refusal> {
+        match error {
+            PublishError::TooLong => Ok(Refusal::LongEntry),
+            PublishError::Full => Ok(Refusal::Full),
+            PublishError::Closed => Ok(Refusal::Lost(self.name()?)),
+            PublishError::Log(error) => self.of_log(error),
+        }
+    }
+
     // The refusal for a file that isn't what it is to be.
     fn of_damage(&self, damage: &Damage) -> Result<Refusal, Refusal> {
         let path = self.path(damage.name.as_str())?;
         Ok(match damage.name.as_str() {
             "checkpoint" => Refusal::DamagedText(path, damage.fault, ".log/state"),
             ".log/state" => Refusal::DamagedText(path, damage.fault, "checkpoint"),
+            name if name.starts_with("map/") => Refusal::DamagedPage(path, damage.fault),
             _ => Refusal::Damaged(path, damage.fault),
         })
     }

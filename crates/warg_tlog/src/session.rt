@@ -8,7 +8,10 @@ use std::io::ErrorKind;
 use std::os::unix::fs::OpenOptionsExt;
 use std::path::Path;
 use std::{fs, io};
+use warg_crypto::Sha256;
+use warg_registry::{RegistryFolder, RegistryReader};
 use warg_store::{Fault, LogFolder, LogReader, Progress, SystemFolder};
+use warg_tiles::CheckpointText;
 
 /// A run on one folder.
 #[derive(Drop)]
@@ -45,6 +48,24 @@ impl<'a> Session<'a> {
         let lock = self.lock()?;
         let log = LogFolder::open(self.rt.alloc(), self.files()?);
         Ok((lock, log.try_map_err(|error| self.of_log(error))?))
+    }
+
+    /// The registry of a folder, for the one who holds its lock.
+    pub fn registry<'f>(
+        &self,
+        files: SystemFolder<'f>,
+    ) -> Result<RegistryFolder<SystemFolder<'f>>, Refusal> {
+        let registry = RegistryFolder::open(self.rt.alloc(), files);
+        registry.try_map_err(|error| self.of_registry(error))
+    }
+
+    /// The registry of a folder, for those who read.
+    pub fn registry_reader<'f>(
+        &self,
+        files: SystemFolder<'f>,
+    ) -> Result<RegistryReader<SystemFolder<'f>>, Refusal> {
+        let registry = RegistryReader::open(self.rt.alloc(), files);
+        registry.try_map_err(|error| self.of_registry(error))
     }
 
     /// Makes the folder, and those above it, where they aren't there, and forces their names.
@@ -151,4 +172,10 @@ impl Progress for Counted<'_> {
         }
         self.1 = count;
     }
+}
+
+/// Whether a checkpoint's text is a registry's: a further line is to name its map's root.
+pub fn names_map(text: &CheckpointText<Sha256>) -> bool {
+    let mut lines = text.extensions().iter();
+    lines.any(|line| line.as_slice().starts_with(b"map "))
 }

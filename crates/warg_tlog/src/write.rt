@@ -2,28 +2,43 @@
 
 use crate::lines::{Lines, read};
 use crate::refusal::Refusal;
-use crate::session::{Counted, Session};
-use crate::usage::number;
+use crate::session::{Counted, Session, names_map};
+use crate::usage::{number, text};
 use crate::verify::checkpoint_of;
 use clap::ArgMatches;
 use std::io::Read;
 use warg_crypto::Sha256;
 use warg_explorer::PAGE;
 use warg_log::Checkpoint;
-use warg_store::{Folder, LogFolder, Progress, SystemFolder};
+use warg_registry::RegistryFolder;
+use warg_store::{CreateError, Folder, LogFolder, Progress, SystemFolder};
 
 // A signed note has fewer bytes.
 const MOST_NOTE: u64 = 1 << 20;
 
-/// Makes a log of no entries.
-pub fn init(session: &Session<'_>, origin: &str) -> Result<(), Refusal> {
+/// Makes a log of no entries, or a registry of no insertions.
+pub fn init(session: &Session<'_>, asked: &ArgMatches<'_>) -> Result<(), Refusal> {
+    let origin = text(asked, "ORIGIN");
     if let Some(fault) = fault_of_origin(origin) {
         return Err(Refusal::Argument(fault));
     }
     session.make()?;
     let _lock = session.take_lock()?;
-    let made = LogFolder::create(session.rt.alloc(), session.files()?, origin.as_bytes());
-    made.try_map_err(|error| session.of_create(error))?;
+    let made = if asked.get_flag("map") {
+        make_registry(session, origin)
+    } else {
+        make_log(session, origin)
+    };
+    made.try_map_err(|error| session.of_create(error))
+}
+
+fn make_log(session: &Session<'_>, origin: &str) -> Result<(), CreateError> {
+    LogFolder::create(session.rt.alloc(), session.files()?, origin.as_bytes())?;
+    Ok(())
+}
+
+fn make_registry(session: &Session<'_>, origin: &str) -> Result<(), CreateError> {
+    RegistryFolder::create(session.rt.alloc(), session.files()?, origin.as_bytes())?;
     Ok(())
 }
 
@@ -45,6 +60,9 @@ pub fn append(session: &Session<'_>, asked: &ArgMatches<'_>) -> Result<(usize, u
         return Err(Refusal::Argument("--every has to be at least 1"));
     }
     let (_lock, mut log) = session.writer()?;
+    if names_map(log.text()) {
+        return Err(Refusal::HasMap(session.name()?));
+    }
     if let Some(from) = asked.get_str("from") {
         check_from(from, &log.checkpoint())?;
     }
@@ -54,8 +72,8 @@ pub fn append(session: &Session<'_>, asked: &ArgMatches<'_>) -> Result<(usize, u
     Ok((first, log.length()))
 }
 
-// Refuses a log that isn't at the checkpoint that is asked for.
-fn check_from(from: &str, found: &Checkpoint<Sha256>) -> Result<(), Refusal> {
+/// Refuses a log that isn't at the checkpoint that is asked for.
+pub fn check_from(from: &str, found: &Checkpoint<Sha256>) -> Result<(), Refusal> {
     let Some((length, root)) = from.split_once(':') else {
         return Err(Refusal::From);
     };

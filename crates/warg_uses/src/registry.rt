@@ -10,12 +10,18 @@ ghost use Rattle.warg_map.specs.ProofValue.{proof_value};
 ghost use Rattle.warg_pages.specs.ProvedKeys.{IsOwnSource};
 ghost use Rattle.warg_registry.specs.Insertions.{entry_of, entries_of, IsInsertion};
 ghost use Rattle.warg_registry.specs.Registry.{line_of};
+ghost use Rattle.warg_registry.specs.Folder.{registry_of, HasRegistry};
+ghost use Rattle.warg_store.specs.Log.{HasLog, Serves};
+ghost use Rattle.warg_store.specs.Opening.{opened};
 
 use anyhow::Result;
 use std::alloc::Global;
 use warg_crypto::{Hash, Sha256};
 use warg_pages::{KeyInPages, Pages, ProveError, prove_by_pages};
-use warg_registry::{inserted_value, map_line, write_insertion};
+use warg_registry::{
+    KeyInRegistry, RegistryFolder, RegistryReader, inserted_value, map_line, write_insertion,
+};
+use warg_store::Folder;
 use warg_tiles::CheckpointText;
 
 /// The log's entry of a package's newest version, for the registry to push; the text of the checkpoint after it says
@@ -43,18 +49,20 @@ pub fn announced(
 pub fn newest<'a, P: Pages<Global>>(
     alloc: Global,
     entries: &'a [Vec<u8>],
-    pages: &P,
+    pages: &mut P,
     root: &Hash<Sha256>,
     name: &str,
 ) -> Result<Option<&'a [u8]>, ProveError<P::Error>>
     ensures leads { IfOk result (λ found. IfSome found (λ version. (peers : List (Option (List ℕ)))
         × (proof_value sha256 peers (leaf_digest sha256 version.now) (key_bits sha256 name.now)
         ≡ root.now))) }
-    ensures own { IfOk result (λ found. (insertions : List (List ℕ × List ℕ)) (version : List ℕ)
-        → IsOwnSource sha256 (P.bytes_at pages.now) root.now (length entries.now) insertions
+    ensures own { IfOk result (λ found. (known : P.Known) (insertions : List (List ℕ × List ℕ)) (version : List ℕ)
+        → P.IsKnown pages.old known
+        → IsOwnSource sha256 (P.bytes_at known) root.now (length entries.now) insertions
         → map (λ e. e.items) entries.now ≡ entries_of insertions → IsInsertion (name.now, version)
         → last_under sha256 (key_bits sha256 name.now) insertions ≡ Some (name.now, version)
         → MatchOption found ⊥ (λ read. read.now ≡ version)) }
+    ensures known { (known : P.Known) → P.IsKnown pages.old known → P.IsKnown pages.new known }
 {
     let KeyInPages::Held(index, leaf, _) = prove_by_pages(
         alloc,
@@ -70,4 +78,35 @@ pub fn newest<'a, P: Pages<Global>>(
         return Ok(None);
     };
     Ok(inserted_value(entry.as_slice(), name.as_bytes(), &leaf))
+}
+
+/// Opens a folder's registry and publishes a package's newest version: the registry that the folder stood for, with one
+/// insertion more.
+pub fn published<F: Folder + Drop>(
+    alloc: Global,
+    folder: F,
+    name: &str,
+    version: &str,
+) -> Result<RegistryFolder<F>>
+    ensures { F.IsFaithful → IfOk result (λ registry. (origin : List ℕ) (served kept : List (List ℕ × List ℕ))
+        → HasLog (registry_of origin served) (registry_of origin kept) (opened (F.seen folder))
+        → (now : List (List ℕ × List ℕ)) × HasRegistry F.seen F.may_leave origin now
+        (kept ++ (name.now, version.now) ∷ []) registry) }
+{
+    let mut registry = RegistryFolder::open(alloc, folder)?;
+    registry.publish(&[(name.as_bytes(), version.as_bytes())])?;
+    Ok(registry)
+}
+
+/// The newest version of a package, out of a folder that serves a registry, as a client or a mirror has it.
+pub fn current<F: Folder + Drop>(alloc: Global, folder: F, name: &str) -> Result<Option<Vec<u8>>>
+    ensures { F.IsFaithful → IfOk result (λ found. (origin : List ℕ) (insertions : List (List ℕ × List ℕ))
+        → Serves (registry_of origin insertions) (F.seen folder) → IfSome found (λ version.
+        last_under sha256 (key_bits sha256 name.now) insertions ≡ Some (name.now, version.items))) }
+{
+    let mut registry = RegistryReader::open(alloc, folder)?;
+    match registry.get(name.as_bytes())? {
+        KeyInRegistry::Held(_, version, _) => Ok(Some(version)),
+        KeyInRegistry::Absent(_) => Ok(None),
+    }
 }

@@ -1,7 +1,7 @@
 //! A log that is kept in a folder, and read out of it.
 
 ghost use Rattle.std.specs.Prelude.{◌≡◌, ◌⊎◌, Some, IfOk, slice_get};
-ghost use Rattle.warg_store.specs.Growing.{Has, with_entry};
+ghost use Rattle.warg_store.specs.Growing.{HasNext, with_entry};
 ghost use Rattle.warg_store.specs.Log.{LogOf, HasLog, Serves, IsOneOf};
 ghost use Rattle.warg_store.specs.Opening.{opened};
 
@@ -12,8 +12,8 @@ use warg_store::{Folder, LogError, LogFolder, LogReader};
 /// Opens a folder's log, adds a release and commits: the log that the folder stood for, with one entry more.
 pub fn released<F: Folder + Drop>(alloc: Global, folder: F, release: &[u8]) -> Result<LogFolder<F>>
     ensures { F.IsFaithful → IfOk result (λ log. (served kept : LogOf)
-        → HasLog served kept (opened (F.seen folder)) → let next = with_entry kept release.now in
-        (now : LogOf) × Has F.seen F.may_leave now next next log) }
+        → HasLog served kept (opened (F.seen folder))
+        → HasNext F.seen F.may_leave served (with_entry kept release.now) log) }
 {
     let mut log = LogFolder::open(alloc, folder)?;
     log.push(release)?;

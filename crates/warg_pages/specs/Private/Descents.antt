@@ -66,11 +66,10 @@ pub record IsOwnWay (H : List ℕ → List ℕ) (insertions : List (List ℕ × 
   pub is_leaf : get (map_of H insertions) (last_bits key 256) ≡ held_leaf held
   pub is_index : IfSome held (λ h. h.0 + 1 ≡ version H insertions (last_bits key 256))
 
--- The way down from a prefix of a key digest: the peers lead from what is held to the digest there, and where the pages are those of insertions, they are the map's.
-pub record IsWayDown (H : List ℕ → List ℕ) (bytes_at : List ℕ → ℕ → Option (List ℕ)) (key : List ℕ) (depth : ℕ) (digest : List ℕ) (number : ℕ) (peers : List (Option (List ℕ))) (held : Option (ℕ × List ℕ)) : Type 0 where
+-- The way down from a prefix of a key digest: the peers lead from what is held to the digest there.
+pub record IsWayDown (H : List ℕ → List ℕ) (key : List ℕ) (depth : ℕ) (digest : List ℕ) (peers : List (Option (List ℕ))) (held : Option (ℕ × List ℕ)) : Type 0 where
   pub few : length peers ≤ 256 - 8 * depth
   pub leads : value_above H 0 peers (unwrap_or (held_leaf held) (empty_root H 0)) (last_bits key (256 - 8 * depth)) ≡ digest
-  pub own : (insertions : List (List ℕ × List ℕ)) → IsOwnAt H bytes_at key depth digest number insertions → IsOwnWay H insertions key depth peers held
 
 -- Where the way down ends at the lone key of a slot: the further peers lead from what is held to the slot's digest, and where the lone key stands alone there, they are those of the key digest.
 pub record EndsAt (H : List ℕ → List ℕ) (key : List ℕ) (depth : ℕ) (slot : SlotAt) (lone : List ℕ × List ℕ) (more : List (Option (List ℕ))) (held : Option (ℕ × List ℕ)) : Type 0 where

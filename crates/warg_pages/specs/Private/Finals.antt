@@ -6,16 +6,18 @@ use Rattle.warg_map.specs.Bits.{last_bits}
 use Rattle.warg_map.specs.Sparse.{map_of}
 use Rattle.warg_map.specs.Peers.{IsPeers}
 use Rattle.warg_pages.specs.Prefixes.{version}
-use Rattle.warg_pages.specs.ProvedKeys.{IsOwnSource}
 use Rattle.warg_pages.specs.Private.Descents.{value_above, held_leaf}
 
--- The whole way down from a root: the peers, from the top, lead from what is held to it, and where the source has the pages of insertions, they are the map's.
-pub record IsWholeWay (H : List ℕ → List ℕ) (bytes_at : List ℕ → ℕ → Option (List ℕ)) (root : List ℕ) (count : ℕ) (key : List ℕ) (peers : List (Option (List ℕ))) (held : Option (ℕ × List ℕ)) : Type 0 where
+-- The whole way down from a root: the peers, from the top, lead from what is held to it.
+pub record IsWholeWay (H : List ℕ → List ℕ) (root : List ℕ) (key : List ℕ) (peers : List (Option (List ℕ))) (held : Option (ℕ × List ℕ)) : Type 0 where
   pub few : length peers ≤ 256
   pub leads : value_above H 0 peers (unwrap_or (held_leaf held) (empty_root H 0)) (last_bits key 256) ≡ root
-  pub own : (insertions : List (List ℕ × List ℕ)) → IsOwnSource H bytes_at root count insertions
-      → IsPeers H (λ k. None) (get (map_of H insertions)) (last_bits key 256) peers × (get (map_of H insertions) (last_bits key 256) ≡ held_leaf held)
-      × IfSome held (λ h. h.0 + 1 ≡ version H insertions (last_bits key 256))
+
+-- The peers are those of the map of these insertions, and what is held is what the map holds, by the last insertion under this digest.
+pub record IsWholeWayOf (H : List ℕ → List ℕ) (insertions : List (List ℕ × List ℕ)) (key : List ℕ) (peers : List (Option (List ℕ))) (held : Option (ℕ × List ℕ)) : Type 0 where
+  pub are_peers : IsPeers H (λ k. None) (get (map_of H insertions)) (last_bits key 256) peers
+  pub is_leaf : get (map_of H insertions) (last_bits key 256) ≡ held_leaf held
+  pub is_index : IfSome held (λ h. h.0 + 1 ≡ version H insertions (last_bits key 256))
 
 -- Peers of which the last is there.
 abbrev pub EndsInSome : List (Option (List ℕ)) → Type 0

@@ -1,7 +1,7 @@
 -- What a crash leaves within a commit.
 use Rattle.std.specs.Prelude.{◌≡◌, ◌⊎◌, ℕ, List, true, false, None, IsSome}
-use Rattle.warg_store.specs.Files.{Files, put}
-use Rattle.warg_store.specs.Names.{state, mark, staged, is_staged, is_served}
+use Rattle.warg_store.specs.Files.{Files, put, without}
+use Rattle.warg_store.specs.Names.{state, mark, staged, is_staged, is_served, is_page}
 use Rattle.warg_store.specs.Opening.{told}
 use Rattle.warg_store.specs.Pruned.{IsSpare}
 
@@ -25,3 +25,7 @@ IsPut text s c = (c ≡ s) ⊎ (c ≡ put (state, text) s) ⊎ (c ≡ told text 
 pub record IsPruning (kept served : ℕ) (s c : Files) : Type 0 where
   pub outside : (n : List ℕ) → is_staged n ≡ false → (c n ≡ s n) ⊎ ((c n ≡ None) × IsSpare kept served s n)
   pub no_mark : c mark ≡ None
+
+-- A file is as it was, or is a page and is gone.
+abbrev pub IsPageGone : List ℕ → Files → Files → Type 0
+IsPageGone name s c = (c ≡ s) ⊎ ((is_page name ≡ true) × (c ≡ without name s))

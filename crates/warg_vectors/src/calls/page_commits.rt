@@ -85,9 +85,13 @@ impl<D: SupportedDigest, M: Memory> Pages<M> for Stock<D, M> {
     type Error = NotLent;
 
     // The vectors say which pages these are.
+    ghost Known = { Unit {0} };
+
+    ghost IsKnown = { λ _ _. Unit {0} };
+
     ghost bytes_at = { λ _ _ _. None };
 
-    fn page(&self, prefix: &[u8], version: u64) -> Result<Vec<u8, M>, NotLent> {
+    fn page(&mut self, prefix: &[u8], version: u64) -> Result<Vec<u8, M>, NotLent> {
         for page in &self.pages {
             if page.prefix.as_slice() == prefix && page.version == version {
                 return page.page.write(self.memory).map_err(|_| NotLent::Memory);
@@ -135,7 +139,10 @@ impl<D: SupportedDigest, M: Memory> Kept<D, M> {
         if pairs.len() as u64 > u64::MAX - self.map.version {
             return Err(Fault::BadCall);
         }
-        match self.map.insert_all(self.pages.memory, &self.pages, pairs) {
+        match self
+            .map
+            .insert_all(self.pages.memory, &mut self.pages, pairs)
+        {
             Ok(changed) => Ok(changed),
             Err(ProveError::Pages(fault)) => Err(fault.into()),
             Err(ProveError::Way(WayError::Memory)) => Err(Fault::Memory),

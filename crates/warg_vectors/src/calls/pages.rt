@@ -49,9 +49,9 @@ pub(super) fn get<D: SupportedDigest, M: Memory>(call: &mut Call<'_, M>) -> Answ
     let (insertions, key): (Vec<Pair>, Vec<u8>) = call.read()?;
     let insertions = insertions.as_slice();
     let map: BytesMap<'_, D, _> = grown(call.alloc(), insertions)?;
-    let pages = Way::of(call, insertions, &Hash::<D>::of(&key))?;
+    let mut pages = Way::of(call, insertions, &Hash::<D>::of(&key))?;
     let version = insertions.len() as u64;
-    let found = prove_by_pages(call.memory, &pages, map.root(), version, &key);
+    let found = prove_by_pages(call.memory, &mut pages, map.root(), version, &key);
     write_found(call, found)
 }
 

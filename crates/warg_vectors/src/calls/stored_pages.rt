@@ -45,9 +45,13 @@ impl<M: Memory> Pages<M> for Way<M> {
     type Error = NotLent;
 
     // The vectors say what the pages lead to.
+    ghost Known = { Unit {0} };
+
+    ghost IsKnown = { λ _ _. Unit {0} };
+
     ghost bytes_at = { λ _ _ _. None };
 
-    fn page(&self, prefix: &[u8], version: u64) -> Result<Vec<u8, M>, NotLent> {
+    fn page(&mut self, prefix: &[u8], version: u64) -> Result<Vec<u8, M>, NotLent> {
         match self.pages.as_slice().get(prefix.len()) {
             Some(page) if page.prefix.as_slice() == prefix && page.version == version => {
                 Vec::from_slice(self.memory, page.bytes.as_slice()).map_err(|_| NotLent::Memory)

@@ -8,7 +8,7 @@ use Rattle.warg_pages.proofs.OwnBelow.{nothing_below, own_lone_below, own_page_b
 use Rattle.warg_pages.proofs.below.page_below.Goals as goal
 
 pub returns-in_default-clause-ok : goal.returns-in_default-clause-ok
-returns-in_default-clause-ok g c = λ es own.
+returns-in_default-clause-ok g c = λ known is_known es own.
     let H = g.D.SupportedDigest.digest in
     c.new.ensures ∙ sym (nothing_below H es (bits_of_bytes c.args.prefix.now) own.byte _ refl
     (sym (ap option_copied c.in_default.is) ∙ own.is_slot))
@@ -19,18 +19,18 @@ returns-in_err-one_down-in-Some-lone-clause-err g c =
     let there : c.in-Some.slot.now.lone ≡ Some c.in-Some-lone.lone = sym (ap (λ (x : SlotAt). x.lone) c.slot.view_is)
     ∙ c.in-Some-lone.is in
     way_refused c.from_residual.result c.in_err-one_down-in-Some-lone.field-0.0 c.from_residual.ensures.1
-    (λ fault es own.
-    let P : Option SlotAt → Type 0 = λ o. IsOwnBelow H (g.P.Pages.bytes_at c.args.pages.now) c.args.prefix.now o es in
+    (λ fault known es is_known own.
+    let P : Option SlotAt → Type 0 = λ o. IsOwnBelow H (g.P.Pages.bytes_at known) c.args.prefix.now o es in
     fault (own_lone_below H g.met.D.SupportedDigest.is_digest _ c.args.prefix.now c.in-Some.slot.now c.in-Some-lone.lone
     es c.requires (subst P (ap option_copied c.in-Some.is) own) there).begins)
     c.in_err-one_down-in-Some-lone.ensures.err
 
 pub returns-in_ok-one_down-in-Some-lone-clause-ok : goal.returns-in_ok-one_down-in-Some-lone-clause-ok
-returns-in_ok-one_down-in-Some-lone-clause-ok g c = λ es own.
+returns-in_ok-one_down-in-Some-lone-clause-ok g c = λ known is_known es own.
     let H = g.D.SupportedDigest.digest in
     let there : c.in-Some.slot.now.lone ≡ Some c.in-Some-lone.lone = sym (ap (λ (x : SlotAt). x.lone) c.slot.view_is)
     ∙ c.in-Some-lone.is in
-    let P : Option SlotAt → Type 0 = λ o. IsOwnBelow H (g.P.Pages.bytes_at c.args.pages.now) c.args.prefix.now o es in
+    let P : Option SlotAt → Type 0 = λ o. IsOwnBelow H (g.P.Pages.bytes_at known) c.args.prefix.now o es in
     c.in_ok-one_down-in-Some-lone.ensures.ok
     ∙ sym (own_lone_below H g.met.D.SupportedDigest.is_digest _ c.args.prefix.now c.in-Some.slot.now
     c.in-Some-lone.lone es c.requires (subst P (ap option_copied c.in-Some.is) own) there).page
@@ -41,17 +41,18 @@ returns-in-None-clause-ok g c =
     let none : c.in-Some.slot.now.lone ≡ None = sym (ap (λ (x : SlotAt). x.lone) c.slot.view_is) ∙ c.in-None.is in
     let number : c.slot.inside.version ≡ c.in-Some.slot.now.version = ap (λ (x : SlotAt). x.version) c.slot.view_is in
     if_ok_both c.read_page.result _ _ _ (rw number at c.read_page.ensures.ok) c.read_page.ensures.page
-    (λ page at is es own.
-    let P : Option SlotAt → Type 0 = λ o. IsOwnBelow H (g.P.Pages.bytes_at c.args.pages.now) c.args.prefix.now o es in
-    own_page_below H g.met.D.SupportedDigest.is_digest _ c.args.prefix.now c.in-Some.slot.now page es c.requires is at
-    (subst P (ap option_copied c.in-Some.is) own) none)
+    (λ page at is known is_known es own.
+    let P : Option SlotAt → Type 0 = λ o. IsOwnBelow H (g.P.Pages.bytes_at known) c.args.prefix.now o es in
+    own_page_below H g.met.D.SupportedDigest.is_digest _ c.args.prefix.now c.in-Some.slot.now page es c.requires is
+    (at known is_known) (subst P (ap option_copied c.in-Some.is) own) none)
 
 pub returns-in-None-clause-err : goal.returns-in-None-clause-err
 returns-in-None-clause-err g c =
     let H = g.D.SupportedDigest.digest in
     let none : c.in-Some.slot.now.lone ≡ None = sym (ap (λ (x : SlotAt). x.lone) c.slot.view_is) ∙ c.in-None.is in
     let number : c.slot.inside.version ≡ c.in-Some.slot.now.version = ap (λ (x : SlotAt). x.version) c.slot.view_is in
-    if_err c.read_page.result _ _ (rw number at c.read_page.ensures.err) (λ e. of_source e (λ fault es own.
-    let P : Option SlotAt → Type 0 = λ o. IsOwnBelow H (g.P.Pages.bytes_at c.args.pages.now) c.args.prefix.now o es in
-    own_page_refused H g.met.D.SupportedDigest.is_digest _ c.args.prefix.now c.in-Some.slot.now es c.requires fault
-    (subst P (ap option_copied c.in-Some.is) own) none))
+    if_err c.read_page.result _ _ (rw number at c.read_page.ensures.err) (λ e. of_source e
+    (λ fault known es is_known own.
+    let P : Option SlotAt → Type 0 = λ o. IsOwnBelow H (g.P.Pages.bytes_at known) c.args.prefix.now o es in
+    own_page_refused H g.met.D.SupportedDigest.is_digest _ c.args.prefix.now c.in-Some.slot.now es c.requires
+    (λ slots. fault known slots is_known) (subst P (ap option_copied c.in-Some.is) own) none))

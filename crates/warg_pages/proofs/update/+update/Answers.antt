@@ -18,19 +18,20 @@ use Rattle.warg_pages.proofs.update.+update.Goals as goal
 pub slot_after-returns-in_ok-digest-in-Below-clause-ok : goal.slot_after-returns-in_ok-digest-in-Below-clause-ok
 slot_after-returns-in_ok-digest-in-Below-clause-ok g t c =
     let H = g.D.SupportedDigest.digest in
-    let bytes_at = g.P.Pages.bytes_at c.args.pages.now in
     let prefix = c.args.update.now.prefix.items in
     let changes = c.args.update.now.changes.items in
     let byte = c.args.byte in
     let lt : byte < 256 = omega arith in
     let below = c.in-Below.below in
     let step = rw c.in-Below.is at c.in_ok-slot.ensures.ok in
+    let own_step = rw c.in-Below.is at c.in_ok-slot.ensures.own in
     let done = c.in_ok-digest-in-Below.ensures.ok in (
       done.0,
       done.1,
-      λ old more own.
-          let update = step.5 old more own in
-          let updated = done.2 old more update in
+      λ known old more is_known own.
+          let bytes_at = g.P.Pages.bytes_at known in
+          let update = own_step known is_known old more own in
+          let updated = done.2 known old more (c.slot_update.ensures.known known is_known) update in
           let P : List ℕ → Type 0 = λ p. IsOwnUpdate H bytes_at p below.version below.digest below.page
           below.changes.items old more in
           let Q : List ℕ → Type 0 = λ p. IsUpdated H old more p c.in_ok-digest-in-Below.digest done.0 in
@@ -50,10 +51,10 @@ slot_after-returns-in_ok-digest-in-Below-clause-kept g t c =
 pub slot_after-returns-in-Whole-clause-ok : goal.slot_after-returns-in-Whole-clause-ok
 slot_after-returns-in-Whole-clause-ok g t c =
     let H = g.D.SupportedDigest.digest in
-    let step = rw c.in-Whole.is at c.in_ok-slot.ensures.ok in (
+    let own_step = rw c.in-Whole.is at c.in_ok-slot.ensures.own in (
       [],
       sym (append-nil c.args.changed.now.items),
-      step.2,
+      λ known old more is_known own. own_step known is_known old more own,
       λ root count more are stood. All-nil
           (ChangesWhatStood H root more),
     )
@@ -63,11 +64,12 @@ unfolding numbers
 update_page-loop-byte-init g t c =
     let H = g.D.SupportedDigest.digest in
     let none = c.new-page.ensures in record {
+      known = λ known is. is;
       below = rw none (λ k d lt. absurd (omega arith));
       changed = (
         [],
         sym (append-nil c.args.changed.now.items),
-        λ old more own. (
+        λ known old more is_known own. (
           none,
           none_among H old more (GoesBelow c.args.update.prefix.items 0)
               (λ prefix kind changes. let low = kind.2 in omega arith),
@@ -88,14 +90,15 @@ update_page-loop-byte-preserved g t c =
     let put = c.in_ok-put_behind.ensures.ok in
     let before = c.loop-byte.invariant.changed in
     let step = c.in_ok-slot.ensures.ok in record {
+      known = λ known is. c.slot_after.ensures.known known (c.loop-byte.invariant.known known is);
       below = rw put (slots_below c.loop-byte.page c.in_ok-slot.slot byte c.loop-byte.invariant.below
           c.in_ok-slot.ensures.byte);
       changed = (
         before.0 ++ step.0,
         step.1 ∙ ap (λ l. l ++ step.0) before.1 ∙ append_assoc c.args.changed.now.items before.0 step.0,
-        λ old more own.
-            let front = before.2 old more own in
-            let here = step.2 old more own.own in (
+        λ known old more is_known own.
+            let front = before.2 known old more is_known own in
+            let here = step.2 known old more (c.loop-byte.invariant.known known is_known) own.own in (
               put ∙ (λ i. front.0 i ++ cons_option (here.is_slot i) [])
                   ∙ sym (slots-more (slot_of H (old ++ more) (bits_of_bytes prefix)) byte),
               next_among H old more prefix byte before.0 step.0 front.1 here.changed,
@@ -127,12 +130,12 @@ update_page-put_behind-requires g t c = behind c.in_ok-slot.slot c.loop-byte.pag
 pub update_page-returns-in_err-slot-clause-err : goal.update_page-returns-in_err-slot-clause-err
 update_page-returns-in_err-slot-clause-err g t c =
     source_refused c.from_residual-in_err-slot.result c.in_err-slot.field-0.0 c.from_residual-in_err-slot.ensures.1
-    (λ fault old more own. fault old more own.own) c.in_err-slot.ensures.err
+    (λ fault known old more is_known own. fault known old more (c.loop-byte.invariant.known known is_known) own.own)
+    c.in_err-slot.ensures.err
 
 pub update_page-returns-clause-ok : goal.update_page-returns-clause-ok
 update_page-returns-clause-ok g t c =
     let H = g.D.SupportedDigest.digest in
-    let bytes_at = g.P.Pages.bytes_at c.args.pages.now in
     let prefix = c.args.update.prefix.items in
     let before = c.loop-byte.invariant.changed in
     let end : c.loop-byte.byte ≡ 256 = omega arith in
@@ -148,8 +151,9 @@ update_page-returns-clause-ok g t c =
         version = c.args.update.version;
         page = c.loop-byte.page;
       } ∷ []) ∙ append_assoc c.args.changed.now.items before.0 one,
-      λ old more own.
-          let done = rw end at (before.2 old more own) in
+      λ known old more is_known own.
+          let bytes_at = g.P.Pages.bytes_at known in
+          let done = rw end at (before.2 known old more is_known own) in
           let P : List ℕ → Type 0 = λ d. IsUpdated H old more prefix d (before.0 ++ one) in
           subst P (sym digest) (page_updated H bytes_at prefix c.args.update.version c.args.update.digest
           c.args.update.page c.args.update.changes.items c.loop-byte.page before.0 old more c.requires own done.0
@@ -166,7 +170,7 @@ update_page-returns-clause-ok g t c =
     )
 
 pub update_page-returns-then-ne-clause-err : goal.update_page-returns-then-ne-clause-err
-update_page-returns-then-ne-clause-err g t c = λ old more own.
+update_page-returns-then-ne-clause-err g t c = λ known old more is_known own.
     let H = g.D.SupportedDigest.digest in
     let prefix = c.args.update.prefix.items in
     let before : c.page_roots-before.result.0 ≡ page_digest H (length prefix) c.args.update.page =

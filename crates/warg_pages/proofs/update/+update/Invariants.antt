@@ -15,11 +15,12 @@ decreases-slot_after g l = 2 * (32 - length l.update.now.prefix.items)
 
 abbrev pub invariant-update_page-loop-byte : goal.invariant-update_page-loop-byte
 invariant-update_page-loop-byte g l = record {
+  known : (known : g.P.Pages.Known) → g.P.Pages.IsKnown l.fn.pages known → g.P.Pages.IsKnown l.pages known;
   below : All (λ x. x.byte < l.byte) l.page;
   changed : (added : List ChangedPageAt) × (l.changed.items ≡ l.fn.changed.items ++ added)
-      × ((old more : List (List ℕ × List ℕ)) → IsOwnUpdate g.D.SupportedDigest.digest
-      (g.P.Pages.bytes_at l.pages) l.update.prefix.items l.update.version l.update.digest l.update.page
-      l.update.changes.items old more
+      × ((known : g.P.Pages.Known) (old more : List (List ℕ × List ℕ)) → g.P.Pages.IsKnown l.fn.pages known
+      → IsOwnUpdate g.D.SupportedDigest.digest (g.P.Pages.bytes_at known) l.update.prefix.items
+      l.update.version l.update.digest l.update.page l.update.changes.items old more
       → (l.page ≡ filter_map (slot_of g.D.SupportedDigest.digest (old ++ more) (bits_of_bytes l.update.prefix.items))
       (numbers 0 l.byte)) × AreChangedAmong g.D.SupportedDigest.digest old more
       (GoesBelow l.update.prefix.items l.byte) added)

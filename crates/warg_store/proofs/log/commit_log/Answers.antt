@@ -18,5 +18,5 @@ returns-clause-next g c = λ faithful. on_ok_weaker c.commit.result
     (λ is served old next keeps extends are_staged says named.
     let first = g.F.Folder.seen c.args.folder.now in
     let found = next_keeps served old next first keeps extends are_staged c.args.text.now says named in
-    (found.0, subst (Keeps found.0 next) (sym is) found.1))
+    (found.0, found.1, subst (Keeps found.0 next) (sym is) found.2))
     (c.commit.ensures.committed faithful)

@@ -6,24 +6,24 @@ use Rattle.warg_uses.proofs.RegistryCallers.{not_absent, within, entry_is, value
 use Rattle.warg_uses.proofs.registry.newest.Goals as goal
 
 pub returns-in_default-clause-own : goal.returns-in_default-clause-own
-returns-in_default-clause-own g c = λ insertions version source all fine last.
+returns-in_default-clause-own g c = λ known insertions version is_known source all fine last.
     not_absent sha256 insertions c.args.name.now version c.in_default.field-0.items
-    (subst (IsProved sha256 insertions c.args.name.now) c.in_default.is (c.in_ok-index.ensures.own insertions source))
-    last
+    (subst (IsProved sha256 insertions c.args.name.now) c.in_default.is
+    (c.in_ok-index.ensures.own known insertions is_known source)) last
 
 pub returns-in_default-get-clause-own : goal.returns-in_default-get-clause-own
-returns-in_default-get-clause-own g c = λ insertions version source all fine last.
+returns-in_default-get-clause-own g c = λ known insertions version is_known source all fine last.
     let proved = subst (IsProved sha256 insertions c.args.name.now) c.in-Held.is
-    (c.in_ok-index.ensures.own insertions source) in
+    (c.in_ok-index.ensures.own known insertions is_known source) in
     let own = own_entry sha256 insertions c.args.name.now version c.in-Held.leaf c.in-Held.index proved.0 proved.1
     last in
     let there = within (λ e. e.items) c.args.entries.now insertions c.in-Held.index _ all own.0 in
     grind (arith, there, c.in_default-get.ensures.lookup.0)
 
 pub returns-clause-own : goal.returns-clause-own
-returns-clause-own g c = λ insertions version source all fine last.
+returns-clause-own g c = λ known insertions version is_known source all fine last.
     let proved = subst (IsProved sha256 insertions c.args.name.now) c.in-Held.is
-    (c.in_ok-index.ensures.own insertions source) in
+    (c.in_ok-index.ensures.own known insertions is_known source) in
     let own = own_entry sha256 insertions c.args.name.now version c.in-Held.leaf c.in-Held.index proved.0 proved.1
     last in
     let at = c.in-Some.ensures.lookup in

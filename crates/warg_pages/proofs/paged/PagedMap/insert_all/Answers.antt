@@ -12,7 +12,7 @@ use Rattle.warg_pages.proofs.paged.PagedMap.insert_all.Goals as goal
 use Rattle.warg_pages.proofs.paged.PagedMap.insert_all.Goals.{In_ok-changes}
 
 pub returns-then-is_empty-clause-pages : goal.returns-then-is_empty-clause-pages
-returns-then-is_empty-clause-pages g c = λ old own.
+returns-then-is_empty-clause-pages g c = λ known old is_known own.
     let H = g.D.SupportedDigest.digest in
     let more = pair_bytes g.K.VisitBytes.bytes g.V.VisitBytes.bytes c.args.insertions.now in
     let none : length more ≡ 0 = length-map c.args.insertions.now _ ∙ eqb-true (length c.args.insertions.now) 0
@@ -20,14 +20,15 @@ returns-then-is_empty-clause-pages g c = λ old own.
     none_changed H old more c.new-changed.result.items none c.new-changed.ensures.items
 
 -- the first page, which the insertions change
-own_update : (g : _) (c : In_ok-changes g) (old : List (List ℕ × List ℕ))
-    → let bytes_at = g.P.Pages.bytes_at c.args.pages.now in
+own_update : (g : _) (c : In_ok-changes g) (known : g.P.Pages.Known) (old : List (List ℕ × List ℕ))
+    → g.P.Pages.IsKnown c.args.pages.now known
+    → let bytes_at = g.P.Pages.bytes_at known in
     let root = c.args.self.now.root in
     IsOwnSource g.D.SupportedDigest.digest bytes_at root c.args.self.now.version old
     → IsOwnUpdate g.D.SupportedDigest.digest bytes_at [] (c.args.self.now.version + length c.args.insertions.now) root
     c.in_ok-page.page c.in_ok-changes.changes.items old
     (pair_bytes g.K.VisitBytes.bytes g.V.VisitBytes.bytes c.args.insertions.now)
-own_update g c old own =
+own_update g c known old is_known own =
     let H = g.D.SupportedDigest.digest in
     let more = pair_bytes g.K.VisitBytes.bytes g.V.VisitBytes.bytes c.args.insertions.now in
     let count = c.args.self.now.version in
@@ -37,33 +38,36 @@ own_update g c old own =
     let fits : count + length more < 2 ^ 64 = let all = c.requires in omega arith in
     let number : count + length c.args.insertions.now ≡ count + length more = omega arith in
     rw (number, c.in_ok-changes.ensures.ok) (first_update H _ c.args.self.now.root count c.in_ok-page.page old more
-    some fits c.in_ok-page.ensures.ok own)
+    some fits (c.in_ok-page.ensures.ok known is_known) own)
 
 pub returns-in_err-self-clause-refused : goal.returns-in_err-self-clause-refused
 returns-in_err-self-clause-refused g c =
     let more = pair_bytes g.K.VisitBytes.bytes g.V.VisitBytes.bytes c.args.insertions.now in
     let first = own_update g (goal.at.returns-in_err-self-clause-refused g c).In_ok-changes in
     source_refused c.from_residual-in_err-self.result c.in_err-self.field-0.0 c.from_residual-in_err-self.ensures.1
-    (λ fault old own. fault old more (first old own)) (rw (c.new.ensures.items, c.copied.ensures) at
+    (λ fault known old is_known own. fault known old more (c.first_page.ensures.known known is_known)
+    (first known old is_known own)) (rw (c.new.ensures.items, c.copied.ensures) at
     c.in_err-self.ensures.err)
 
 pub returns-clause-pages : goal.returns-clause-pages
-returns-clause-pages g c = λ old own.
+returns-clause-pages g c = λ known old is_known own.
     let H = g.D.SupportedDigest.digest in
     let more = pair_bytes g.K.VisitBytes.bytes g.V.VisitBytes.bytes c.args.insertions.now in
     let done = rw (c.new.ensures.items, c.copied.ensures) at c.in_ok-self.ensures.ok in
-    let updated = done.2 old more (own_update g (goal.at.returns-clause-pages g c).In_ok-changes old own) in
+    let updated = done.2 known old more (c.first_page.ensures.known known is_known)
+    (own_update g (goal.at.returns-clause-pages g c).In_ok-changes known old is_known own) in
     let are : c.update_page.new.changed.items ≡ done.0 = done.1 ∙ ap (λ l. l ++ done.0) c.new-changed.ensures.items in
     let P : List ChangedPageAt → Type 0 = λ l. AreChangedPages H old more l in
     subst P (sym are) (all_changed H old more c.in_ok-self.field-0 done.0 updated)
 
 pub returns-clause-root : goal.returns-clause-root
-returns-clause-root g c = λ old own.
+returns-clause-root g c = λ known old is_known own.
     let H = g.D.SupportedDigest.digest in
     let more = pair_bytes g.K.VisitBytes.bytes g.V.VisitBytes.bytes c.args.insertions.now in
     let done = rw (c.new.ensures.items, c.copied.ensures) at c.in_ok-self.ensures.ok in
     root_changed H old more c.in_ok-self.field-0 done.0
-    (done.2 old more (own_update g (goal.at.returns-clause-root g c).In_ok-changes old own))
+    (done.2 known old more (c.first_page.ensures.known known is_known)
+    (own_update g (goal.at.returns-clause-root g c).In_ok-changes known old is_known own))
 
 pub returns-clause-stood : goal.returns-clause-stood
 returns-clause-stood g c =

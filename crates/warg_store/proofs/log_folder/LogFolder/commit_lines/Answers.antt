@@ -65,6 +65,7 @@ returns-in-Ok-clause-committed g c = λ faithful served old next has same.
     let told : LogIn g.row.F.Denot → Type 0 = λ l.
     Has g.F.Folder.seen g.F.Folder.may_leave put.0 next next (record l { text = said_of next }) in (
       put.0,
+      put.1,
       noted g.F.Folder.seen g.F.Folder.may_leave put.0 next
           (record {
             folder = c.self-2.inside.folder;
@@ -74,5 +75,5 @@ returns-in-Ok-clause-committed g c = λ faithful served old next has same.
             bundle = c.self-2.inside.bundle.items;
             held = c.self-2.inside.held;
           })
-          c.in_ok-end.end.text end.says (subst told (sym c.self-2.view_is) put.1),
+          c.in_ok-end.end.text end.says (subst told (sym c.self-2.view_is) put.2),
     )

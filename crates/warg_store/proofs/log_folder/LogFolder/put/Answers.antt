@@ -74,7 +74,8 @@ returns-clause-put g c = λ faithful served old next has more end.
     let kept = c.in_ok-commit_log.ensures.next faithful served old next all.keeps all.extends all.staged
     (c.as_slice-2.ensures.value ∙ end.bytes) end.can in (
       kept.0,
-      all_kept g.F.Folder.seen g.F.Folder.may_leave served old next kept.0 _ _ all kept.1
+      kept.1,
+      all_kept g.F.Folder.seen g.F.Folder.may_leave served old next kept.0 _ _ all kept.2
           (c.in_ok-commit_log.ensures.empty faithful) (c.in_ok-commit_log.ensures.ready faithful) refl refl
           c.take_full.ensures.rest refl refl c.take_full.ensures.stands (omega (arith, all.held)),
     )

@@ -1,0 +1,184 @@
+-- What proofs of other crates use.
+use Rattle.std.proofs.Common.{◌≡◌, ℕ, zero, suc, ◌+◌, ◌-◌, ◌*◌, ◌/◌, ◌%◌, ◌^◌, ◌<◌, ◌≤◌, Bool, true, false, cond, List, [], ◌∷◌, ◌++◌, length, take, Option, Some, None, codes, refl, sym, ◌∙◌, arith, inl, inr, length-append}
+use Rattle.std.proofs.lemmas.Bool.{cases_lt, lt-ltb, le-ltb}
+use Rattle.std.proofs.lemmas.Fmt.{decimal_injective, decimal_is_IsNumeral}
+use Rattle.std.proofs.lemmas.List.{append_cancel_left, length-take}
+use Rattle.std.proofs.lemmas.List.Elements.{All-tail, All-take}
+use Rattle.std.proofs.lemmas.Str.Parse.{digit_from_value}
+use Rattle.std.specs.Bool.{then_some}
+use Rattle.std.specs.Fmt.{decimal, digit_glyph}
+use Rattle.std.specs.List.{All, Contains, flat_map, filter_map, cons_option}
+use Rattle.std.specs.Option.{option_or}
+use Rattle.std.specs.Str.Parse.{AllDigits}
+use Rattle.warg_crypto.specs.Digests.{IsByte, IsDigest}
+use Rattle.warg_crypto.specs.Collisions.{GivesHashes}
+use Rattle.warg_crypto.specs.Tree.{leaf_digest}
+use Rattle.warg_map.specs.Bits.{bits_from, last_bits, key_bits}
+use Rattle.warg_map.specs.Last.{last_with}
+use Rattle.warg_map.specs.Sparse.{root_of_levels, map_of}
+use Rattle.warg_pages.specs.Prefixes.{bits_of_bytes, byte_bits, is_below, below, version}
+use Rattle.warg_pages.specs.Slots.{SlotAt, is_lone, slot_over, slot_of, numbers, page_of}
+use Rattle.warg_pages.specs.PageBytes.{slot_bytes, lone_bytes, page_bytes}
+use Rattle.warg_pages.specs.PagePaths.{byte_path, page_path}
+use Rattle.warg_pages.specs.OwnPages.{stands, stands_over}
+use Rattle.warg_pages.proofs.PageFormat.{same_parts}
+use Rattle.warg_pages.proofs.KeyPrefixes.{length-bits_from}
+use Rattle.warg_pages.proofs.BitParts.{key_at}
+use Rattle.warg_pages.proofs.HeldHalves.{begins-rest}
+use Rattle.warg_pages.proofs.LoneSlots.{last_passes}
+use Rattle.warg_pages.proofs.OwnDescent.{own_slot_is, bits_of_taken}
+use Rattle.warg_pages.proofs.PrefixBytes.{length-bits, same_bytes}
+use Rattle.warg_pages.proofs.MoreInsertions.{quiet_page, quiet_version, quiet_stands}
+use Rattle.warg_pages.proofs.PagesAfter.{nothing_new}
+use Rattle.warg_pages.proofs.OwnPages as own
+
+-- Digits that are written alike are the same.
+low_glyph : (d : ℕ) → d < 10 → digit_glyph false d ≡ 48 + d
+low_glyph d low = rw (lt-ltb d 10 low) refl
+
+high_glyph : (d : ℕ) → 10 ≤ d → digit_glyph false d ≡ 87 + d
+high_glyph d high = rw (le-ltb d 10 high) refl
+
+one_glyph : (d e : ℕ) → digit_glyph false d ≡ digit_glyph false e → d ≡ e
+one_glyph d e same = elim (cases_lt d 10) [
+  | inl d_low ↦ elim (cases_lt e 10) [
+    | inl e_low ↦ omega (arith, low_glyph d d_low, low_glyph e e_low, same)
+    | inr e_high ↦ omega (arith, low_glyph d d_low, high_glyph e e_high, same)
+  ]
+  | inr d_high ↦ elim (cases_lt e 10) [
+    | inl e_low ↦ omega (arith, high_glyph d d_high, low_glyph e e_low, same)
+    | inr e_high ↦ omega (arith, high_glyph d d_high, high_glyph e e_high, same)
+  ]
+]
+
+-- No number in decimal begins with an x.
+no_x : (v : ℕ) (rest : List ℕ) → v < 2 ^ 64 → decimal v ≡ 120 ∷ rest → ⊥
+no_x v rest small e =
+    let digits : AllDigits 10 (120 ∷ rest) = rw e at (decimal_is_IsNumeral v small).0.1 in
+    let in_range = digit_from_value 120 digits.0 in omega arith
+
+-- The path of a page fixes its prefix and its version: here without "map/".
+pub one_path_below : (p q : List ℕ) (v w : ℕ) → All IsByte p → All IsByte q → v < 2 ^ 64 → w < 2 ^ 64
+    → flat_map byte_path p ++ decimal v ≡ flat_map byte_path q ++ decimal w → (p ≡ q) × (v ≡ w)
+one_path_below [] [] v w all other v_fits w_fits e = (refl, decimal_injective v w v_fits w_fits e)
+one_path_below [] (y ∷ q) v w all other v_fits w_fits e = absurd (no_x v _ v_fits e)
+one_path_below (x ∷ p) [] v w all other v_fits w_fits e = absurd (no_x w _ w_fits (sym e))
+one_path_below (x ∷ p) (y ∷ q) v w all other v_fits w_fits e =
+    let parts = same_parts (byte_path x) (flat_map byte_path p ++ decimal v) (byte_path y)
+    (flat_map byte_path q ++ decimal w) refl e in
+    let high : digit_glyph false (x / 16) ≡ digit_glyph false (y / 16) = let path = parts.0 in cc in
+    let low : digit_glyph false (x % 16) ≡ digit_glyph false (y % 16) = let path = parts.0 in cc in
+    let first : x ≡ y = omega (arith, one_glyph (x / 16) (y / 16) high, one_glyph (x % 16) (y % 16) low) in
+    let rest = one_path_below p q v w (All-tail IsByte x p all) (All-tail IsByte y q other) v_fits w_fits parts.1 in
+    ((λ i. first i ∷ rest.0 i), rest.1)
+
+pub one_path : (p q : List ℕ) (v w : ℕ) → All IsByte p → All IsByte q → v < 2 ^ 64 → w < 2 ^ 64
+    → page_path p v ≡ page_path q w → (p ≡ q) × (v ≡ w)
+one_path p q v w all other v_fits w_fits e = one_path_below p q v w all other v_fits w_fits
+    (append_cancel_left (codes "map/") _ _ e)
+
+-- Pages are short: they have 256 slots, and each at most 106 bytes.
+short_lone : (H : List ℕ → List ℕ) → GivesHashes H → (b : Bool) (e : List ℕ × List ℕ)
+    → length (lone_bytes (then_some b (H e.0, leaf_digest H e.1))) ≤ 64
+short_lone H gives false e = omega arith
+short_lone H gives true e =
+    let key = gives e.0 in
+    let leaf : IsDigest (leaf_digest H e.1) = gives _ in
+    omega (arith, length-append (H e.0) (leaf_digest H e.1), key.has_32, leaf.has_32)
+
+abbrev IsShort : Option SlotAt → Type 0
+IsShort None = Unit {0}
+IsShort (Some x) = length (slot_bytes x) ≤ 106
+
+short_slot : (H : List ℕ → List ℕ) → GivesHashes H → (es : List (List ℕ × List ℕ)) (p : List Bool) (s : ℕ)
+    (last : Option (List ℕ × List ℕ)) → IsShort (slot_over H es p s last)
+short_slot H gives es p s None = tt
+short_slot H gives es p s (Some e) =
+    let digest = own.root_is_digest H gives es p (256 - length p) in
+    let lone = lone_bytes (then_some (is_lone H es p e) (H e.0, leaf_digest H e.1)) in
+    omega (
+      arith,
+      length-append (root_of_levels H (256 - length p) (below (map_of H es) p)) lone,
+      digest.has_32,
+      short_lone H gives (is_lone H es p e) e,
+    )
+
+short_slots : (f : ℕ → Option SlotAt) (first n : ℕ) → ((s : ℕ) → IsShort (f s))
+    → length (page_bytes (filter_map f (numbers first n))) ≤ 106 * n
+unfolding numbers
+short_slots f first zero short = omega arith
+short_slots f first (suc n) short = one (f first) (filter_map f (numbers (first + 1) n)) (short first)
+    (short_slots f (first + 1) n short)
+  where
+    one : (o : Option SlotAt) (slots : List SlotAt) → IsShort o → length (page_bytes slots) ≤ 106 * n
+        → length (page_bytes (cons_option o slots)) ≤ 106 * suc n
+    one None slots h rest = omega (arith, rest)
+    one (Some x) slots h rest = omega (arith, rest, h, length-append (slot_bytes x) (page_bytes slots))
+
+pub page_is_short : (H : List ℕ → List ℕ) (insertions : List (List ℕ × List ℕ)) (prefix : List Bool) → GivesHashes H
+    → length (page_bytes (page_of H insertions prefix)) ≤ 27136
+unfolding page_of
+page_is_short H insertions prefix gives = short_slots (slot_of H insertions prefix) 0 256
+    (λ s. short_slot H gives insertions (prefix ++ byte_bits s) s _)
+
+-- A slot's version is that of the prefix one byte further.
+pub slot_version : (H : List ℕ → List ℕ) (insertions : List (List ℕ × List ℕ)) (prefix : List Bool) (s : ℕ) (x : SlotAt)
+    → slot_of H insertions prefix s ≡ Some x → x.version ≡ version H insertions (prefix ++ byte_bits s)
+slot_version H insertions prefix s x e = (own_slot_is H insertions prefix s x e).version
+
+-- A version is no greater than the number of insertions.
+pub version_within : (H : List ℕ → List ℕ) (insertions : List (List ℕ × List ℕ)) (prefix : List Bool)
+    → version H insertions prefix ≤ length insertions
+version_within H insertions prefix = own.version_within (is_below H prefix) insertions
+
+-- Where a page stands, a key digest of an insertion begins with its prefix.
+last_is_there : {X : Type 0} (p : X → Bool) (xs : List X) (e : X) → last_with p xs ≡ Some e → Contains xs e
+unfolding last_with
+last_is_there p [] e h = absurd (cc)
+last_is_there {X = X} p (x ∷ xs) e h = either (last_with p xs) (p x) (last_is_there p xs e) h
+  where
+    either : (o : Option X) (b : Bool) → (o ≡ Some e → Contains xs e) → option_or o (cond b (Some x) None) ≡ Some e
+        → Contains (x ∷ xs) e
+    either None true below h = let same : x ≡ e = cc in (0, omega arith, same)
+    either None false below h = absurd (cc)
+    either (Some y) b below h = let there = below h in (suc there.0, omega arith, there.2)
+
+pub page_has_insertion : (H : List ℕ → List ℕ) (insertions : List (List ℕ × List ℕ)) (prefix : List ℕ) → GivesHashes H
+    → All IsByte prefix → length prefix < 32 → stands H insertions (bits_of_bytes prefix) ≡ true
+    → (e : List ℕ × List ℕ) × Contains insertions e × (prefix ≡ take (length prefix) (H e.0))
+page_has_insertion H insertions prefix gives are_bytes short is_there =
+    by_last (last_with (is_below H p) insertions) refl is_there
+  where
+    p : List Bool
+    p = bits_of_bytes prefix
+
+    begins : (e : List ℕ × List ℕ) → is_below H p e ≡ true → prefix ≡ take (length prefix) (H e.0)
+    begins e under =
+        let depth = length prefix in
+        let is = gives e.0 in
+        let rest = begins-rest p (key_bits H e.0) under in
+        let bits = (same_parts p rest.0 (bits_from (H e.0) 0 (8 * depth)) (last_bits (H e.0) (256 - 8 * depth))
+        (length-bits prefix ∙ sym (length-bits_from (H e.0) 0 (8 * depth)))
+        (sym rest.1 ∙ key_at (H e.0) (8 * depth) (omega arith))).0 in
+        let taken : length (take depth (H e.0)) ≡ depth = omega (arith, length-take depth (H e.0), is.has_32) in
+        sym (same_bytes (take depth (H e.0)) prefix (All-take IsByte depth (H e.0) is.are_bytes) are_bytes taken
+        (bits_of_taken (H e.0) depth (omega (arith, is.has_32)) ∙ sym bits))
+
+    by_last : (last : Option (List ℕ × List ℕ)) → last_with (is_below H p) insertions ≡ last
+        → stands_over H insertions p last ≡ true
+        → (e : List ℕ × List ℕ) × Contains insertions e × (prefix ≡ take (length prefix) (H e.0))
+    by_last None l h = absurd (cc)
+    by_last (Some e) l h =
+        (e, last_is_there (is_below H p) insertions e l, begins e (last_passes (is_below H p) insertions e l))
+
+-- A page whose version is an old one is as it was before the later insertions.
+pub unchanged_page : (H : List ℕ → List ℕ) (old more : List (List ℕ × List ℕ)) (prefix : List Bool)
+    → stands H (old ++ more) prefix ≡ true → version H (old ++ more) prefix ≤ length old
+    → (stands H old prefix ≡ true) × (version H old prefix ≡ version H (old ++ more) prefix)
+    × (page_of H old prefix ≡ page_of H (old ++ more) prefix)
+unchanged_page H old more prefix there early =
+    let none = nothing_new H old more prefix early in (
+      sym (quiet_stands H old more prefix none) ∙ there,
+      sym (quiet_version H old more prefix none),
+      sym (quiet_page H old more prefix none),
+    )

@@ -1,0 +1,69 @@
+use Rattle.std.proofs.Common.{◌≡◌, List, ℕ, map, take, sym, subst, arith}
+use Rattle.std.specs.declared.alloc.Global.{Global}
+use Rattle.std.specs.declared.vec.Vec.{Vec}
+use Rattle.std.proofs.lemmas.List.{take_all}
+use Rattle.warg_store.specs.Growing.{Has}
+use Rattle.warg_store.specs.Log.{LogOf}
+use Rattle.warg_store.specs.Opening.{IsBeside}
+use Rattle.warg_store.proofs.ForCallers.{read_is, read_leaves}
+use Rattle.warg_registry.specs.Folder.{with_entries}
+use Rattle.warg_registry.proofs.RegistryGrowth.{pushed_more, no_entries_more}
+use Rattle.warg_registry.proofs.FolderMoments.{beside_then}
+use Rattle.warg_registry.proofs.folder.push_all.Goals as goal
+
+pub entries-init : goal.entries-init
+entries-init g c =
+    let log = c.args.log.now in
+    let dev = g.F.Folder in record {
+      pushed = λ faithful served old next has.
+          subst (λ (n : LogOf). Has dev.seen dev.may_leave served old n log) (no_entries_more next) has;
+      ready = λ faithful. c.requires faithful;
+      moments = λ faithful served old next has. read_leaves dev.seen dev.may_leave dev.moment dev.left_since
+          log.folder log.folder (IsBeside (dev.seen log.folder)) (g.met.F.Folder.only_now log.folder)
+          (λ f left. has.staging f left) (read_is dev.seen dev.may_leave dev.moment dev.left_since log.folder);
+    }
+
+pub push-requires : goal.push-requires
+push-requires g c = c.entries.invariant.ready
+
+pub returns-in_err-push-clause-any_moment : goal.returns-in_err-push-clause-any_moment
+returns-in_err-push-clause-any_moment g c = λ faithful served old next has.
+    let dev = g.F.Folder in
+    let now = c.entries.invariant.pushed faithful served old next has in
+    beside_then dev.seen dev.may_leave dev.moment dev.left_since g.met.F.Folder.counts_now g.met.F.Folder.only_now
+    g.met.F.Folder.seen_may_stay c.args.log.now.folder c.entries.log.folder c.push.new.self.folder
+    (c.entries.invariant.moments faithful served old next has) (c.push.ensures.any_moment faithful now.is_open)
+
+pub entries-preserved : goal.entries-preserved
+entries-preserved g c =
+    let dev = g.F.Folder in record {
+      pushed = λ faithful served old next has.
+          let taken = map (λ (e : Vec ℕ Global). e.items) (take c.entries.entry-index c.args.entries.now) in
+          let more = pushed_more (λ (e : Vec ℕ Global). e.items) next c.args.entries.now c.entries.entry-index
+          c.entry-item.result c.as_slice.result.now (omega arith) c.entry-item.is c.as_slice.ensures.value in
+          subst (λ (n : LogOf). Has dev.seen dev.may_leave served old n c.push.new.self) (sym more)
+          (c.in_ok-push.ensures.pushed faithful served old (with_entries next taken)
+          (c.entries.invariant.pushed faithful served old next has));
+      ready = λ faithful. c.push.ensures.ready faithful;
+      moments = λ faithful served old next has.
+          let now = c.entries.invariant.pushed faithful served old next has in
+          beside_then dev.seen dev.may_leave dev.moment dev.left_since g.met.F.Folder.counts_now
+          g.met.F.Folder.only_now g.met.F.Folder.seen_may_stay c.args.log.now.folder c.entries.log.folder
+          c.push.new.self.folder (c.entries.invariant.moments faithful served old next has)
+          (c.push.ensures.any_moment faithful now.is_open);
+    }
+
+pub returns-clause-pushed : goal.returns-clause-pushed
+returns-clause-pushed g c = λ faithful served old next has.
+    let dev = g.F.Folder in
+    let all : take c.entries.entry-index c.args.entries.now ≡ c.args.entries.now =
+    take_all c.entries.entry-index c.args.entries.now (omega arith) in
+    subst (λ (l : List (Vec ℕ Global)). Has dev.seen dev.may_leave served old
+    (with_entries next (map (λ e. e.items) l)) c.entries.log) all
+    (c.entries.invariant.pushed faithful served old next has)
+
+pub returns-clause-ready : goal.returns-clause-ready
+returns-clause-ready g c = c.entries.invariant.ready
+
+pub returns-clause-any_moment : goal.returns-clause-any_moment
+returns-clause-any_moment g c = c.entries.invariant.moments

@@ -1,0 +1,69 @@
+use Rattle.std.proofs.Common.{◌≡◌, List, take, refl, sym, subst, ◌∙◌, arith}
+use Rattle.std.proofs.lemmas.List.{take_all}
+use Rattle.warg_pages.specs.ChangedPages.{ChangedPageAt}
+use Rattle.warg_store.specs.Growing.{Has}
+use Rattle.warg_store.specs.Log.{LogOf}
+use Rattle.warg_store.specs.Opening.{IsBeside}
+use Rattle.warg_store.proofs.ForCallers.{read_is, read_leaves}
+use Rattle.warg_registry.specs.Folder.{with_pages, files_of}
+use Rattle.warg_registry.proofs.RegistryGrowth.{put_more, put_fresh}
+use Rattle.warg_registry.proofs.FolderMoments.{beside_then}
+use Rattle.warg_registry.proofs.folder.put_all.Goals as goal
+
+pub pages-init : goal.pages-init
+pages-init g c =
+    let log = c.args.log.now in
+    let dev = g.F.Folder in record {
+      put = λ faithful served old next has fresh. has;
+      ready = λ faithful. c.requires faithful;
+      moments = λ faithful served old next has. read_leaves dev.seen dev.may_leave dev.moment dev.left_since
+          log.folder log.folder (IsBeside (dev.seen log.folder)) (g.met.F.Folder.only_now log.folder)
+          (λ f left. has.staging f left) (read_is dev.seen dev.may_leave dev.moment dev.left_since log.folder);
+      stays = refl;
+    }
+
+pub put_one-requires : goal.put_one-requires
+put_one-requires g c = c.pages.invariant.ready
+
+pub returns-in_err-put_one-clause-any_moment : goal.returns-in_err-put_one-clause-any_moment
+returns-in_err-put_one-clause-any_moment g c = λ faithful served old next has.
+    let dev = g.F.Folder in
+    beside_then dev.seen dev.may_leave dev.moment dev.left_since g.met.F.Folder.counts_now g.met.F.Folder.only_now
+    g.met.F.Folder.seen_may_stay c.args.log.now.folder c.pages.log.folder c.put_one.new.log.folder
+    (c.pages.invariant.moments faithful served old next has)
+    (c.put_one.ensures.any_moment faithful (c.pages.invariant.stays ∙ has.is_open))
+
+pub pages-preserved : goal.pages-preserved
+pages-preserved g c =
+    let dev = g.F.Folder in record {
+      put = λ faithful served old next has fresh.
+          let i = c.pages.page-index in
+          let changed = c.args.changed.now in
+          let next_put = with_pages next (files_of (take i changed)) in
+          let more = put_more next changed i c.page-item.result (omega arith) c.page-item.is in
+          let free = put_fresh served old next changed i c.page-item.result (omega arith) c.page-item.is fresh in
+          subst (λ (n : LogOf). Has dev.seen dev.may_leave served old n c.put_one.new.log) (sym more)
+          (c.in_ok-put_one.ensures.put faithful served old next_put
+          (c.pages.invariant.put faithful served old next has fresh) free);
+      ready = λ faithful. c.put_one.ensures.ready faithful;
+      moments = λ faithful served old next has.
+          beside_then dev.seen dev.may_leave dev.moment dev.left_since g.met.F.Folder.counts_now
+          g.met.F.Folder.only_now g.met.F.Folder.seen_may_stay c.args.log.now.folder c.pages.log.folder
+          c.put_one.new.log.folder (c.pages.invariant.moments faithful served old next has)
+          (c.put_one.ensures.any_moment faithful (c.pages.invariant.stays ∙ has.is_open));
+      stays = c.put_one.ensures.open ∙ c.pages.invariant.stays;
+    }
+
+pub returns-clause-put : goal.returns-clause-put
+returns-clause-put g c = λ faithful served old next has fresh.
+    let dev = g.F.Folder in
+    let all : take c.pages.page-index c.args.changed.now ≡ c.args.changed.now =
+    take_all c.pages.page-index c.args.changed.now (omega arith) in
+    subst (λ (l : List ChangedPageAt). Has dev.seen dev.may_leave served old (with_pages next (files_of l)) c.pages.log)
+    all (c.pages.invariant.put faithful served old next has fresh)
+
+pub returns-clause-ready : goal.returns-clause-ready
+returns-clause-ready g c = c.pages.invariant.ready
+
+pub returns-clause-any_moment : goal.returns-clause-any_moment
+returns-clause-any_moment g c = c.pages.invariant.moments

@@ -1,0 +1,54 @@
+-- What is read out of a registry's folder.
+use Rattle.std.specs.Prelude.{◌≡◌, ℕ, ◌+◌, Bool, List, Option, Some}
+use Rattle.std.specs.FinMap.{get}
+use Rattle.warg_crypto.specs.Digests.{sha256}
+use Rattle.warg_crypto.specs.EmptyTrees.{empty_root}
+use Rattle.warg_crypto.specs.Tree.{leaf_digest}
+use Rattle.warg_log.specs.Claims.{RootAndLength}
+use Rattle.warg_map.specs.Bits.{key_bits}
+use Rattle.warg_map.specs.Last.{last_under}
+use Rattle.warg_map.specs.Peers.{Proves, ProvesAbsent}
+use Rattle.warg_map.specs.ProofValue.{proof_value}
+use Rattle.warg_map.specs.Sparse.{map_of, sparse_root}
+use Rattle.warg_pages.specs.Prefixes.{version}
+use Rattle.warg_store.specs.Files.{Files}
+use Rattle.warg_store.specs.Reading.{ServedIn, Reads, IsShown}
+use Rattle.warg_registry.specs.declared.reader.KeyInRegistry.{KeyInRegistry}
+use Rattle.warg_registry.specs.declared.reader.KeyInRegistry.TheVariants.{Held, Absent}
+use Rattle.warg_registry.specs.Folder.{registry_of}
+use Rattle.warg_registry.specs.Insertions.{entry_of}
+
+-- A registry as a folder serves it: its log, and the map's root.
+pub record RegistryRead (F : Type 0) : Type 0 where
+  pub log : ServedIn F
+  pub root : List ℕ
+
+-- The reader has the registry of these insertions.
+pub record ReadsRegistry {F : Type 0} (seen : F → Files) (origin : List ℕ) (insertions : List (List ℕ × List ℕ))
+    (r : RegistryRead F) : Type 0 where
+  pub reads : Reads seen (registry_of origin insertions) r.log
+  pub is_root : r.root ≡ sparse_root sha256 256 (map_of sha256 insertions)
+
+-- A value is shown by its entry's inclusion under the checkpoint, and by the proof that leads from its leaf digest to the
+-- map's root; that nothing is there, by the proof that leads from an empty leaf.
+abbrev pub IsKeyShown : RootAndLength → List ℕ → List ℕ → KeyInRegistry → Type 0
+IsKeyShown checkpoint root key (Held index value peers) = IsShown checkpoint index (entry_of (key, value.items))
+    × (proof_value sha256 peers.items (leaf_digest sha256 value.items) (key_bits sha256 key) ≡ root)
+IsKeyShown checkpoint root key (Absent peers) =
+    proof_value sha256 peers.items (empty_root sha256 0) (key_bits sha256 key) ≡ root
+
+-- The map of insertions holds a leaf digest under bits, by the insertion at an index, and these are the peers of its proof.
+pub record IsHeldAt (insertions : List (List ℕ × List ℕ)) (bits : List Bool) (index : ℕ) (leaf : List ℕ)
+    (peers : List (Option (List ℕ))) : Type 0 where
+  pub place : index + 1 ≡ version sha256 insertions bits
+  pub held : get (map_of sha256 insertions) bits ≡ Some leaf
+  pub proves : Proves sha256 256 (map_of sha256 insertions) bits peers
+
+-- What a registry of insertions has under a key: the value of the last insertion under the key's digest, with its index,
+-- or nothing, each with the map's own proof.
+abbrev pub IsKeyIn : List (List ℕ × List ℕ) → List ℕ → KeyInRegistry → Type 0
+IsKeyIn insertions key (Held index value peers) = (index + 1 ≡ version sha256 insertions (key_bits sha256 key))
+    × (last_under sha256 (key_bits sha256 key) insertions ≡ Some (key, value.items))
+    × Proves sha256 256 (map_of sha256 insertions) (key_bits sha256 key) peers.items
+IsKeyIn insertions key (Absent peers) =
+    ProvesAbsent sha256 (map_of sha256 insertions) (key_bits sha256 key) peers.items

@@ -1,0 +1,161 @@
+//! A registry as a folder serves it, as whoever reads it holds it.
+
+ghost use Rattle.std.specs.Prelude.{◌≡◌, ◌+◌, ℕ, List, IfOk, IfErr};
+ghost use Rattle.warg_crypto.specs.Digests.{sha256};
+ghost use Rattle.warg_crypto.specs.Tree.{leaf_digest};
+ghost use Rattle.warg_map.specs.Bits.{key_bits};
+ghost use Rattle.warg_map.specs.ProofValue.{proof_value};
+ghost use Rattle.warg_pages.specs.ProvedKeys.{LeadsTo, IsProved};
+ghost use Rattle.warg_store.specs.Audited.{IsOfEntries};
+ghost use Rattle.warg_store.specs.Log.{HasLog, Serves};
+ghost use Rattle.warg_store.specs.Reading.{checkpoint_said};
+ghost use Rattle.warg_registry.specs.Folder.{registry_of, IsNoFault};
+ghost use Rattle.warg_registry.specs.Reading.{ReadsRegistry, IsKeyShown, IsHeldAt, IsKeyIn};
+
+use crate::error::{RegistryError, damaged, of_way};
+use crate::folder::root_said;
+use crate::insertion::inserted_value;
+use crate::source::ServedPages;
+use std::alloc::Global;
+use std::marker::Model;
+use warg_crypto::{Hash, Sha256};
+use warg_log::Checkpoint;
+use warg_pages::{KeyInPages, prove_by_pages};
+use warg_store::{Folder, LogError, LogReader, Progress};
+
+/// What a registry has under a key, with the peers of the map's proof, from the bottom of the tree to the top.
+#[derive(Drop)]
+pub enum KeyInRegistry {
+    /// A value: the index of its insertion, its bytes, and the peers of `Map::prove`.
+    Held(usize, Vec<u8>, Vec<Option<Hash<Sha256>>>),
+    /// Nothing: the peers of `Map::prove_absence`.
+    Absent(Vec<Option<Hash<Sha256>>>),
+}
+
+/// A registry as a folder serves it, for those who read: no call changes the folder, and none needs a lock.
+#[derive(Drop)]
+pub struct RegistryReader<F: Folder + Drop> {
+    alloc: Global,
+    pages: ServedPages<F>,
+    root: Hash<Sha256>,
+}
+
+impl<F: Folder + Drop> Model for RegistryReader<F> {
+    ghost use Rattle.warg_registry.specs.Reading.{RegistryRead};
+
+    ghost Value = { RegistryRead F };
+
+    ghost view = { λ r. record { log = r.pages.log; root = r.root } };
+}
+
+impl<F: Folder + Drop> RegistryReader<F> {
+    /// Reads a folder's checkpoint, as [`LogReader::open`] does. `NoMap` where it names no map.
+    pub fn open(alloc: Global, folder: F) -> Result<RegistryReader<F>, RegistryError>
+        ensures reads { F.IsFaithful → IfOk result (λ r. (origin : List ℕ) (insertions : List (List ℕ × List ℕ))
+            → Serves (registry_of origin insertions) (F.seen folder)
+            → ReadsRegistry F.seen origin insertions r) }
+        ensures opens { F.IsFaithful → (origin : List ℕ) (served kept : List (List ℕ × List ℕ))
+            → HasLog (registry_of origin served) (registry_of origin kept) (F.seen folder)
+            → IfErr result IsNoFault }
+    {
+        let log = LogReader::open(alloc, folder)?;
+        let root = root_said(alloc, log.text())?;
+        let last = String::new(alloc);
+        let pages = ServedPages { alloc, log, last };
+        Ok(RegistryReader { alloc, pages, root })
+    }
+
+    /// The checkpoint of the registry's log.
+    pub fn checkpoint(&self) -> Checkpoint<Sha256>
+        ensures { result ≡ checkpoint_said self.now.log.text }
+    {
+        self.pages.log.checkpoint()
+    }
+
+    /// The root of the map.
+    pub fn root(&self) -> &Hash<Sha256>
+        ensures { result.now ≡ self.now.root }
+    {
+        &self.root
+    }
+
+    /// The registry's log.
+    pub fn into_log(self) -> LogReader<F>
+        ensures { result ≡ self.log }
+    {
+        let RegistryReader { pages, .. } = self;
+        let ServedPages { log, .. } = pages;
+        log
+    }
+
+    /// As [`LogReader::audit`]: the entries have the checkpoint's root. It doesn't look at the map's pages.
+    pub fn audit<P: Progress>(&mut self, progress: &mut P) -> Result<Checkpoint<Sha256>, LogError>
+        ensures entries { IfOk result IsOfEntries }
+    {
+        self.pages.log.audit(progress)
+    }
+
+    /// What the registry has under a key: the value of the last insertion under the key's digest, with the index of its
+    /// entry, or nothing, each with the proof under the map's root. `Damaged` names a page or a file of the log that is
+    /// missing or corrupt, or a page that names an entry which isn't of this key and value.
+    pub fn get(&mut self, key: &[u8]) -> Result<KeyInRegistry, LogError>
+        ensures shown { IfOk result (IsKeyShown (checkpoint_said self.old.log.text) self.old.root key.now) }
+        ensures own { F.IsFaithful → IfOk result (λ found. (origin : List ℕ) (insertions : List (List ℕ × List ℕ))
+            → ReadsRegistry F.seen origin insertions self.old → IsKeyIn insertions key.now found) }
+        ensures reads { F.IsFaithful → (origin : List ℕ) (insertions : List (List ℕ × List ℕ))
+            → ReadsRegistry F.seen origin insertions self.old → ReadsRegistry F.seen origin insertions self.new }
+    {
+        match self.prove(key)? {
+            KeyInPages::Held(index, leaf, peers) => self.held(key, index, &leaf, peers),
+            KeyInPages::Absent(peers) => Ok(KeyInRegistry::Absent(peers)),
+        }
+    }
+
+    // What the pages prove of a key.
+    fn prove(&mut self, key: &[u8]) -> Result<KeyInPages<Sha256>, LogError>
+        ensures leads { IfOk result (LeadsTo sha256 (key_bits sha256 key.now) self.old.root) }
+        ensures own { F.IsFaithful → IfOk result (λ found. (origin : List ℕ) (insertions : List (List ℕ × List ℕ))
+            → ReadsRegistry F.seen origin insertions self.old → IsProved sha256 insertions key.now found) }
+        ensures same { (self.new.root ≡ self.old.root) × (self.new.log.text ≡ self.old.log.text) }
+        ensures reads { F.IsFaithful → (origin : List ℕ) (insertions : List (List ℕ × List ℕ))
+            → ReadsRegistry F.seen origin insertions self.old → ReadsRegistry F.seen origin insertions self.new }
+    {
+        let version = self.checkpoint().length() as u64;
+        match prove_by_pages(self.alloc, &mut self.pages, &self.root, version, &key) {
+            Ok(found) => Ok(found),
+            Err(error) => Err(of_way(self.alloc, self.pages.last.as_str(), error)),
+        }
+    }
+
+    // The value that a held key's entry has.
+    fn held(
+        &mut self,
+        key: &[u8],
+        index: u64,
+        leaf: &Hash<Sha256>,
+        peers: Vec<Option<Hash<Sha256>>>,
+    ) -> Result<KeyInRegistry, LogError>
+        ensures shown { IfOk result (λ found. proof_value sha256 peers.items leaf.now (key_bits sha256 key.now)
+            ≡ self.old.root
+            → IsKeyShown (checkpoint_said self.old.log.text) self.old.root key.now found) }
+        ensures own { F.IsFaithful → IfOk result (λ found. (origin : List ℕ) (insertions : List (List ℕ × List ℕ))
+            → ReadsRegistry F.seen origin insertions self.old
+            → IsHeldAt insertions (key_bits sha256 key.now) index leaf.now peers.items
+            → IsKeyIn insertions key.now found) }
+        ensures reads { F.IsFaithful → (origin : List ℕ) (insertions : List (List ℕ × List ℕ))
+            → ReadsRegistry F.seen origin insertions self.old → ReadsRegistry F.seen origin insertions self.new }
+    {
+        let entry = self.pages.log.entry(index as usize)?;
+        match inserted_value(entry.as_slice(), key, leaf) {
+            Some(value) => Ok(KeyInRegistry::Held(
+                index as usize,
+                Vec::from_slice(self.alloc, value)?,
+                peers,
+            )),
+            None => {
+                let fault = "names an entry that isn't an insertion of the key's value";
+                Err(damaged(self.alloc, self.pages.last.as_str(), fault))
+            }
+        }
+    }
+}

@@ -1,0 +1,83 @@
+//! A log in a folder as the source of its map's pages.
+
+ghost use Rattle.std.specs.Prelude.{◌≡◌, ◌++◌, ℕ, Bool, true, List, codes, IfOk, string_bytes};
+ghost use Rattle.warg_store.specs.Growing.{LogIn};
+ghost use Rattle.warg_store.specs.Moments.{IsRead};
+ghost use Rattle.warg_store.specs.Reading.{ServedIn};
+ghost use Rattle.warg_registry.specs.Folder.{path_below, page_found, found_if, IsLogRead};
+
+use crate::error::damaged;
+use std::alloc::{AllocError, Global};
+use warg_pages::{Pages, page_path};
+use warg_store::{Folder, LogError, LogFolder, LogReader};
+
+// The most bytes that a page has: 256 slots of 106 bytes.
+const MOST: usize = 256 * 106;
+
+/// A log that is added to, with the path of the page that was asked for last.
+#[derive(Drop)]
+pub(crate) struct KeptPages<F: Folder + Drop> {
+    pub(crate) alloc: Global,
+    pub(crate) log: LogFolder<F>,
+    pub(crate) last: String,
+}
+
+impl<F: Folder + Drop> Pages<Global> for KeptPages<F> {
+    type Error = LogError;
+
+    // The log as it was before it was read.
+    ghost Known = { LogIn F };
+
+    ghost IsKnown = { λ pages known. F.IsFaithful
+        × IsLogRead F.seen F.may_leave F.moment F.left_since known pages.log };
+
+    ghost bytes_at = { λ known. page_found (F.seen known.folder) };
+
+    fn page(&mut self, prefix: &[u8], version: u64) -> Result<Vec<u8>, LogError> {
+        let path = page_path(self.alloc, prefix, version)?;
+        let found = self.log.page(below_map(path.as_str()), MOST)?;
+        self.last = path;
+        match found {
+            Some(bytes) => Ok(bytes),
+            None => Err(damaged(self.alloc, self.last.as_str(), "is missing")),
+        }
+    }
+}
+
+/// A log that is read, with the path of the page that was asked for last.
+#[derive(Drop)]
+pub(crate) struct ServedPages<F: Folder + Drop> {
+    pub(crate) alloc: Global,
+    pub(crate) log: LogReader<F>,
+    pub(crate) last: String,
+}
+
+impl<F: Folder + Drop> Pages<Global> for ServedPages<F> {
+    type Error = LogError;
+
+    // The log as it was before it was read, and whether its device is known to be faithful.
+    ghost Known = { ServedIn F × Bool };
+
+    ghost IsKnown = { λ pages known. (pages.log ≡ record known.0 { folder = pages.log.folder })
+        × (known.1 ≡ true → F.IsFaithful
+        × IsRead F.seen F.may_leave F.moment F.left_since known.0.folder pages.log.folder) };
+
+    ghost bytes_at = { λ known. found_if known.1 (page_found (F.seen known.0.folder)) };
+
+    fn page(&mut self, prefix: &[u8], version: u64) -> Result<Vec<u8>, LogError> {
+        let path = page_path(self.alloc, prefix, version)?;
+        let found = self.log.page(below_map(path.as_str()), MOST)?;
+        self.last = path;
+        match found {
+            Some(bytes) => Ok(bytes),
+            None => Err(damaged(self.alloc, self.last.as_str(), "is missing")),
+        }
+    }
+}
+
+/// What a page's path has below `map/`.
+pub(crate) fn below_map(path: &str) -> &str
+    ensures { (below : List ℕ) → path.now ≡ codes "map/" ++ below → result.now ≡ below }
+{
+    path.strip_prefix("map/").unwrap_or(path)
+}

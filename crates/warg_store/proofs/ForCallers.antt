@@ -1,0 +1,116 @@
+-- Lemmas for the proofs of the crates above, over public definitions alone.
+use Rattle.std.proofs.Common.{◌≡◌, ◌⊎◌, ⊎_elim, ℕ, ◌<◌, ◌≤◌, List, length, sym, ap, subst, ◌∙◌, arith}
+use Rattle.std.specs.List.{Contains}
+use Rattle.warg_store.specs.Files.{File, Files}
+use Rattle.warg_store.specs.Moments.{IsRead, LeavesOnly}
+use Rattle.warg_store.specs.Log.{LogOf, HasFiles, Keeps, ArePagesStaged, IsCommitting}
+use Rattle.warg_store.specs.Opening.{IsBeside}
+use Rattle.warg_store.specs.Growing.{LogIn, IsReady, Has}
+use Rattle.warg_store.specs.Reading.{ServedIn, Reads}
+use Rattle.warg_store.proofs.FetchedLemmas as fetched
+use Rattle.warg_store.proofs.GrowingLemmas as growing
+use Rattle.warg_store.proofs.MomentLemmas as moments
+use Rattle.warg_store.proofs.ReadyLemmas.{staging_kept}
+
+module _ {F : Type 0} (seen : F → Files) (may_leave : F → Files → Type 0) (moment : F → ℕ)
+    (left_since : F → ℕ → Files → Type 0) where
+  -- a folder is only read by no call, and by two that only read
+  pub read_is : (x : F) → IsRead seen may_leave moment left_since x x
+  read_is = moments.read_is seen may_leave moment left_since
+
+  pub read_then : (old mid new : F)
+      → ((t : ℕ) (c : Files) → t ≤ moment old → may_leave old c → left_since old t c)
+      → IsRead seen may_leave moment left_since old mid → IsRead seen may_leave moment left_since mid new
+      → IsRead seen may_leave moment left_since old new
+  read_then = moments.read_then seen may_leave moment left_since
+
+  -- what a crash leaves while a folder is only read
+  pub read_leaves : (old new : F) (P : Files → Type 0) → ((c : Files) → left_since old (moment old) c → may_leave old c)
+      → ((c : Files) → may_leave old c → P c) → IsRead seen may_leave moment left_since old new
+      → LeavesOnly moment left_since old new P
+  read_leaves = moments.read_leaves seen may_leave moment left_since
+
+  -- a log whose folder was only read has the same
+  pub has_read : (served old next : LogOf) (l m : LogIn F) → m ≡ record l { folder = m.folder }
+      → IsRead seen may_leave moment left_since l.folder m.folder → Has seen may_leave served old next l
+      → Has seen may_leave served old next m
+  has_read served old next l m same read has = subst (Has seen may_leave served old next) (sym same)
+      (fetched.has_read seen may_leave served old next l m.folder read.found read.crash has)
+
+  -- and is ready as before
+  pub ready_read : (l m : LogIn F) → m ≡ record l { folder = m.folder }
+      → IsRead seen may_leave moment left_since l.folder m.folder → IsReady seen may_leave l
+      → IsReady seen may_leave m
+  ready_read l m same read ready is_open = staging_kept (seen l.folder) (seen m.folder) (may_leave l.folder)
+      (may_leave m.folder) read.found read.crash (ready (sym (ap (λ (x : LogIn F). x.is_open) same) ∙ is_open))
+
+  -- a reader whose folder was only read has the same log
+  pub reads_read : (log : LogOf) (r t : ServedIn F) → t ≡ record r { folder = t.folder }
+      → IsRead seen may_leave moment left_since r.folder t.folder → Reads seen log r → Reads seen log t
+  reads_read log r t same read reads = record {
+    can = reads.can;
+    text = ap (λ (x : ServedIn F). x.text) same ∙ reads.text;
+    files = subst (HasFiles log) (sym read.found) reads.files;
+  }
+
+  -- two runs, the second after the first
+  pub leaves_then : (old mid new : F) (P : Files → Type 0) → LeavesOnly moment left_since old mid P
+      → LeavesOnly moment left_since mid new P → LeavesOnly moment left_since old new P
+  leaves_then old mid new P one two = moments.then moment left_since old mid new P P P one two (λ c p. p) (λ c p. p)
+
+  -- a weaker fact
+  pub leaves_weaker : (old new : F) (P Q : Files → Type 0) → LeavesOnly moment left_since old new P
+      → ((c : Files) → P c → Q c) → LeavesOnly moment left_since old new Q
+  leaves_weaker = moments.weaker moment left_since
+
+-- fewer pages to be kept, where each of the others is kept already
+fewer_staged : (served old next fewer : List File) (files : Files)
+    → ((f : File) → Contains fewer f → Contains next f)
+    → ((f : File) → Contains next f → Contains old f ⊎ Contains fewer f)
+    → ArePagesStaged served old next files → ArePagesStaged served old fewer files
+fewer_staged served old next fewer files within rest are = record {
+  page = λ f is. are.page f (within f is);
+  nothing_else = λ path some. let new = are.nothing_else path some in (
+    new.0,
+    ⊎_elim (λ was. absurd (new.2 (new.0.1, was))) (λ is. is) (rest new.0 new.1),
+    new.2,
+    new.3,
+  );
+}
+
+-- A log that grows can have other lines, and of its pages no more than it keeps and these.
+pub has_with : {F : Type 0} (seen : F → Files) (may_leave : F → Files → Type 0) (served old next : LogOf) (l : LogIn F)
+    (these : List (List ℕ)) (fewer : List File) → length old.entries < length next.entries
+    → ((f : File) → Contains fewer f → Contains next.pages f)
+    → ((f : File) → Contains next.pages f → Contains old.pages f ⊎ Contains fewer f)
+    → Has seen may_leave served old next l
+    → Has seen may_leave served old (record next { lines = these; pages = fewer }) l
+has_with seen may_leave served old next l these fewer more within rest has = record {
+  is_open = has.is_open;
+  keeps = has.keeps;
+  extends = record {
+    origin = has.extends.origin;
+    entries = has.extends.entries;
+    still = λ even. absurd (omega (arith, even, more));
+  };
+  short = has.short;
+  text = has.text;
+  edge = has.edge;
+  since = has.since;
+  order = has.order;
+  held = has.held;
+  most = has.most;
+  bundle = has.bundle;
+  staged = record { tile = has.staged.tile; bundle = has.staged.bundle; nothing_else = has.staged.nothing_else };
+  pages = fewer_staged served.pages old.pages next.pages fewer (seen l.folder) within rest has.pages;
+  staging = has.staging;
+}
+
+-- What stands at each moment while files are staged, and then committed.
+pub beside_committing : (served old next : LogOf) (s c : Files) → Keeps served old s → IsBeside s c
+    → IsCommitting served old next s c
+beside_committing = growing.beside_committing
+
+pub committing_then : (served old next : LogOf) (s mid c : Files) → IsBeside s mid → IsCommitting served old next mid c
+    → IsCommitting served old next s c
+committing_then = growing.committing_then

@@ -1,0 +1,63 @@
+use Rattle.std.proofs.Common.{◌≡◌, ℕ, List, true, None, ap, subst, ◌∙◌, arith, string_bytes}
+use Rattle.std.specs.List.{All}
+use Rattle.std.proofs.lemmas.List.{take_all}
+use Rattle.std.proofs.lemmas.List.Elements.{All-more, All-weaker}
+use Rattle.std.specs.declared.string.String.{String}
+use Rattle.warg_store.specs.Files.{Files}
+use Rattle.std.specs.declared.alloc.Global.{Global}
+use Rattle.warg_store.specs.Names.{is_page}
+use Rattle.warg_store.proofs.MomentLemmas.{stays, goes_on}
+use Rattle.warg_store.proofs.RemoveLemmas.{all_pages, one_gone, follows_one, still_gone, named_in}
+use Rattle.warg_store.proofs.pages.remove_each.Goals as goal
+
+-- a page is gone
+abbrev IsGone : Files → String Global → Type 0
+IsGone s x = is_page (string_bytes x) ≡ true → s (string_bytes x) ≡ None
+
+pub names-init : goal.names-init
+names-init g c = record {
+  removed = λ faithful k x low. absurd (omega arith);
+  only = λ faithful. all_pages _ (g.F.Folder.seen c.args.folder.now);
+  crash = λ faithful e left. (e, left, all_pages _ e);
+  faults = omega arith;
+  time = λ faithful. stays g.F.Folder.moment g.F.Folder.left_since c.args.folder.now _
+      (λ e left. (e, g.met.F.Folder.only_now c.args.folder.now e left, all_pages _ e));
+}
+
+pub names-preserved : goal.names-preserved
+names-preserved g c =
+    let name = c.as_str.result.now in
+    let old = g.F.Folder.seen c.names.folder in
+    let new = g.F.Folder.seen c.remove_one.new.folder in
+    let has = named_in c.args.names.now c.names.name-index c.name-item.result name (omega arith) c.name-item.is
+    c.as_str.ensures.value in
+    record {
+      removed = λ faithful. All-more (IsGone new) c.args.names.now c.names.name-index c.name-item.result (omega arith)
+          (All-weaker (IsGone old) (IsGone new) (λ x gone page. still_gone name (string_bytes x) old new
+          (c.in_ok-remove_one.ensures.only faithful) (gone page)) _ (c.names.invariant.removed faithful))
+          (subst (λ (n : List ℕ). is_page n ≡ true → new n ≡ None)
+          (c.as_str.ensures.value ∙ ap (λ (x : String Global). string_bytes x) c.name-item.is)
+          (c.in_ok-remove_one.ensures.removed faithful));
+      only = λ faithful. one_gone _ name (g.F.Folder.seen c.args.folder.now) old new has
+          (c.names.invariant.only faithful) (c.in_ok-remove_one.ensures.only faithful);
+      crash = λ faithful. follows_one _ name _ _ _ has (c.names.invariant.crash faithful)
+          (c.remove_one.ensures.crash faithful);
+      faults = omega (arith, c.names.invariant.faults, c.remove_one.ensures.cause.later);
+      time = λ faithful. goes_on _ _ _ c.args.folder.now c.names.folder c.remove_one.new.folder _
+          (c.names.invariant.time faithful) (c.remove_one.ensures.time faithful)
+          (follows_one _ name _ _ _ has (c.names.invariant.crash faithful) (c.remove_one.ensures.crash faithful));
+    }
+
+pub returns-in_err-remove_one-clause-crash : goal.returns-in_err-remove_one-clause-crash
+returns-in_err-remove_one-clause-crash g c = λ faithful. follows_one _ c.as_str.result.now _ _ _
+    (named_in c.args.names.now c.names.name-index c.name-item.result c.as_str.result.now (omega arith) c.name-item.is
+    c.as_str.ensures.value) (c.names.invariant.crash faithful) (c.remove_one.ensures.crash faithful)
+
+pub returns-in_err-remove_one-clause-any_moment : goal.returns-in_err-remove_one-clause-any_moment
+returns-in_err-remove_one-clause-any_moment g c = λ faithful. goes_on _ _ _ _ _ _ _ (c.names.invariant.time faithful)
+    (c.remove_one.ensures.time faithful) (returns-in_err-remove_one-clause-crash g c faithful)
+
+pub returns-clause-removed : goal.returns-clause-removed
+returns-clause-removed g c = λ faithful.
+    subst (λ (l : List (String Global)). All (IsGone (g.F.Folder.seen c.names.folder)) l)
+    (take_all c.names.name-index c.args.names.now (omega arith)) (c.names.invariant.removed faithful)
