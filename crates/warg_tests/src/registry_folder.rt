@@ -4,7 +4,7 @@ use std::alloc::Global;
 use std::test::Fail;
 use warg_crypto::Sha256;
 use warg_map::Map;
-use warg_registry::{KeyInRegistry, PublishError, RegistryError, RegistryFolder, RegistryReader};
+use warg_registry::{KeyInRegistry, RegistryError, RegistryFolder, RegistryReader};
 use warg_store::{Call, Folder, LogFolder, LogReader, MemoryFolder};
 
 const FIRST: [(&[u8], &[u8]); 3] = [(b"a", b"one"), (b"b", b"two"), (b"a", b"three")];
@@ -45,22 +45,6 @@ fn what_is_published_is_got(rt: HostRuntime) -> Result<(), Fail> {
     )?;
     assert!(rt; *reader.root() == *map.root());
     assert!(rt; reader.checkpoint().length() == 5);
-    Ok(())
-}
-
-#[test]
-fn a_refused_call_leaves_a_registry(rt: HostRuntime) -> Result<(), Fail> {
-    let alloc = rt.alloc();
-    let (folder, _) = published(alloc)?;
-    let long = vec![in alloc; 0u8; 65_535]?;
-    let mut registry = RegistryFolder::open(alloc, folder)?;
-    let refused = registry.publish(&[(b"d", b"six"), (b"e", long.as_slice())]);
-    assert!(rt; refused == Err(PublishError::TooLong));
-    assert!(rt; registry.publish(&[]) == Ok(()));
-    registry.publish(&[(b"d", b"six")])?;
-    let mut reader = RegistryReader::open(alloc, registry.into_folder())?;
-    assert!(rt; is_held(reader.get(b"d")?, 5, b"six"));
-    assert!(rt; matches!(reader.get(b"e")?, KeyInRegistry::Absent(_)));
     Ok(())
 }
 
