@@ -1,60 +1,63 @@
-//! An auditor of a map: reads the steps of its registry, a line each, and follows the map's root from that of the empty
-//! map on, with that root alone in hand. It prints the root after each step, and stops at the first that isn't shown,
-//! with the line and the reason.
-//!
-//! A step is a key, its value before if it had one, the value, the map's root with it, and a bundle as hexadecimal
-//! digits, separated by tabs. Where all steps are shown nothing else was inserted, changed or removed.
+//! An auditor of a registry. It reads the folder `registry`, and shows that the map is the one that the log's entries make.
+//! Then it shows that the log continues each checkpoint that it remembers from earlier audits, a line each on standard
+//! input: how many entries there were, and their root. It prints the checkpoint to remember next, and stops at the first
+//! that isn't continued: then the registry has shown different logs.
 #![tactic(auto)]
 
 use anyhow::{Result, bail};
-use std::alloc::Global;
-use warg_check::{check_insertion, check_update};
-use warg_crypto::{Hash, Sha256, empty_tree_hash};
+use std::cell::Cell;
+use warg_crypto::Sha256;
+use warg_log::Checkpoint;
+use warg_paths::check_tree;
+use warg_registry::RegistryReader;
+use warg_store::{LogReader, Progress, SystemFolder};
 
-// A registry's map as an auditor sees it.
+// How many entries were read.
 #[derive(Drop)]
-struct Auditor {
-    alloc: Global,
-    root: Hash<Sha256>,
+struct Steps(usize);
+
+impl Progress for Steps {
+    fn step(&mut self) {
+        self.0 = self.0.saturating_add(1);
+    }
 }
 
 fn main(rt: HostRuntime) -> Result<()> {
-    let mut auditor = Auditor {
-        alloc: rt.alloc(),
-        root: empty_tree_hash(256),
-    };
-    for (place, line) in rt.lines(rt.alloc()).enumerate() {
-        let line = line?;
-        if let Err(reason) = auditor.follow(line.as_str()) {
-            println!(rt; "line {}: {reason}", place.saturating_add(1))?;
-            bail!("a step isn't shown");
+    let alloc = rt.alloc();
+    // (here the folder leaves why the system refuses a call)
+    let fault = Cell::new(None);
+    let folder = SystemFolder::new(&rt, "registry", &fault)?;
+    let mut registry = RegistryReader::open(alloc, folder)?;
+    let newest = registry.audit(&mut Steps(0))?;
+    let (length, root) = (newest.length(), newest.root());
+    println!(rt; "{length} entries, root {root}")?;
+    let root = registry.root();
+    println!(rt; "the map's root is {root}")?;
+    let mut log = registry.into_log();
+    for line in rt.lines(alloc) {
+        let Some(old) = checkpoint_of(line?.as_str()) else {
+            bail!("not a length and a root");
+        };
+        let (length, root) = (old.length(), old.root());
+        if !continues(&mut log, &old, &newest)? {
+            bail!("the log doesn't continue {length} {root}");
         }
-        println!(rt; "{}", auditor.root)?;
+        println!(rt; "{length} entries are still there")?;
     }
     Ok(())
 }
 
-impl Auditor {
-    // Follows one step, where it is shown.
-    fn follow(&mut self, step: &str) -> Result<()> {
-        let words: Vec<&str> = step.split('\t').collect(self.alloc)?;
-        let [key, values @ .., root, bundle] = words.as_slice() else {
-            bail!("not a step");
-        };
-        let root = root.parse::<Hash<Sha256>>()?;
-        let bytes = hex::decode(self.alloc, bundle)?;
-        let bytes = bytes.as_slice();
-        let is_shown = match values {
-            [value] => check_insertion(self.alloc, bytes, 0, key, value, &self.root, &root)?,
-            [before, value] => {
-                check_update(self.alloc, bytes, 0, key, before, value, &self.root, &root)?
-            }
-            _ => bail!("not a step"),
-        };
-        if !is_shown {
-            bail!("the proof doesn't lead from the root before to the new one");
-        }
-        self.root = root;
-        Ok(())
-    }
+fn checkpoint_of(line: &str) -> Option<Checkpoint<Sha256>> {
+    let (length, root) = line.split_once(' ')?;
+    Some(Checkpoint::new(root.parse().ok()?, length.parse().ok()?))
+}
+
+// Whether a log's path leads from an old checkpoint to the newest.
+fn continues(
+    log: &mut LogReader<SystemFolder<'_>>,
+    old: &Checkpoint<Sha256>,
+    newest: &Checkpoint<Sha256>,
+) -> Result<bool> {
+    let path = log.consistency_path(old.length(), newest.length())?;
+    Ok(check_tree(old, newest, path.as_slice()))
 }

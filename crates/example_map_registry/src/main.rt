@@ -1,71 +1,74 @@
-//! A registry of one value a key: reads keys with values, a line each, separated by a tab, and keeps them in a map. For each
-//! it prints a step, for auditors: the key, its value before if it had one, the value, the map's root with it, and a
-//! bundle as hexadecimal digits, separated by tabs.
+//! A registry in a folder: reads keys with values, a line each, separated by a tab, publishes them all at once, and prints
+//! the root of their map. Then it reads the folder as a client does, and prints what stands under each key that the command
+//! line names: the value and the entry that put it there, or that nothing does, and how many digests the map's proof of that has.
 //!
-//! The bundle has the proof of the step: a proof where the key had a value, and an absence where it had none.
+//! The folder is `registry`, which isn't there before. Any web server may serve it.
 #![tactic(auto)]
 
 use anyhow::{Result, bail};
 use std::alloc::Global;
-use std::collections::HashMap;
-use warg_bundle::MapProofBundle;
-use warg_crypto::Sha256;
-use warg_map::{Insertion, Map};
+use std::cell::Cell;
+use std::{env, fs};
+use warg_registry::{KeyInRegistry, RegistryFolder, RegistryReader};
+use warg_store::SystemFolder;
 
-#[derive(Drop)]
-struct Registry {
-    alloc: Global,
-    map: Map<Sha256, String, String>,
-    // What the map keeps the digests of.
-    values: HashMap<String, String>,
-}
+const FOLDER: &str = "registry";
 
 fn main(rt: HostRuntime) -> Result<()> {
     let alloc = rt.alloc();
-    let mut registry = Registry {
-        alloc,
-        map: Map::default(alloc),
-        values: HashMap::new(alloc),
-    };
+    let mut lines = Vec::new(alloc);
     for line in rt.lines(alloc) {
-        let line = line?;
-        let Some((key, value)) = line.split_once('\t') else {
-            bail!("not a key and a value");
-        };
-        registry.publish(&rt, key, value)?;
+        lines.push(line?)?;
+    }
+    publish(&rt, lines.as_slice())?;
+    let words = env::args(&rt)?.collect::<Vec<String>>(alloc)?;
+    for key in words.iter().skip(1) {
+        look_up(&rt, key.as_str())?;
     }
     Ok(())
 }
 
-impl Registry {
-    // Puts a value under a key, and prints the step.
-    fn publish(&mut self, rt: &HostRuntime, key: &str, value: &str) -> Result<()> {
-        let bundle = self.insert(key, value)?;
-        let root = self.map.root().copied();
-        let (owned_key, owned_value) = (self.owned(key)?, self.owned(value)?);
-        match self.values.insert(owned_key, owned_value)? {
-            Some(before) => println!(rt; "{key}\t{before}\t{value}\t{root}\t{bundle}")?,
-            None => println!(rt; "{key}\t{value}\t{root}\t{bundle}")?,
-        }
-        Ok(())
-    }
+// Makes the registry of these lines.
+fn publish(rt: &HostRuntime, lines: &[String]) -> Result<()> {
+    let alloc = rt.alloc();
+    let insertions = insertions_of(alloc, lines)?;
+    fs::create_dir_all(rt, "registry/.log")?;
+    // (here the folder leaves why the system refuses a call)
+    let fault = Cell::new(None);
+    let folder = SystemFolder::new(rt, FOLDER, &fault)?;
+    let mut registry = RegistryFolder::create(alloc, folder, b"example.com/registry")?;
+    registry.publish(insertions.as_slice())?;
+    let (count, root) = (lines.len(), registry.root());
+    println!(rt; "{count} insertions, map {root}")?;
+    Ok(())
+}
 
-    // Puts a value under a key in the map, and returns the bundle of the step's proof as digits.
-    fn insert(&mut self, key: &str, value: &str) -> Result<String> {
-        let (key, value) = (self.owned(key)?, self.owned(value)?);
-        let Insertion { map, proof, is_new } = self.map.insert_with_proof(key, value)?;
-        self.map = map;
-        let (step, none) = (vec![in self.alloc; proof]?, Vec::new(self.alloc));
-        let bundle = if is_new {
-            MapProofBundle::bundle_with(none, step)
-        } else {
-            MapProofBundle::bundle_with(step, none)
+// The key and the value of each line.
+fn insertions_of(alloc: Global, lines: &[String]) -> Result<Vec<(&[u8], &[u8])>> {
+    let mut insertions = Vec::new(alloc);
+    for line in lines {
+        let Some((key, value)) = line.split_once('\t') else {
+            bail!("not a key and a value");
         };
-        let bytes = bundle.encode(self.alloc)?;
-        Ok(hex::encode(self.alloc, bytes.as_slice())?)
+        insertions.push((key.as_bytes(), value.as_bytes()))?;
     }
+    Ok(insertions)
+}
 
-    fn owned(&self, text: &str) -> Result<String> {
-        Ok(String::from_str(self.alloc, text)?)
+// Prints what the registry has under a key.
+fn look_up(rt: &HostRuntime, key: &str) -> Result<()> {
+    let alloc = rt.alloc();
+    let fault = Cell::new(None);
+    let mut registry = RegistryReader::open(alloc, SystemFolder::new(rt, FOLDER, &fault)?)?;
+    match registry.get(key.as_bytes())? {
+        KeyInRegistry::Held(index, value, peers) => {
+            let (value, count) = (String::from_utf8(value)?, peers.len());
+            println!(rt; "{key}: {value} (entry {index}, path of {count})")?;
+        }
+        KeyInRegistry::Absent(peers) => {
+            let count = peers.len();
+            println!(rt; "{key}: absent (path of {count})")?;
+        }
     }
+    Ok(())
 }

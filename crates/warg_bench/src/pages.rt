@@ -36,6 +36,8 @@ impl<'a> Pages<Global> for &'a Newest {
 
     ghost bytes_at = { λ _ _ _. None };
 
+    ghost tells_all = { λ _. ⊥ };
+
     fn page(&mut self, prefix: &[u8], _version: u64) -> Result<Vec<u8>, NotLent> {
         match self.bytes.get(prefix) {
             Some(bytes) => Vec::from_slice(self.alloc, bytes.as_slice()).map_err(

@@ -1,5 +1,5 @@
 -- What proofs of other crates use.
-use Rattle.std.proofs.Common.{◌≡◌, ℕ, zero, suc, ◌+◌, ◌-◌, ◌*◌, ◌/◌, ◌%◌, ◌^◌, ◌<◌, ◌≤◌, Bool, true, false, cond, List, [], ◌∷◌, ◌++◌, length, take, Option, Some, None, codes, refl, sym, ◌∙◌, arith, inl, inr, length-append}
+use Rattle.std.proofs.Common.{◌≡◌, ℕ, zero, suc, ◌+◌, ◌-◌, ◌*◌, ◌/◌, ◌%◌, ◌^◌, ◌<◌, ◌≤◌, Bool, true, false, cond, eqb, List, [], ◌∷◌, ◌++◌, length, take, Option, Some, None, codes, refl, sym, ap, ◌∙◌, arith, inl, inr, length-append}
 use Rattle.std.proofs.lemmas.Bool.{cases_lt, lt-ltb, le-ltb}
 use Rattle.std.proofs.lemmas.Fmt.{decimal_injective, decimal_is_IsNumeral}
 use Rattle.std.proofs.lemmas.List.{append_cancel_left, length-take}
@@ -15,12 +15,17 @@ use Rattle.warg_crypto.specs.Collisions.{GivesHashes}
 use Rattle.warg_crypto.specs.Tree.{leaf_digest}
 use Rattle.warg_map.specs.Bits.{bits_from, last_bits, key_bits}
 use Rattle.warg_map.specs.Last.{last_with}
-use Rattle.warg_map.specs.Sparse.{root_of_levels, map_of}
+use Rattle.warg_map.specs.Sparse.{root_of_levels, sparse_root, map_of}
 use Rattle.warg_pages.specs.Prefixes.{bits_of_bytes, byte_bits, is_below, below, version}
 use Rattle.warg_pages.specs.Slots.{SlotAt, is_lone, slot_over, slot_of, numbers, page_of}
+use Rattle.warg_pages.specs.ProvedKeys.{IsOwnSource}
+use Rattle.warg_pages.proofs.OwnVisits as visits
 use Rattle.warg_pages.specs.PageBytes.{slot_bytes, lone_bytes, page_bytes}
 use Rattle.warg_pages.specs.PagePaths.{byte_path, page_path}
 use Rattle.warg_pages.specs.OwnPages.{stands, stands_over}
+use Rattle.warg_pages.specs.ChangedPages.{ChangedPageAt, page_at}
+use Rattle.warg_pages.specs.Visits.{AreAllPages, IsAnyPage, IsAllowed, held_by, lone_slots, lone_keys}
+use Rattle.warg_pages.specs.Audits.{IsInPages, AreInPages, count_last}
 use Rattle.warg_pages.proofs.PageFormat.{same_parts}
 use Rattle.warg_pages.proofs.KeyPrefixes.{length-bits_from}
 use Rattle.warg_pages.proofs.BitParts.{key_at}
@@ -31,6 +36,8 @@ use Rattle.warg_pages.proofs.PrefixBytes.{length-bits, same_bytes}
 use Rattle.warg_pages.proofs.MoreInsertions.{quiet_page, quiet_version, quiet_stands}
 use Rattle.warg_pages.proofs.PagesAfter.{nothing_new}
 use Rattle.warg_pages.proofs.OwnPages as own
+use Rattle.warg_pages.proofs.VisitedRoots as visited
+use Rattle.warg_pages.proofs.AuditedMaps as audit
 
 -- Digits that are written alike are the same.
 low_glyph : (d : ℕ) → d < 10 → digit_glyph false d ≡ 48 + d
@@ -182,3 +189,65 @@ unchanged_page H old more prefix there early =
       sym (quiet_version H old more prefix none),
       sym (quiet_page H old more prefix none),
     )
+
+-- A visit's pages lead to its root: what the laws of the pages that a root leads to ask for.
+pub any_pages : (H : List ℕ → List ℕ) (IsThere : List ℕ → ℕ → List SlotAt → Type 0) (root : List ℕ) (version : ℕ)
+    (all : List ChangedPageAt) → AreAllPages H IsThere root version all → AreAllPages H IsAnyPage root version all
+any_pages = visited.any_pages
+
+-- A visit of the pages of insertions finds each of them.
+pub own_visit : (H : List ℕ → List ℕ) (bytes_at : List ℕ → ℕ → Option (List ℕ)) (tells_all : Type 0) (root : List ℕ)
+    (count : ℕ) (insertions : List (List ℕ × List ℕ)) (pages : List ChangedPageAt) (prefix : List ℕ) → GivesHashes H
+    → count < 2 ^ 64 → IsOwnSource H bytes_at root count insertions
+    → AreAllPages H (IsAllowed bytes_at tells_all) root count pages → All IsByte prefix → length prefix < 32
+    → stands H insertions (bits_of_bytes prefix) ≡ true → Contains pages (page_at H insertions prefix)
+own_visit = visits.own_visit
+
+-- The root of a visit's pages is that of the map that they hold.
+pub root_of_pages : (H : List ℕ → List ℕ) (IsThere : List ℕ → ℕ → List SlotAt → Type 0) (root : List ℕ) (version : ℕ)
+    (all : List ChangedPageAt) → AreAllPages H IsThere root version all
+    → root ≡ root_of_levels H 256 (held_by (lone_keys all))
+root_of_pages = visited.root_of_pages
+
+-- No two slots of a visit's pages have the same lone key.
+pub lone_apart : (H : List ℕ → List ℕ) (IsThere : List ℕ → ℕ → List SlotAt → Type 0) (root : List ℕ) (version : ℕ)
+    (all : List ChangedPageAt) → AreAllPages H IsThere root version all → (x y : SlotAt) (key leaf other : List ℕ)
+    → Contains (lone_slots all) x → Contains (lone_slots all) y → x.lone ≡ Some (key, leaf)
+    → y.lone ≡ Some (key, other) → x ≡ y
+lone_apart = visited.lone_apart
+
+-- It is the root of insertions that are in them, where nothing else is.
+pub audited : (H : List ℕ → List ℕ) (IsThere : List ℕ → ℕ → List SlotAt → Type 0) (root : List ℕ) (version : ℕ)
+    (es : List (List ℕ × List ℕ)) (all : List ChangedPageAt) (vs : List ℕ) → AreAllPages H IsThere root version all
+    → AreInPages H all 0 es vs → count_last 0 vs ≡ length (lone_slots all) → root ≡ sparse_root H 256 (map_of H es)
+audited = audit.audited
+
+-- Insertions in pages, with one more.
+pub AreInPages-push : (H : List ℕ → List ℕ) (all : List ChangedPageAt) (first : ℕ) (es : List (List ℕ × List ℕ))
+    (vs : List ℕ) (e : List ℕ × List ℕ) (v : ℕ) → AreInPages H all first es vs
+    → IsInPages H all (first + length es) e v → AreInPages H all first (es ++ e ∷ []) (vs ++ v ∷ [])
+unfolding AreInPages
+AreInPages-push H all first [] [] e v h is = let at : first + 0 ≡ first = omega arith in (rw at at is, tt)
+AreInPages-push H all first [] (w ∷ vs) e v h is = absurd h
+AreInPages-push H all first (x ∷ es) [] e v h is = absurd h
+AreInPages-push H all first (x ∷ es) (w ∷ vs) e v h is =
+    let at : first + suc (length es) ≡ first + 1 + length es = omega arith in
+    (h.0, AreInPages-push H all (first + 1) es vs e v h.1 (rw at at is))
+
+pub count_last-push : (first : ℕ) (vs : List ℕ) (v : ℕ)
+    → count_last first (vs ++ v ∷ []) ≡ count_last first vs + cond (eqb v (first + length vs + 1)) 1 0
+count_last-push first [] v =
+    let at : first + 0 + 1 ≡ first + 1 = omega arith in
+    rw at (omega arith)
+count_last-push first (w ∷ vs) v =
+    let at : first + suc (length vs) + 1 ≡ first + 1 + length vs + 1 = omega arith in
+    rw (at, count_last-push (first + 1) vs v) (omega arith)
+
+-- There is one version for each of them.
+pub length_versions : (H : List ℕ → List ℕ) (all : List ChangedPageAt) (first : ℕ) (es : List (List ℕ × List ℕ))
+    (vs : List ℕ) → AreInPages H all first es vs → length vs ≡ length es
+unfolding AreInPages
+length_versions H all first [] [] h = refl
+length_versions H all first [] (v ∷ vs) h = absurd h
+length_versions H all first (e ∷ es) [] h = absurd h
+length_versions H all first (e ∷ es) (v ∷ vs) h = ap suc (length_versions H all (first + 1) es vs h.1)

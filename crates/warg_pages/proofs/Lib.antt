@@ -35,5 +35,13 @@ mod SlotDigests
 mod SplitChanges
 mod Refused
 mod FinalPeers
+mod Members
+mod VisitedRoots
+mod AuditedMaps
+mod HeldKeys
 mod PremiseLemmas
+mod AuditPremises
+mod LonesBelow
+mod VisitedPages
+mod OwnVisits
 pub mod ForCallers

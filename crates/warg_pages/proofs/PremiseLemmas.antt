@@ -120,7 +120,7 @@ module _ (H : List ℕ → List ℕ) (gives : GivesHashes H) where
         length-take-le 31 pair (omega (arith, length-append (empty_root H 248) (empty_root H 248), size_empty 248)),
       )
 
-empty_zeros : (k : ℕ) → empty_root marked k ≡ zeros
+pub empty_zeros : (k : ℕ) → empty_root marked k ≡ zeros
 unfolding empty_root
 empty_zeros zero = refl
 empty_zeros (suc k) = rw (empty_zeros k) refl
@@ -129,12 +129,12 @@ empty_zeros (suc k) = rw (empty_zeros k) refl
 abbrev pub with_ones : List SlotAt
 with_ones = slot 0 ones ∷ []
 
-first_ones : (height k : ℕ) → root_over marked (digest_at marked height with_ones) 0 k ≡ ones
+pub first_ones : (height k : ℕ) → root_over marked (digest_at marked height with_ones) 0 k ≡ ones
 unfolding root_over digest_at
 first_ones height zero = refl
 first_ones height (suc k) = rw (first_ones height k) refl
 
-first_zeros : (height first k : ℕ) → root_over marked (digest_at marked height []) first k ≡ zeros
+pub first_zeros : (height first k : ℕ) → root_over marked (digest_at marked height []) first k ≡ zeros
 unfolding root_over digest_at
 first_zeros height first zero = empty_zeros height
 first_zeros height first (suc k) = rw (first_zeros height first k, first_zeros height (first + 2 ^ k) k) refl
@@ -302,7 +302,7 @@ both_page = record {
 }
 
 -- The lone key's page at the empty prefix, with the digest of its slot.
-abbrev lone_slot : List ℕ → SlotAt
+abbrev pub lone_slot : List ℕ → SlotAt
 lone_slot digest = record { byte = 0; version = 1; digest = digest; lone = Some (zeros, ones) }
 
 abbrev slot_root : List ℕ
@@ -313,7 +313,7 @@ unfolding page_of numbers last_with last_place bits_from
 top_page = refl
 
 -- It has ones, as its key's bits are all false.
-left_root : (k : ℕ) (held : List Bool → Option (List ℕ)) → held (replicate k false) ≡ Some ones
+pub left_root : (k : ℕ) (held : List Bool → Option (List ℕ)) → held (replicate k false) ≡ Some ones
     → root_of_levels marked k held ≡ ones
 unfolding root_of_levels
 left_root zero held is = ap (λ o. unwrap_or o (empty_root marked 0)) is
@@ -323,7 +323,7 @@ bits_are : byte_bits 0 ++ replicate 248 false ≡ lone_bits
 unfolding bits_from
 bits_are = refl
 
-lone_here : get (map_of marked lone_key) lone_bits ≡ Some ones
+pub lone_here : get (map_of marked lone_key) lone_bits ≡ Some ones
 unfolding last_with
 lone_here = last_held marked lone_bits lone_key ∙ rw (same_bits-itself lone_bits) refl
 

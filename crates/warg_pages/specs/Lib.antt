@@ -11,3 +11,5 @@ pub mod OwnPages
 pub mod ChangedPages
 pub mod Refusals
 pub mod ProvedKeys
+pub mod Visits
+pub mod Audits

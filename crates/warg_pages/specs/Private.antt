@@ -4,3 +4,4 @@ pub mod Finals
 pub mod Ranges
 pub mod Updates
 pub mod SlotUpdates
+pub mod Visited

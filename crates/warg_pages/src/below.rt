@@ -63,8 +63,8 @@ fn one_down<D: SupportedDigest, A: Allocator>(
     Ok(page)
 }
 
-// Whether bytes begin with others.
-fn begins_with(bytes: &[u8], front: &[u8]) -> bool
+/// Whether bytes begin with others.
+pub(crate) fn begins_with(bytes: &[u8], front: &[u8]) -> bool
     requires { length front.now ≤ length bytes.now }
     ensures { IsTrue result ↔ (take (length front.now) bytes.now ≡ front.now) }
 {

@@ -19,6 +19,8 @@ ghost use Rattle.warg_pages.specs.Slots.{SlotAt, IsPage, slot_of, page_of};
 ghost use Rattle.warg_pages.specs.Pages.{page_digest, slot_height};
 ghost use Rattle.warg_pages.specs.PagePeers.{page_peer, optional_peer, prefix_of};
 ghost use Rattle.warg_pages.specs.PageInsertions.{with_slot, last_slot};
+ghost use Rattle.warg_pages.specs.Visits.{AreAllPages, IsAnyPage, held_by, lone_keys, lone_slots};
+ghost use Rattle.warg_pages.specs.Audits.{AreInPages, count_last};
 
 /// The digest of a page is that of the sparse tree below its prefix.
 pub fn own_page()
@@ -126,4 +128,21 @@ pub fn given_page()
         → page_digest H depth slots ≡ root_of_levels H (256 - 8 * depth) (below (map_of H insertions) prefix)
         → HaveSameDigests H depth slots (page_of H insertions prefix)
         ⊎ SomeCollision H (AreInputsAt H depth slots (page_of H insertions prefix)) }
+{}
+
+/// A root is that of the map in the pages that it leads to: of each lone key the leaf digest under the key digest, and
+/// nothing else.
+pub fn pages_hold_root()
+    ensures { (H : List ℕ → List ℕ) (root : List ℕ) (version : ℕ) (all : List ChangedPageAt)
+        → AreAllPages H IsAnyPage root version all
+        → root ≡ root_of_levels H 256 (held_by (lone_keys all)) }
+{}
+
+/// A root is that of the map of insertions, where each of these is in the pages that the root leads to, and as many of
+/// them are the last ones of their keys as the pages have lone keys.
+pub fn audited_map()
+    ensures { (H : List ℕ → List ℕ) (root : List ℕ) (version : ℕ) (insertions : List (List ℕ × List ℕ))
+        (all : List ChangedPageAt) (versions : List ℕ) → AreAllPages H IsAnyPage root version all
+        → AreInPages H all 0 insertions versions → count_last 0 versions ≡ length (lone_slots all)
+        → root ≡ sparse_root H 256 (map_of H insertions) }
 {}

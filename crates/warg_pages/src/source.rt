@@ -23,10 +23,15 @@ pub trait Pages<A: Allocator> {
     // Which bytes stand at the name of a prefix and a version by what is known; none where nothing is said of it.
     ghost bytes_at: { Known → List ℕ → ℕ → Option (List ℕ) };
 
+    // What is known says so of every page that is read.
+    ghost tells_all: { Known → Type 0 };
+
     /// The bytes of the page at a prefix, of a version.
     fn page(&mut self, prefix: &[u8], version: u64) -> Result<Vec<u8, A>, Self::Error>
         ensures bytes { IfOk result (λ bytes. (known : Known) → IsKnown self.old known
             → IfSome (bytes_at known prefix.now version) (λ stands. stands ≡ bytes.items)) }
+        ensures told { IfOk result (λ bytes. (known : Known) → IsKnown self.old known → tells_all known
+            → bytes_at known prefix.now version ≡ Some bytes.items) }
         ensures known { (known : Known) → IsKnown self.old known → IsKnown self.new known };
 }
 
@@ -39,6 +44,8 @@ pub(crate) fn read_page<D, P: Pages<A>, A: Allocator>(
 ) -> Result<MapPage<D, A>, ProveError<P::Error>>
     ensures ok { IfOk result (λ page. (known : P.Known) → P.IsKnown pages.old known
         → IfSome (P.bytes_at known prefix.now version) (λ stands. stands ≡ page_bytes page)) }
+    ensures told { IfOk result (λ page. (known : P.Known) → P.IsKnown pages.old known → P.tells_all known
+        → P.bytes_at known prefix.now version ≡ Some (page_bytes page)) }
     ensures page { IfOk result (λ page. IsPage page) }
     ensures err { IfErr result (IsOfSourceUnless ((known : P.Known) (slots : List SlotAt) → P.IsKnown pages.old known
         → IsPage slots → P.bytes_at known prefix.now version ≢ Some (page_bytes slots))) }

@@ -242,8 +242,12 @@ fn digest_named<D: SupportedDigest>(depth: usize, slot: Option<&Slot<D>>) -> Has
     }
 }
 
-// A prefix and a byte behind it.
-fn longer<A: Allocator>(alloc: A, prefix: &[u8], byte: u8) -> Result<Vec<u8, A>, WayError>
+/// A prefix and a byte behind it.
+pub(crate) fn longer<A: Allocator>(
+    alloc: A,
+    prefix: &[u8],
+    byte: u8,
+) -> Result<Vec<u8, A>, WayError>
     ensures ok { IfOk result (λ below. below.items ≡ prefix.now ++ byte ∷ []) }
     ensures err { IfErr result (λ e. e ≡ WayError.Memory) }
 {

@@ -1,10 +1,12 @@
 -- What stands at each moment while a registry grows: files that are read, staged and committed, one run after the other.
-use Rattle.std.proofs.Common.{ℕ, ◌≤◌, subst, ◌∙◌}
+use Rattle.std.proofs.Common.{◌≡◌, ℕ, ◌≤◌, ap, subst, ◌∙◌}
 use Rattle.warg_store.specs.Files.{Files}
-use Rattle.warg_store.specs.Log.{LogOf, Keeps, IsCommitting}
+use Rattle.warg_store.specs.Growing.{LogIn}
+use Rattle.warg_store.specs.Log.{LogOf, Keeps, IsOneOf, IsCommitting}
 use Rattle.warg_store.specs.Moments.{IsRead, LeavesOnly}
 use Rattle.warg_store.specs.Opening.{IsBeside, IsStaging}
-use Rattle.warg_store.proofs.ForCallers.{read_leaves, leaves_then, leaves_weaker, beside_committing, committing_then}
+use Rattle.warg_registry.specs.Folder.{IsLogRead}
+use Rattle.warg_store.proofs.ForCallers.{read_then, read_leaves, leaves_then, leaves_weaker, beside_committing, committing_then}
 
 module _ {F : Type 0} (seen : F → Files) (may_leave : F → Files → Type 0) (moment : F → ℕ)
     (left_since : F → ℕ → Files → Type 0)
@@ -58,6 +60,14 @@ module _ {F : Type 0} (seen : F → Files) (may_leave : F → Files → Type 0) 
         (IsCommitting served old next (seen first)) (now first)
         (λ c left. beside_committing served old next (seen first) c keeps (staging c left)) read
 
+    -- what it leaves is one of both
+    pub one_read : (first last : F) → Keeps served old (seen first) → IsStaging (seen first) (may_leave first)
+        → IsRead seen may_leave moment left_since first last
+        → LeavesOnly moment left_since first last (IsOneOf served old next)
+    one_read first last keeps staging read = leaves_weaker seen may_leave moment left_since first last
+        (IsCommitting served old next (seen first)) (IsOneOf served old next) (read_only first last keeps staging read)
+        (λ c was. was.one)
+
     -- and a commit behind it
     pub read_then_commit : (first mid last : F) → Keeps served old (seen first)
         → IsStaging (seen first) (may_leave first) → IsRead seen may_leave moment left_since first mid
@@ -67,3 +77,16 @@ module _ {F : Type 0} (seen : F → Files) (may_leave : F → Files → Type 0) 
         leaves_then seen may_leave moment left_since first mid last (IsCommitting served old next (seen first))
         (read_only first mid keeps staging read)
         (subst (λ (f : Files). LeavesOnly moment left_since mid last (IsCommitting served old next f)) read.found commit)
+
+-- a log that is only read goes on so
+pub log_read_then : {F : Type 0} (seen : F → Files) (may_leave : F → Files → Type 0) (moment : F → ℕ)
+    (left_since : F → ℕ → Files → Type 0)
+    → ((folder : F) (t : ℕ) (c : Files) → t ≤ moment folder → may_leave folder c → left_since folder t c)
+    → (known mid new : LogIn F) → IsLogRead seen may_leave moment left_since known mid
+    → new ≡ record mid { folder = new.folder } → IsRead seen may_leave moment left_since mid.folder new.folder
+    → IsLogRead seen may_leave moment left_since known new
+log_read_then {F = F} seen may_leave moment left_since counts known mid new read same then = record {
+  same = same ∙ ap (λ (l : LogIn F). record l { folder = new.folder }) read.same;
+  read = read_then seen may_leave moment left_since known.folder mid.folder new.folder (counts known.folder) read.read
+      then;
+}

@@ -5,7 +5,10 @@ mod Refused
 mod Listed
 mod RegistryPages
 mod RegistryGrowth
+mod Pruned
+mod Replaying
 mod FolderMoments
 mod Publishing
+mod WhilePruned
 mod PremiseLemmas
 pub mod ForCallers

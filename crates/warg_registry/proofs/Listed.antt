@@ -15,15 +15,15 @@ first_there xs x = (0, omega arith, refl)
 pub later_there : {X : Type 0} (xs : List X) (x y : X) → Contains xs x → Contains (y ∷ xs) x
 later_there xs x y h = Contains-append_right (y ∷ []) xs x h
 
+pub of_one : {X : Type 0} (y x : X) → Contains (y ∷ []) x → y ≡ x
+of_one y x (zero, lt, e) = e
+of_one y x (suc k, lt, e) = absurd (omega (arith, lt))
+
 pub there_cases : {X : Type 0} (xs : List X) (x y : X) → Contains (y ∷ xs) x → (y ≡ x) ⊎ Contains xs x
 there_cases xs x y h = elim (Contains-append_cases (y ∷ []) xs x h) [
-  | inl one ↦ inl (only x y one)
+  | inl one ↦ inl (of_one y x one)
   | inr more ↦ inr more
 ]
-  where
-    only : {X : Type 0} (x y : X) → Contains (y ∷ []) x → y ≡ x
-    only x y (zero, lt, e) = e
-    only x y (suc k, lt, e) = absurd (omega (arith, lt))
 
 -- what is made of an element
 pub mapped_there : {X Y : Type 0} (f : X → Y) (xs : List X) (x : X) → Contains xs x → Contains (map f xs) (f x)

@@ -1,4 +1,6 @@
+pub mod Auditing
 pub mod Folder
 pub mod Insertions
+pub mod Pruning
 pub mod Reading
 pub mod Registry

@@ -178,8 +178,11 @@ impl<F: Folder + Drop> RegistryFolder<F> {
         }
     }
 
-    /// Removes of the log what [`LogFolder::prune`] removes. The pages stay, those of earlier insertions, too. Returns how
-    /// many files it removed. After an error, open the folder again.
+    /// Removes what neither the newest state nor the served checkpoint needs: pages of older versions, and of the log what
+    /// [`LogFolder::prune`] removes. First it visits all pages of both, each by its digest: where one is missing or corrupt,
+    /// `Damaged` names it, and nothing is removed. Returns how many files it removed. After an error, open the folder again.
+    ///
+    /// It reads each page that is needed once, or twice where both states have it, and keeps the names of all.
     pub fn prune(&mut self) -> Result<usize, LogError>
         ensures pruned { F.IsFaithful → OnOk result ((origin : List ℕ) (served kept : List (List ℕ × List ℕ))
             → HasRegistry F.seen F.may_leave origin served kept self.old
@@ -189,7 +192,11 @@ impl<F: Folder + Drop> RegistryFolder<F> {
             → LeavesOnly F.moment F.left_since self.old.log.folder self.new.log.folder
             (IsOneOf (registry_of origin served) (registry_of origin kept) (registry_of origin kept)) }
     {
-        self.pages.log.prune()
+        let spare = self.pages.spare(&self.map.root, self.map.version)?;
+        let log = &mut self.pages.log;
+        let pruned = log.prune()?;
+        log.remove_pages(spare.as_slice())?;
+        Ok(pruned.saturating_add(spare.len()))
     }
 
     /// The checkpoint of the registry's log: what the last commit has kept.

@@ -4,12 +4,14 @@
 //! The definitions that the contracts cite stand in `specs/`: read Insertions first, then Registry and Folder.
 #![tactic(auto)]
 
+mod audit;
 mod error;
 mod extension;
 mod folder;
 mod insertion;
 pub mod laws;
 pub mod premises;
+mod pruning;
 mod reader;
 mod source;
 

@@ -6,7 +6,6 @@ ghost use Rattle.warg_crypto.specs.Tree.{leaf_digest};
 ghost use Rattle.warg_map.specs.Bits.{key_bits};
 ghost use Rattle.warg_map.specs.ProofValue.{proof_value};
 ghost use Rattle.warg_pages.specs.ProvedKeys.{LeadsTo, IsProved};
-ghost use Rattle.warg_store.specs.Audited.{IsOfEntries};
 ghost use Rattle.warg_store.specs.Log.{HasLog, Serves};
 ghost use Rattle.warg_store.specs.Reading.{checkpoint_said};
 ghost use Rattle.warg_registry.specs.Folder.{registry_of, IsNoFault};
@@ -21,7 +20,7 @@ use std::marker::Model;
 use warg_crypto::{Hash, Sha256};
 use warg_log::Checkpoint;
 use warg_pages::{KeyInPages, prove_by_pages};
-use warg_store::{Folder, LogError, LogReader, Progress};
+use warg_store::{Folder, LogError, LogReader};
 
 /// What a registry has under a key, with the peers of the map's proof, from the bottom of the tree to the top.
 #[derive(Drop)]
@@ -35,9 +34,9 @@ pub enum KeyInRegistry {
 /// A registry as a folder serves it, for those who read: no call changes the folder, and none needs a lock.
 #[derive(Drop)]
 pub struct RegistryReader<F: Folder + Drop> {
-    alloc: Global,
-    pages: ServedPages<F>,
-    root: Hash<Sha256>,
+    pub(crate) alloc: Global,
+    pub(crate) pages: ServedPages<F>,
+    pub(crate) root: Hash<Sha256>,
 }
 
 impl<F: Folder + Drop> Model for RegistryReader<F> {
@@ -86,13 +85,6 @@ impl<F: Folder + Drop> RegistryReader<F> {
         let RegistryReader { pages, .. } = self;
         let ServedPages { log, .. } = pages;
         log
-    }
-
-    /// As [`LogReader::audit`]: the entries have the checkpoint's root. It doesn't look at the map's pages.
-    pub fn audit<P: Progress>(&mut self, progress: &mut P) -> Result<Checkpoint<Sha256>, LogError>
-        ensures entries { IfOk result IsOfEntries }
-    {
-        self.pages.log.audit(progress)
     }
 
     /// What the registry has under a key: the value of the last insertion under the key's digest, with the index of its

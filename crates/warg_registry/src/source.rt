@@ -33,6 +33,8 @@ impl<F: Folder + Drop> Pages<Global> for KeptPages<F> {
 
     ghost bytes_at = { λ known. page_found (F.seen known.folder) };
 
+    ghost tells_all = { λ _. Unit {0} };
+
     fn page(&mut self, prefix: &[u8], version: u64) -> Result<Vec<u8>, LogError> {
         let path = page_path(self.alloc, prefix, version)?;
         let found = self.log.page(below_map(path.as_str()), MOST)?;
@@ -63,6 +65,8 @@ impl<F: Folder + Drop> Pages<Global> for ServedPages<F> {
         × IsRead F.seen F.may_leave F.moment F.left_since known.0.folder pages.log.folder) };
 
     ghost bytes_at = { λ known. found_if known.1 (page_found (F.seen known.0.folder)) };
+
+    ghost tells_all = { λ known. known.1 ≡ true };
 
     fn page(&mut self, prefix: &[u8], version: u64) -> Result<Vec<u8>, LogError> {
         let path = page_path(self.alloc, prefix, version)?;

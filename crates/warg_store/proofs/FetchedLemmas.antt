@@ -1,7 +1,7 @@
 -- What is made of a log's own tiles and bundles is the log's.
 use Rattle.std.proofs.Common.{◌≡◌, ℕ, ◌+◌, ◌-◌, ◌*◌, ◌/◌, ◌%◌, ◌^◌, ◌<◌, ◌≤◌, List, [], ◌∷◌, ◌++◌, length, take, drop, min, get_or, Some, sym, ap, subst, ◌∙◌, arith}
 use Rattle.std.specs.List.{slice_get}
-use Rattle.std.proofs.lemmas.List.{append-nil, length-map, length-drop, length-take-le, get_or-drop, get_or-take}
+use Rattle.std.proofs.lemmas.List.{append-nil, take_min, length-map, length-drop, length-take-le, get_or-drop, get_or-take}
 use Rattle.std.proofs.lemmas.Option.{slice_get_within, slice_get-get_or, get_or_from_slice_get}
 use Rattle.std.proofs.Math.Nat.{div-one}
 use Rattle.warg_crypto.specs.Digests.{sha256}
@@ -15,13 +15,13 @@ use Rattle.warg_tiles.specs.Between.{IsTileOf}
 use Rattle.warg_tiles.specs.TileData.{Tiles, IsTileBy, digest_by}
 use Rattle.warg_tiles.specs.TileLog.{tile_digests}
 use Rattle.warg_tiles.specs.EntryBundles.{bundle_of}
-use Rattle.warg_tiles.proofs.ForCallers.{bundle_once, digest_by_own, low_level, tile_own}
+use Rattle.warg_tiles.proofs.ForCallers.{bundle_once, bundle_same, digest_by_own, low_level, tile_own}
 use Rattle.warg_store.specs.Files.{Files}
 use Rattle.warg_store.specs.Moments.{Within}
 use Rattle.warg_store.specs.Log.{LogOf, IsTileIn, IsBundleIn, bundle_bytes, Keeps, ArePagesStaged}
 use Rattle.warg_store.specs.Growing.{LogIn, Has, AreFullStaged}
 use Rattle.warg_store.proofs.ReadyLemmas.{staging_kept}
-use Rattle.warg_store.specs.Reading.{inclusion_in, consistency_in}
+use Rattle.warg_store.specs.Reading.{bundle_in, inclusion_in, consistency_in}
 use Rattle.warg_store.specs.Private.Fetched.{AreOwn}
 use Rattle.warg_protobuf.proofs.ForCallers.{all_push}
 use Rattle.warg_store.proofs.GrowingLemmas.{same_tile}
@@ -115,6 +115,25 @@ entry_tile log t index count is below level number width =
       fits = omega (arith, below, width, number, is);
       place = omega (arith, number);
     }
+
+-- The bundle of a number is one of the log.
+pub bundle_tile : (log : LogOf) (t : TileAt) (bundle count : ℕ) → length log.entries ≡ count → 256 * bundle < count
+    → t.level ≡ 0 → t.number ≡ bundle → t.width ≡ min (count - 256 * bundle) 256 → IsEntryTile log t (256 * bundle)
+bundle_tile log t bundle count is below level number width =
+    let number_of : 256 * bundle / 256 ≡ bundle = omega arith in
+    entry_tile log t (256 * bundle) count is below level (number ∙ sym number_of)
+    (width ∙ ap (λ n. min (count - 256 * n) 256) (sym number_of))
+
+-- and its bytes have its entries
+pub own_bundle : (log : LogOf) (t : TileAt) (bundle count : ℕ) (es : List (List ℕ)) → length log.entries ≡ count
+    → t.number ≡ bundle → t.width ≡ min (count - 256 * bundle) 256 → bundle_of es ≡ bundle_bytes log t
+    → es ≡ bundle_in log bundle
+own_bundle log t bundle count es is number width same =
+    let behind = drop (256 * bundle) log.entries in
+    let wide : t.width ≡ min 256 (length behind) = omega (arith, width, is, length-drop (256 * bundle) log.entries) in
+    bundle_same es (take t.width (drop (256 * t.number) log.entries)) same
+    ∙ ap (λ n. take t.width (drop (256 * n) log.entries)) number
+    ∙ ap (λ n. take n behind) wide ∙ take_min 256 behind
 
 -- Reading changes nothing of what a log has.
 pub has_read : {F : Type 0} (seen : F → Files) (may_leave : F → Files → Type 0) (served old next : LogOf) (l : LogIn F)

@@ -1,5 +1,5 @@
 -- What is read out of a log's folder.
-use Rattle.std.specs.Prelude.{◌≡◌, ◌⊎◌, ℕ, List, Option, Some}
+use Rattle.std.specs.Prelude.{◌≡◌, ◌⊎◌, ◌*◌, ℕ, List, take, drop, Option, Some}
 use Rattle.warg_crypto.specs.Digests.{sha256}
 use Rattle.warg_crypto.specs.Tree.{leaf_digest}
 use Rattle.warg_log.specs.Claims.{RootAndLength}
@@ -30,6 +30,10 @@ pub record AreOfLog (log : LogOf) (checkpoint : RootAndLength) (files : Files) :
   pub can : CanBeKept log
   pub said : checkpoint ≡ checkpoint_said (said_of log)
   pub holds : HasFiles log files
+
+-- The entries of a bundle, from 0: 256 of them, or those that are left in the last one.
+abbrev pub bundle_in : LogOf → ℕ → List (List ℕ)
+bundle_in log bundle = take 256 (drop (256 * bundle) log.entries)
 
 -- The inclusion path of the entry at an index in the log of the first `length` entries (RFC 6962, section 2.1.1).
 abbrev pub inclusion_in : LogOf → ℕ → ℕ → Option (List (List ℕ))

@@ -8,16 +8,17 @@ ghost use Rattle.warg_store.specs.Refusals.{IsNoFailure};
 
 use crate::committing::{MOST_TEXT, commit};
 use crate::device::{Folder, FolderError};
-use crate::edge::{entries_of, read_bundle, read_tile};
+use crate::edge::read_tile;
 use crate::error::LogError;
 use crate::log::stage_tiles;
 use crate::names::STATE;
 use crate::opening::read_state;
+use crate::reading::read_entries;
 use crate::recovery::recover;
 use std::alloc::Global;
 use warg_crypto::Sha256;
 use warg_log::{Checkpoint, GREATEST_LENGTH, LogBuilder};
-use warg_tiles::{CheckpointText, StoredTile, Tile, TileLog};
+use warg_tiles::{CheckpointText, StoredTile, TileLog};
 
 /// Told how far a long run has come.
 pub trait Progress {
@@ -149,48 +150,23 @@ fn replay_bundle<F: Folder, P: Progress>(
     ensures cause { HasCauseOf (LogError.Folder FolderError.Failed) F.IsFaithful
         (F.faults folder.old) (F.faults folder.new) result }
 {
-    let width = (length - 256 * number).min(256);
-    let tile = Tile::new(0, number, width);
-    push_bundle(alloc, folder, log, &tile, progress)?;
+    let entries = read_entries(alloc, folder, number, length)?;
+    push_all(log, entries.as_slice(), progress)?;
     use_tiles(alloc, folder, use_as, log.take_full().as_slice())
 }
 
-// Adds the entries of a bundle.
-fn push_bundle<F: Folder, P: Progress>(
-    alloc: Global,
-    folder: &mut F,
-    log: &mut TileLog<Sha256, Vec<u8>>,
-    tile: &Tile,
-    progress: &mut P,
-) -> Result<(), LogError>
-    requires level { tile.now.level ≡ 0 }
-    requires has { HasEntries log.old }
-    ensures has { OnOk result (HasEntries log.new) }
-    ensures staging { F.IsFaithful → IsStaging (F.seen folder.old) (F.may_leave folder.old)
-        → OnOk result (IsStaging (F.seen folder.new) (F.may_leave folder.new)) }
-    ensures cause { HasCauseOf (LogError.Folder FolderError.Failed) F.IsFaithful
-        (F.faults folder.old) (F.faults folder.new) result }
-{
-    let bytes = read_bundle(alloc, folder, tile)?;
-    let entries = entries_of(alloc, tile, bytes.as_slice())?;
-    push_all(alloc, log, entries.as_slice(), progress)
-}
-
+// Adds entries to a log.
 fn push_all<P: Progress>(
-    alloc: Global,
     log: &mut TileLog<Sha256, Vec<u8>>,
-    entries: &[&[u8]],
+    entries: &[Vec<u8>],
     progress: &mut P,
 ) -> Result<(), LogError>
     requires { HasEntries log.old }
     ensures has { OnOk result (HasEntries log.new) }
     ensures other { IfErr result IsNoFailure }
 {
-    let mut bytes = Vec::new(alloc);
     'entries: for entry in entries {
-        bytes.clear();
-        bytes.extend_from_slice(entry)?;
-        push_one(log, &bytes)?;
+        push_one(log, entry)?;
         progress.step();
     }
     Ok(())

@@ -9,7 +9,7 @@ ghost use Rattle.warg_tiles.specs.TileLog.{StandsFor, tile_digests};
 ghost use Rattle.warg_tiles.specs.TilePaths.{tile_path, entries_path};
 ghost use Rattle.warg_store.specs.Growing.{ArePartsOf};
 ghost use Rattle.warg_store.specs.Log.{LogOf, AreShort, CanBeKept, IsBundleIn, HasFiles, said_of, tile_bytes, bundle_bytes};
-ghost use Rattle.warg_store.specs.Moments.{Within, LeavesOnly, HasCauseOf};
+ghost use Rattle.warg_store.specs.Moments.{Within, Elapses, LeavesOnly, HasCauseOf};
 ghost use Rattle.warg_store.specs.Opening.{IsStaging};
 ghost use Rattle.warg_store.specs.Reading.{checkpoint_said};
 ghost use Rattle.warg_store.specs.Refusals.{IsNoFault, IsNoFailure};
@@ -161,6 +161,7 @@ pub(crate) fn read_bundle<F: Folder>(
         → IfErr result (IsNoFault ⊥) }
     ensures seen { F.IsFaithful → F.seen folder.new ≡ F.seen folder.old }
     ensures crash { F.IsFaithful → Within (F.may_leave folder.old) (F.may_leave folder.new) }
+    ensures time { F.IsFaithful → Elapses F.moment F.left_since F.may_leave folder.old folder.new }
     ensures any_moment { F.IsFaithful
         → OnOk result (LeavesOnly F.moment F.left_since folder.old folder.new (F.may_leave folder.old)) }
     ensures ready { F.IsFaithful → IsStaging (F.seen folder.old) (F.may_leave folder.old)

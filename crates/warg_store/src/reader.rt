@@ -1,12 +1,12 @@
 //! A log as a folder serves it, as whoever reads it holds it.
 
-ghost use Rattle.std.specs.Prelude.{◌≡◌, ◌⊎◌, ◌+◌, ◌<◌, ◌≤◌, length, take, Some, IfOk, IfErr, MatchResult, option_map, slice_get};
+ghost use Rattle.std.specs.Prelude.{◌≡◌, ◌⊎◌, ◌+◌, ◌-◌, ◌*◌, ◌<◌, ◌≤◌, length, map, take, min, Some, IfOk, IfErr, OnOk, MatchResult, option_map, slice_get};
 ghost use Rattle.warg_tiles.specs.CheckpointText.{text_of};
 ghost use Rattle.warg_store.specs.Audited.{IsOfEntries};
 ghost use Rattle.warg_store.specs.Log.{LogOf, HasLog, Serves, IsOneOf};
 ghost use Rattle.warg_store.specs.Moments.{IsRead, HasCause, HasCauseOf, HasLostCause};
 ghost use Rattle.warg_store.specs.Names.{page_name};
-ghost use Rattle.warg_store.specs.Reading.{Reads, checkpoint_said, inclusion_in, consistency_in, IsShown, IncludesBy, GrowsBy};
+ghost use Rattle.warg_store.specs.Reading.{Reads, checkpoint_said, bundle_in, inclusion_in, consistency_in, IsShown, IncludesBy, GrowsBy};
 ghost use Rattle.warg_store.specs.Refusals.{IsNoFault};
 
 use crate::auditing::{Progress, audited};
@@ -15,7 +15,7 @@ use crate::edge::{open_edge, read_edge};
 use crate::error::LogError;
 use crate::opening::read_newest;
 use crate::pages::read_page;
-use crate::reading::{Path, entry, growth, inclusion};
+use crate::reading::{Path, entry, growth, inclusion, read_entries};
 use std::alloc::Global;
 use std::marker::Model;
 use warg_crypto::Sha256;
@@ -131,6 +131,30 @@ impl<F: Folder + Drop> LogReader<F> {
     {
         let checkpoint = self.text.checkpoint();
         entry(self.alloc, &mut self.folder, index, &checkpoint)
+    }
+
+    /// The entries of a bundle, from 0: 256 of them, or those that are left in the last one. They aren't compared with
+    /// the checkpoint's root. `OutOfRange` where the log has no such bundle; `Damaged` where its file is missing, or
+    /// isn't one of so many entries. It changes nothing.
+    pub fn entries(&mut self, bundle: usize) -> Result<Vec<Vec<u8>>, LogError>
+        ensures inside { OnOk result (256 * bundle < self.old.text.length) }
+        ensures count { IfOk result (λ entries. length entries.items ≡ min (self.old.text.length - 256 * bundle) 256) }
+        ensures own { F.IsFaithful → IfOk result (λ entries. (log : LogOf) → Reads F.seen log self.old
+            → map (λ e. e.items) entries.items ≡ bundle_in log bundle) }
+        ensures whole { F.IsFaithful → (log : LogOf) → Reads F.seen log self.old
+            → IfErr result (IsNoFault (length log.entries ≤ 256 * bundle)) }
+        ensures same { self.new ≡ record self.old { folder = self.new.folder } }
+        ensures read { F.IsFaithful
+            → IsRead F.seen F.may_leave F.moment F.left_since self.old.folder self.new.folder }
+        ensures cause { HasCauseOf (LogError.Folder FolderError.Failed) F.IsFaithful
+            (F.faults self.old.folder) (F.faults self.new.folder) result }
+    {
+        let length = self.text.checkpoint().length();
+        let bundles = length.div_ceil(256);
+        if bundle >= bundles {
+            return Err(LogError::OutOfRange { bound: bundles });
+        }
+        read_entries(self.alloc, &mut self.folder, bundle, length)
     }
 
     /// As [`LogFolder::inclusion_path`], of the checkpoint.

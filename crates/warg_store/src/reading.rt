@@ -1,6 +1,6 @@
 //! Entries and paths out of a log's folder, each once it leads to the root of the log's state.
 
-ghost use Rattle.std.specs.Prelude.{◌≡◌, ◌⊎◌, ◌*◌, ◌<◌, ◌≤◌, ℕ, List, [], length, take, true, Some, Ok, IfOk, IfErr, IfSome, IsSomeAnd, OnOk, IsTrue, slice_get, slice_index_or};
+ghost use Rattle.std.specs.Prelude.{◌≡◌, ◌⊎◌, ◌-◌, ◌*◌, ◌<◌, ◌≤◌, ℕ, List, [], length, map, take, min, true, Some, Ok, IfOk, IfErr, IfSome, IsSomeAnd, OnOk, IsTrue, slice_get, slice_index_or};
 ghost use Rattle.warg_crypto.specs.Digests.{sha256};
 ghost use Rattle.warg_log.specs.Cut.{old_over};
 ghost use Rattle.warg_log.specs.Ranges.{leaves_from};
@@ -11,9 +11,9 @@ ghost use Rattle.warg_tiles.specs.TileData.{digest_by};
 ghost use Rattle.warg_store.specs.Audited.{IsOfEntries};
 ghost use Rattle.warg_store.specs.Growing.{Has};
 ghost use Rattle.warg_store.specs.Log.{LogOf, AreShort, HasFiles};
-ghost use Rattle.warg_store.specs.Moments.{Within, HasCauseOf};
+ghost use Rattle.warg_store.specs.Moments.{Within, IsRead, HasCauseOf};
 ghost use Rattle.warg_store.specs.Private.Fetched.{AreOwn};
-ghost use Rattle.warg_store.specs.Reading.{checkpoint_said, AreOfLog, inclusion_in, consistency_in, LeadsTo, IsShown, IncludesBy, GrowsBy};
+ghost use Rattle.warg_store.specs.Reading.{checkpoint_said, AreOfLog, bundle_in, inclusion_in, consistency_in, LeadsTo, IsShown, IncludesBy, GrowsBy};
 ghost use Rattle.warg_store.specs.Refusals.{IsNoFault, IsNoFailure};
 
 use crate::auditing::{Progress, audited};
@@ -161,6 +161,42 @@ fn read_entry<F: Folder>(
         Some(entry) => Ok(entry.to_vec(alloc)?),
         None => Err(damaged_entry(alloc, index)),
     }
+}
+
+/// The entries of a bundle, from 0, as the file of a log of so many entries has them.
+pub(crate) fn read_entries<F: Folder>(
+    alloc: Global,
+    folder: &mut F,
+    bundle: usize,
+    log_length: usize,
+) -> Result<Vec<Vec<u8>>, LogError>
+    requires { 256 * bundle < log_length }
+    ensures count { IfOk result (λ entries. length entries.items ≡ min (log_length - 256 * bundle) 256) }
+    ensures own { F.IsFaithful → IfOk result (λ entries. (log : LogOf) → HasFiles log (F.seen folder.old)
+        → AreShort log.entries → length log.entries ≡ log_length
+        → map (λ e. e.items) entries.items ≡ bundle_in log bundle) }
+    ensures whole { F.IsFaithful → (log : LogOf) → HasFiles log (F.seen folder.old)
+        → AreShort log.entries → length log.entries ≡ log_length → IfErr result (IsNoFault ⊥) }
+    ensures read { F.IsFaithful → IsRead F.seen F.may_leave F.moment F.left_since folder.old folder.new }
+    ensures cause { HasCauseOf (LogError.Folder FolderError.Failed) F.IsFaithful
+        (F.faults folder.old) (F.faults folder.new) result }
+{
+    let tile = Tile::new(0, bundle, (log_length - 256 * bundle).min(256));
+    let bytes = read_bundle(alloc, folder, &tile)?;
+    let entries = entries_of(alloc, &tile, bytes.as_slice())?;
+    Ok(copies(alloc, entries.as_slice())?)
+}
+
+// The same entries, as bytes of their own.
+fn copies(alloc: Global, entries: &[&[u8]]) -> Result<Vec<Vec<u8>>, FolderError>
+    ensures copies { IfOk result (λ copies. map (λ e. e.items) copies.items ≡ map (λ e. e.now) entries.now) }
+    ensures memory { IfErr result (λ error. error ≡ FolderError.Memory) }
+{
+    let mut copies = Vec::new(alloc);
+    'entries: for entry in entries {
+        copies.push(entry.to_vec(alloc)?)?;
+    }
+    Ok(copies)
 }
 
 fn damaged_entry(alloc: Global, index: usize) -> LogError

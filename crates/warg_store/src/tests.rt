@@ -208,6 +208,32 @@ fn a_page_and_a_line_are_kept(rt: HostRuntime) -> Result<(), Fail> {
     Ok(())
 }
 
+// A reader of a folder whose log has so many entries, of two bytes each.
+fn reader_of(alloc: Global, count: usize) -> Result<LogReader<MemoryFolder>, Fail> {
+    let mut log = new_log(alloc)?;
+    push_some(&mut log, 0, count)?;
+    log.commit()?;
+    Ok(LogReader::open(alloc, log.into_folder())?)
+}
+
+#[test]
+fn bundles_have_the_entries_that_were_pushed(rt: HostRuntime) -> Result<(), Fail> {
+    let alloc = rt.alloc();
+    let mut reader = reader_of(alloc, 257)?;
+    let mut found = reader.entries(0)?;
+    assert_eq!(rt; found.len(), 256);
+    for entry in reader.entries(1)? {
+        found.push(entry)?;
+    }
+    assert_eq!(rt; found.len(), 257);
+    for (number, entry) in found.as_slice().iter().enumerate() {
+        let pushed = [(number / 256 % 256) as u8, (number % 256) as u8];
+        assert_eq!(rt; entry.as_slice(), pushed.as_slice());
+    }
+    assert!(rt; reader.entries(2) == Err(LogError::OutOfRange { bound: 2 }));
+    Ok(())
+}
+
 // The page at a path, as a log's folder has it.
 fn page_of(log: &mut LogFolder<MemoryFolder>, path: &str) -> Result<Vec<u8>, Fail> {
     Ok(log.page(path, 9)?.ok_or("no page")?)

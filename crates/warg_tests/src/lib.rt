@@ -9,9 +9,12 @@ mod faults;
 #[cfg(test)]
 mod map;
 #[cfg(test)]
+mod pages;
+#[cfg(test)]
 mod program;
 #[cfg(test)]
 mod registry;
+#[cfg(test)]
 mod registry_folder;
 #[cfg(test)]
 mod text;

@@ -5,13 +5,13 @@ use std::test::Fail;
 use warg_crypto::Sha256;
 use warg_map::Map;
 use warg_registry::{KeyInRegistry, RegistryError, RegistryFolder, RegistryReader};
-use warg_store::{Call, Folder, LogFolder, LogReader, MemoryFolder};
+use warg_store::{Call, Folder, LogError, LogFolder, LogReader, MemoryFolder, Progress};
 
 const FIRST: [(&[u8], &[u8]); 3] = [(b"a", b"one"), (b"b", b"two"), (b"a", b"three")];
 
 const NEXT: [(&[u8], &[u8]); 2] = [(b"c", b""), (b"b", b"five")];
 
-// A registry of both, and how many calls on its folder the first one took.
+// A registry of both, pruned, and how many calls on its folder the first one took.
 fn published(alloc: Global) -> Result<(MemoryFolder, usize), Fail> {
     let folder = MemoryFolder::new(alloc);
     let mut registry = RegistryFolder::create(alloc, folder, b"example.com/registry")?;
@@ -20,6 +20,9 @@ fn published(alloc: Global) -> Result<(MemoryFolder, usize), Fail> {
     let calls = folder.calls().len();
     let mut registry = RegistryFolder::open(alloc, folder)?;
     registry.publish(&NEXT)?;
+    if registry.prune()? != 1 {
+        return Err(Fail::from("the page of the first version"));
+    }
     Ok((registry.into_folder(), calls))
 }
 
@@ -78,26 +81,78 @@ fn after(alloc: Global, calls: &[Call]) -> Result<MemoryFolder, Fail> {
     Ok(folder)
 }
 
+// Whether a folder serves the first registry or the next one.
+fn serves_one(alloc: Global, folder: MemoryFolder) -> Result<bool, Fail> {
+    let mut reader = RegistryReader::open(alloc, folder)?;
+    let length = reader.checkpoint().length();
+    let found = reader.get(b"b")?;
+    if length == 3 {
+        return Ok(is_held(found, 1, b"two"));
+    }
+    Ok(length == 5 && is_held(found, 4, b"five"))
+}
+
+// Whether a folder's registry goes on.
+fn goes_on(alloc: Global, folder: MemoryFolder) -> Result<bool, Fail> {
+    let mut opened = RegistryFolder::open(alloc, folder)?;
+    opened.publish(&[(b"d", b"six")])?;
+    let mut reader = RegistryReader::open(alloc, opened.into_folder())?;
+    let found = reader.get(b"d")?;
+    Ok(is_held(reader.get(b"a")?, 2, b"three") && matches!(found, KeyInRegistry::Held(..)))
+}
+
 #[test]
 fn each_moment_serves_one_registry_or_the_next(rt: HostRuntime) -> Result<(), Fail> {
     let alloc = rt.alloc();
     let (folder, first) = published(alloc)?;
     for moment in first..folder.calls().len() + 1 {
-        let calls = &folder.calls()[..moment];
-        let mut reader = RegistryReader::open(alloc, after(alloc, calls)?)?;
-        let is_next = reader.checkpoint().length() == 5;
-        assert!(rt; is_next || reader.checkpoint().length() == 3);
-        let (index, value) = if is_next {
-            (4, b"five".as_slice())
-        } else {
-            (1, b"two".as_slice())
-        };
-        assert!(rt; is_held(reader.get(b"b")?, index, value));
-        let mut opened = RegistryFolder::open(alloc, after(alloc, calls)?)?;
-        opened.publish(&[(b"d", b"six")])?;
-        let mut reader = RegistryReader::open(alloc, opened.into_folder())?;
-        assert!(rt; is_held(reader.get(b"a")?, 2, b"three"));
-        assert!(rt; matches!(reader.get(b"d")?, KeyInRegistry::Held(..)));
+        let is_one = serves_one(alloc, after(alloc, &folder.calls()[..moment])?)?;
+        assert!(rt; is_one);
+    }
+    Ok(())
+}
+
+#[test]
+fn a_registry_goes_on_at_each_moment(rt: HostRuntime) -> Result<(), Fail> {
+    let alloc = rt.alloc();
+    let (folder, first) = published(alloc)?;
+    for moment in first..folder.calls().len() + 1 {
+        let does = goes_on(alloc, after(alloc, &folder.calls()[..moment])?)?;
+        assert!(rt; does);
+    }
+    Ok(())
+}
+
+// How many entries were read.
+#[derive(Drop)]
+struct Steps(usize);
+
+impl Progress for Steps {
+    fn step(&mut self) {
+        self.0 = self.0.saturating_add(1);
+    }
+}
+
+#[test]
+fn a_pruned_registry_passes_an_audit(rt: HostRuntime) -> Result<(), Fail> {
+    let alloc = rt.alloc();
+    let (folder, _) = published(alloc)?;
+    let mut reader = RegistryReader::open(alloc, folder)?;
+    let checkpoint = reader.audit(&mut Steps(0))?;
+    assert!(rt; checkpoint.length() == 5);
+    assert!(rt; checkpoint == reader.checkpoint());
+    Ok(())
+}
+
+#[test]
+fn an_audit_names_a_page_that_was_changed(rt: HostRuntime) -> Result<(), Fail> {
+    let alloc = rt.alloc();
+    let (mut folder, _) = published(alloc)?;
+    folder.replace("map/5", b"no page")?;
+    let mut reader = RegistryReader::open(alloc, folder)?;
+    match reader.audit(&mut Steps(0)) {
+        Err(LogError::Damaged(damage)) => assert!(rt; damage.name.as_str() == "map/5"),
+        _ => return Err(Fail::from("a page that was changed")),
     }
     Ok(())
 }

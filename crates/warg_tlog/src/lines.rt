@@ -24,13 +24,6 @@ const NO_INSERTION: &str =
 
 type Reader = <HostRuntime as Input>::Reader;
 
-/// A key and the value that it is to have.
-#[derive(Drop)]
-pub struct Insertion {
-    pub key: Vec<u8>,
-    pub value: Vec<u8>,
-}
-
 /// The lines of standard input, one at a time.
 #[derive(Drop)]
 pub struct Lines {
@@ -107,8 +100,11 @@ impl Lines {
         Ok(true)
     }
 
-    /// Goes on to the next line and returns its entry; none at the end of the input.
-    pub fn next_entry(&mut self) -> Result<Option<&[u8]>, Refusal> {
+    /// Goes on to the next entry, in digits on a line or else in bytes; none at the end of the input.
+    pub fn next_entry(&mut self, is_binary: bool) -> Result<Option<&[u8]>, Refusal> {
+        if is_binary {
+            return self.next_binary();
+        }
         if !self.go_on_whole()? {
             return Ok(None);
         }
@@ -116,27 +112,24 @@ impl Lines {
     }
 
     /// Goes on to the next line and returns its key and its value; none at the end of the input.
-    pub fn next_insertion(&mut self) -> Result<Option<Insertion>, Refusal> {
+    pub fn next_insertion(&mut self) -> Result<Option<(Vec<u8>, Vec<u8>)>, Refusal> {
         if !self.go_on_whole()? {
             return Ok(None);
         }
-        let Some((key, value)) = digits_of_two(self.line()) else {
-            return Err(self.refused(NO_INSERTION));
-        };
-        if key.len() > 2 * MOST_INSERTION || value.len() > 2 * MOST_INSERTION - key.len() {
-            return Err(self.refused(
-                "is too long: a key and its value have at most 65,519 bytes together",
-            ));
+        let line = self.line();
+        let (key, value) = line.split_at(memchr(b' ', line).unwrap_or(line.len()));
+        let value = value.strip_prefix(b" ").unwrap_or(value);
+        let key = decoded(self.alloc, key)?.ok_or(self.refused(NO_INSERTION))?;
+        let value = decoded(self.alloc, value)?.ok_or(self.refused(NO_INSERTION))?;
+        if key.len().saturating_add(value.len()) > MOST_INSERTION {
+            let fault = "is too long: a key and its value have at most 65,519 bytes together";
+            return Err(self.refused(fault));
         }
-        match (decoded(self.alloc, key)?, decoded(self.alloc, value)?) {
-            (Some(key), Some(value)) => Ok(Some(Insertion { key, value })),
-            _ => Err(self.refused(NO_INSERTION)),
-        }
+        Ok(Some((key, value)))
     }
 
-    /// The next entry as a bundle has it: two bytes of length, the greater one first, and then its
-    /// bytes; none at the end of the input.
-    pub fn next_binary(&mut self) -> Result<Option<&[u8]>, Refusal> {
+    // The next entry as a bundle has it: two bytes of length, the greater one first, and its bytes.
+    fn next_binary(&mut self) -> Result<Option<&[u8]>, Refusal> {
         self.number = self.number.saturating_add(1);
         self.gather(2)?;
         let length = match self.entry.as_slice() {
@@ -174,26 +167,15 @@ fn without_end(line: &[u8]) -> &[u8] {
     line.strip_suffix(b"\r").unwrap_or(line)
 }
 
-// The digits of a line's two words, which one space parts.
-fn digits_of_two(line: &[u8]) -> Option<(&[u8], &[u8])> {
-    let space = memchr(b' ', line)?;
-    Some((digits_of(&line[..space])?, digits_of(&line[space + 1..])?))
-}
-
-/// The digits of a word: none for `-`. No digits are no word.
-pub fn digits_of(word: &[u8]) -> Option<&[u8]> {
+/// The bytes of a word of hexadecimal digits, or of none for `-`, if it is such.
+pub fn decoded(alloc: Global, word: &[u8]) -> Result<Option<Vec<u8>>, AllocError> {
     match word {
-        [] => None,
-        [b'-'] => Some(&[]),
-        digits => Some(digits),
-    }
-}
-
-/// The bytes of hexadecimal digits, if they are such.
-pub fn decoded(alloc: Global, digits: &[u8]) -> Result<Option<Vec<u8>>, AllocError> {
-    match hex::decode(alloc, digits) {
-        Ok(bytes) => Ok(Some(bytes)),
-        Err(FromHexError::OutOfMemory) => Err(AllocError),
-        Err(_) => Ok(None),
+        [] => Ok(None),
+        [b'-'] => Ok(Some(Vec::new(alloc))),
+        digits => match hex::decode(alloc, digits) {
+            Ok(bytes) => Ok(Some(bytes)),
+            Err(FromHexError::OutOfMemory) => Err(AllocError),
+            Err(_) => Ok(None),
+        },
     }
 }

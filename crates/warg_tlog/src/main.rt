@@ -1,30 +1,24 @@
-//! `warg_tlog`: a transparency log, or a registry, in a folder, as files that any web server serves
-//! (C2SP tlog-tiles, tlog-checkpoint).
-//!
-//! The exit status is 0 where all went well, 1 for a claim that `verify` finds false, and else that
-//! of the refusal, which is one line on standard error.
+//! `warg_tlog`: a transparency log, or a registry, in a folder, as files that any web server serves (C2SP tlog-tiles,
+//! tlog-checkpoint). The exit status is 0 where all went well, 1 for a claim that `verify` finds false, and else that of the
+//! refusal, which is one line on standard error.
 #![tactic(auto)]
 
 mod lines;
-mod read;
+mod log;
 mod refusal;
 mod registry;
 mod session;
 mod usage;
 mod verify;
-mod write;
 
 use clap::ArgMatches;
-use read::{print_audit, print_checkpoint, print_consistency, print_inclusion};
 use refusal::Refusal;
-use registry::{print_key, publish};
 use session::Session;
 use std::env;
 use std::io::ErrorKind;
 use std::process::ExitCode;
 use usage::{command, text};
 use verify::verify;
-use write::{append, init, prune, put_page, rebuild, sign};
 
 fn main(rt: HostRuntime) -> ExitCode {
     match answer(&rt) {
@@ -68,9 +62,7 @@ fn run_command(rt: &HostRuntime, matches: &ArgMatches<'_>) -> Result<bool, Refus
     };
     let session = Session::new(rt, text(asked, "FOLDER"));
     if name == "verify" {
-        let verdict = verify(rt)?;
-        session.said(println!(rt; "{verdict}"))?;
-        return Ok(verdict);
+        return verify(&session);
     }
     if session.folder.is_empty() {
         return Err(Refusal::Argument("the folder has no name"));
@@ -82,29 +74,17 @@ fn run_command(rt: &HostRuntime, matches: &ArgMatches<'_>) -> Result<bool, Refus
 // Does what a command on a folder asks for.
 fn run(session: &Session<'_>, name: &str, asked: &ArgMatches<'_>) -> Result<(), Refusal> {
     match name {
-        "init" => init(session, asked),
-        "append" => {
-            let (first, length) = append(session, asked)?;
-            session.said(println!(session.rt; "first {first}, length {length}"))
-        }
-        "publish" => {
-            let (first, length) = publish(session, asked)?;
-            session.said(println!(session.rt; "first {first}, length {length}"))
-        }
-        "sign" => sign(session),
-        "prune" => {
-            let removed = prune(session)?;
-            session.said(println!(session.rt; "{removed} files removed"))
-        }
-        "rebuild" => {
-            let length = rebuild(session)?;
-            session.said(println!(session.rt; "tiles of {length} entries made again"))
-        }
-        "page" => put_page(session),
-        "checkpoint" => print_checkpoint(session),
-        "prove" => print_inclusion(session, asked),
-        "consistency" => print_consistency(session, asked),
-        "get" => print_key(session, asked),
-        _ => print_audit(session),
+        "init" => log::init(session, asked),
+        "append" => log::append(session, asked),
+        "publish" => registry::publish(session, asked),
+        "sign" => log::sign(session),
+        "prune" => log::prune(session),
+        "rebuild" => log::rebuild(session),
+        "page" => log::put_page(session),
+        "checkpoint" => log::print_checkpoint(session),
+        "prove" => log::print_inclusion(session, asked),
+        "consistency" => log::print_consistency(session, asked),
+        "get" => registry::print_key(session, asked),
+        _ => log::audit(session),
     }
 }

@@ -6,7 +6,7 @@ use std::io;
 use std::io::ErrorKind;
 use thiserror::Error;
 use warg_registry::{PublishError, RegistryError};
-use warg_store::{CommitError, CreateError, Damage, FolderError, LogError, PushError, SignError};
+use warg_store::{CreateError, Damage, FolderError, LogError, SignError};
 
 /// Why a command is refused: a line on standard error.
 #[derive(Debug, Drop, Error)]
@@ -15,8 +15,6 @@ pub enum Refusal {
     Argument(&'static str),
     #[error("{0}; see warg_tlog --help")]
     Arguments(String),
-    #[error("--from has to be LENGTH:ROOT, the root in base64 or hexadecimal digits")]
-    From,
     #[error("line {0} of standard input {1}")]
     Line(usize, &'static str),
     #[error("an entry on standard input has more than 65,535 bytes")]
@@ -63,7 +61,7 @@ impl Refusal {
     /// The exit status.
     pub fn status(&self) -> u8 {
         match self {
-            Refusal::Argument(_) | Refusal::Arguments(_) | Refusal::From => 2,
+            Refusal::Argument(_) | Refusal::Arguments(_) => 2,
             Refusal::Line(..) | Refusal::LongEntry | Refusal::Note(_) => 3,
             Refusal::NoLog(_) => 4,
             Refusal::Exists(_) => 5,
@@ -112,77 +110,20 @@ impl Refusal {
 }
 
 impl Session<'_> {
-    /// The refusal for a call on the folder.
-    pub fn of_folder(&self, error: FolderError) -> Result<Refusal, Refusal> {
-        match error {
-            FolderError::Memory => Ok(Refusal::Memory(AllocError)),
-            FolderError::Failed => match self.fault.take() {
-                Some(fault) if fault.is_read => Ok(Refusal::of_read(fault.path, fault.error)),
-                Some(fault) => Ok(Refusal::of_write(fault.path, fault.error)),
-                None => Ok(Refusal::Lost(self.name()?)),
-            },
+    /// What a call on a log or a registry returned, or the refusal for it.
+    pub fn done<T: Drop, E: Into<PublishError>>(&self, done: Result<T, E>) -> Result<T, Refusal> {
+        match done {
+            Ok(value) => Ok(value),
+            Err(error) => Err(self.refusal(error.into())?),
         }
     }
 
-    /// The refusal for a call on the log.
-    pub fn of_log(&self, error: LogError) -> Result<Refusal, Refusal> {
-        match error {
-            LogError::NoLog => Ok(Refusal::NoLog(self.name()?)),
-            LogError::Damaged(damage) => self.of_damage(&damage),
-            LogError::RolledBack { found, newest } => {
-                Ok(Refusal::RolledBack(self.path("checkpoint")?, found, newest))
-            }
-            LogError::OutOfRange { bound } => Ok(Refusal::OutOfRange(bound)),
-            LogError::Folder(error) => self.of_folder(error),
-        }
-    }
-
-    /// The refusal for opening a registry.
-    pub fn of_registry(&self, error: RegistryError) -> Result<Refusal, Refusal> {
-        match error {
-            RegistryError::NoMap => Ok(Refusal::NoMap(self.name()?)),
-            RegistryError::Log(error) => self.of_log(error),
-        }
-    }
-
-    /// The refusal for insertions.
-    pub fn of_publish(&self, error: PublishError) -> Result<Refusal, Refusal> {
-        match error {
-            PublishError::TooLong => Ok(Refusal::LongEntry),
-            PublishError::Full => Ok(Refusal::Full),
-            PublishError::Closed => Ok(Refusal::Lost(self.name()?)),
-            PublishError::Log(error) => self.of_log(error),
-        }
-    }
-
-    // The refusal for a file that isn't what it is to be.
-    fn of_damage(&self, damage: &Damage) -> Result<Refusal, Refusal> {
-        let path = self.path(damage.name.as_str())?;
-        Ok(match damage.name.as_str() {
-            "checkpoint" => Refusal::DamagedText(path, damage.fault, ".log/state"),
-            ".log/state" => Refusal::DamagedText(path, damage.fault, "checkpoint"),
-            name if name.starts_with("map/") => Refusal::DamagedPage(path, damage.fault),
-            _ => Refusal::Damaged(path, damage.fault),
-        })
-    }
-
-    /// The refusal for an entry.
-    pub fn of_push(&self, error: PushError) -> Result<Refusal, Refusal> {
-        match error {
-            PushError::TooLong => Ok(Refusal::LongEntry),
-            PushError::Full => Ok(Refusal::Full),
-            PushError::Closed => Ok(Refusal::Lost(self.name()?)),
-            PushError::Folder(error) => self.of_folder(error),
-        }
-    }
-
-    /// The refusal for a commit.
-    pub fn of_commit(&self, error: CommitError) -> Result<Refusal, Refusal> {
-        match error {
-            CommitError::Memory => Ok(Refusal::Memory(AllocError)),
-            CommitError::TooLong => Ok(Refusal::Full),
-            CommitError::Closed => Ok(Refusal::Lost(self.name()?)),
-            CommitError::Folder(error) => self.of_folder(error),
+    /// What became of a registry that was to be opened.
+    pub fn opened<T: Drop>(&self, opened: Result<T, RegistryError>) -> Result<T, Refusal> {
+        match opened {
+            Ok(registry) => Ok(registry),
+            Err(RegistryError::NoMap) => Err(Refusal::NoMap(self.name()?)),
+            Err(RegistryError::Log(error)) => self.done(Err(error)),
         }
     }
 
@@ -201,5 +142,42 @@ impl Session<'_> {
             SignError::Text | SignError::TooLong => Ok(Refusal::Note(self.path(".log/state")?)),
             SignError::Folder(error) => self.of_folder(error),
         }
+    }
+
+    // The refusal for a call on a log or a registry.
+    fn refusal(&self, error: PublishError) -> Result<Refusal, Refusal> {
+        Ok(match error {
+            PublishError::TooLong => Refusal::LongEntry,
+            PublishError::Full => Refusal::Full,
+            PublishError::Closed => Refusal::Lost(self.name()?),
+            PublishError::Log(LogError::NoLog) => Refusal::NoLog(self.name()?),
+            PublishError::Log(LogError::Damaged(damage)) => self.of_damage(&damage)?,
+            PublishError::Log(LogError::RolledBack { found, newest }) => {
+                Refusal::RolledBack(self.path("checkpoint")?, found, newest)
+            }
+            PublishError::Log(LogError::OutOfRange { bound }) => Refusal::OutOfRange(bound),
+            PublishError::Log(LogError::Folder(error)) => self.of_folder(error)?,
+        })
+    }
+
+    /// The refusal for a call on the folder.
+    pub fn of_folder(&self, error: FolderError) -> Result<Refusal, Refusal> {
+        match (error, self.fault.take()) {
+            (FolderError::Memory, _) => Ok(Refusal::Memory(AllocError)),
+            (_, Some(fault)) if fault.is_read => Ok(Refusal::of_read(fault.path, fault.error)),
+            (_, Some(fault)) => Ok(Refusal::of_write(fault.path, fault.error)),
+            (_, None) => Ok(Refusal::Lost(self.name()?)),
+        }
+    }
+
+    // The refusal for a file that isn't what it is to be.
+    fn of_damage(&self, damage: &Damage) -> Result<Refusal, Refusal> {
+        let path = self.path(damage.name.as_str())?;
+        Ok(match damage.name.as_str() {
+            "checkpoint" => Refusal::DamagedText(path, damage.fault, ".log/state"),
+            ".log/state" => Refusal::DamagedText(path, damage.fault, "checkpoint"),
+            name if name.starts_with("map") => Refusal::DamagedPage(path, damage.fault),
+            _ => Refusal::Damaged(path, damage.fault),
+        })
     }
 }

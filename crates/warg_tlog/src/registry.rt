@@ -1,36 +1,31 @@
 //! The commands of a registry alone: it is a log of insertions, and serves the map that they make.
 
-use crate::lines::{Insertion, Lines, decoded, digits_of};
+use crate::lines::{Lines, decoded};
+use crate::log::length_of;
 use crate::refusal::Refusal;
 use crate::session::{Counted, Session};
 use crate::usage::text;
-use crate::write::check_from;
 use clap::ArgMatches;
 use std::alloc::{AllocError, Global};
 use warg_crypto::{Hash, Sha256};
 use warg_protobuf::{MapInclusionProof, MapProofBundle, OptionalHash};
-use warg_registry::KeyInRegistry;
+use warg_registry::{KeyInRegistry, RegistryFolder, RegistryReader};
 use warg_store::Progress;
 
-/// Adds the insertions of standard input, all of them or none. Returns the index of the first one and the new length.
-pub fn publish(session: &Session<'_>, asked: &ArgMatches<'_>) -> Result<(usize, usize), Refusal> {
+/// Adds the insertions of standard input, all of them or none, and prints the index of the first one and the new length.
+pub fn publish(session: &Session<'_>, asked: &ArgMatches<'_>) -> Result<(), Refusal> {
     let alloc = session.rt.alloc();
     let _lock = session.lock()?;
-    let mut registry = session.registry(session.files()?)?;
-    if let Some(from) = asked.get_str("from") {
-        check_from(from, &registry.checkpoint())?;
-    }
-    let first = registry.checkpoint().length();
+    let mut registry = session.opened(RegistryFolder::open(alloc, session.files()?))?;
+    let first = length_of(asked, &registry.checkpoint())?;
     let insertions = read_insertions(session)?;
     let borrowed = borrowed(alloc, insertions.as_slice())?;
-    registry
-        .publish(borrowed.as_slice())
-        .try_map_err(|error| session.of_publish(error))?;
-    Ok((first, registry.checkpoint().length()))
+    session.done(registry.publish(borrowed.as_slice()))?;
+    session.say_added(first, registry.checkpoint().length())
 }
 
 // The insertions of standard input.
-fn read_insertions(session: &Session<'_>) -> Result<Vec<Insertion>, Refusal> {
+fn read_insertions(session: &Session<'_>) -> Result<Vec<(Vec<u8>, Vec<u8>)>, Refusal> {
     let mut insertions = Vec::new(session.rt.alloc());
     let mut lines = Lines::new(session.rt)?;
     let mut counted = Counted(session.rt, 0);
@@ -45,10 +40,13 @@ fn read_insertions(session: &Session<'_>) -> Result<Vec<Insertion>, Refusal> {
 }
 
 // The insertions as a registry takes them.
-fn borrowed(alloc: Global, insertions: &[Insertion]) -> Result<Vec<(&[u8], &[u8])>, AllocError> {
+fn borrowed(
+    alloc: Global,
+    insertions: &[(Vec<u8>, Vec<u8>)],
+) -> Result<Vec<(&[u8], &[u8])>, AllocError> {
     let mut pairs = Vec::new(alloc);
-    'insertions: for insertion in insertions {
-        pairs.push((insertion.key.as_slice(), insertion.value.as_slice()))?;
+    'insertions: for (key, value) in insertions {
+        pairs.push((key.as_slice(), value.as_slice()))?;
     }
     Ok(pairs)
 }
@@ -56,35 +54,29 @@ fn borrowed(alloc: Global, insertions: &[Insertion]) -> Result<Vec<(&[u8], &[u8]
 /// Prints what the registry has under a key, with its proof.
 pub fn print_key(session: &Session<'_>, asked: &ArgMatches<'_>) -> Result<(), Refusal> {
     let alloc = session.rt.alloc();
-    let key = key_in(alloc, text(asked, "KEY"))?;
-    let mut registry = session.registry_reader(session.files()?)?;
-    let found = registry.get(key.as_slice());
-    let (said, proofs, absences) = match found.try_map_err(|error| session.of_log(error))? {
+    let fault = "a key is two hexadecimal digits for each byte, or - for no bytes";
+    let key = decoded(alloc, text(asked, "KEY").as_bytes())?.ok_or(Refusal::Argument(fault))?;
+    let mut registry = session.opened(RegistryReader::open(alloc, session.files()?))?;
+    let mut bundle = MapProofBundle {
+        proofs: Vec::new(alloc),
+        absences: Vec::new(alloc),
+    };
+    let said = match session.done(registry.get(key.as_slice()))? {
         KeyInRegistry::Held(index, value, peers) => {
-            let value = digits_or_none(alloc, value.as_slice())?;
-            let said = format!(in alloc; "value {value}\nindex {index}")?;
-            (said, one_proof(alloc, peers.as_slice())?, Vec::new(alloc))
+            bundle.proofs.push(proof_of(alloc, peers.as_slice())?)?;
+            let value = digits_of(alloc, value.as_slice())?;
+            format!(in alloc; "value {value}\nindex {index}")?
         }
         KeyInRegistry::Absent(peers) => {
-            let said = String::from_str(alloc, "absent")?;
-            (said, Vec::new(alloc), one_proof(alloc, peers.as_slice())?)
+            bundle.absences.push(proof_of(alloc, peers.as_slice())?)?;
+            String::from_str(alloc, "absent")?
         }
     };
-    let bundle = MapProofBundle { proofs, absences }.encode(alloc)?;
-    let bundle = digits_or_none(alloc, bundle.as_slice())?;
+    let bundle = digits_of(alloc, bundle.encode(alloc)?.as_slice())?;
     session.said(println!(session.rt; "{said}\nproof {bundle}"))
 }
 
-// The key of an argument.
-fn key_in(alloc: Global, word: &str) -> Result<Vec<u8>, Refusal> {
-    let fault = "a key is two hexadecimal digits for each byte, or - for no bytes";
-    let Some(digits) = digits_of(word.as_bytes()) else {
-        return Err(Refusal::Argument(fault));
-    };
-    decoded(alloc, digits)?.ok_or(Refusal::Argument(fault))
-}
-
-fn digits_or_none(alloc: Global, bytes: &[u8]) -> Result<String, AllocError> {
+fn digits_of(alloc: Global, bytes: &[u8]) -> Result<String, AllocError> {
     if bytes.is_empty() {
         String::from_str(alloc, "-")
     } else {
@@ -93,21 +85,17 @@ fn digits_or_none(alloc: Global, bytes: &[u8]) -> Result<String, AllocError> {
 }
 
 // The proof of these peers, as a bundle has it.
-fn one_proof(
+fn proof_of(
     alloc: Global,
     peers: &[Option<Hash<Sha256>>],
-) -> Result<Vec<MapInclusionProof>, AllocError> {
+) -> Result<MapInclusionProof, AllocError> {
     let mut hashes = Vec::new(alloc);
     'peers: for peer in peers {
-        hashes.push(optional_hash(alloc, peer)?)?;
+        let hash = match peer {
+            Some(peer) => Some(Vec::from_slice(alloc, peer.bytes())?),
+            None => None,
+        };
+        hashes.push(OptionalHash { hash })?;
     }
-    Ok(vec![in alloc; MapInclusionProof { hashes }]?)
-}
-
-fn optional_hash(alloc: Global, peer: &Option<Hash<Sha256>>) -> Result<OptionalHash, AllocError> {
-    let hash = match peer {
-        Some(peer) => Some(Vec::from_slice(alloc, peer.bytes())?),
-        None => None,
-    };
-    Ok(OptionalHash { hash })
+    Ok(MapInclusionProof { hashes })
 }

@@ -8,10 +8,7 @@ use std::io::ErrorKind;
 use std::os::unix::fs::OpenOptionsExt;
 use std::path::Path;
 use std::{fs, io};
-use warg_crypto::Sha256;
-use warg_registry::{RegistryFolder, RegistryReader};
 use warg_store::{Fault, LogFolder, LogReader, Progress, SystemFolder};
-use warg_tiles::CheckpointText;
 
 /// A run on one folder.
 #[derive(Drop)]
@@ -40,32 +37,14 @@ impl<'a> Session<'a> {
 
     /// The folder's log, for those who read.
     pub fn reader(&self) -> Result<LogReader<SystemFolder<'_>>, Refusal> {
-        LogReader::open(self.rt.alloc(), self.files()?).try_map_err(|error| self.of_log(error))
+        self.done(LogReader::open(self.rt.alloc(), self.files()?))
     }
 
     /// The folder's lock, and its log, for the one who writes.
     pub fn writer(&self) -> Result<(File, LogFolder<SystemFolder<'_>>), Refusal> {
         let lock = self.lock()?;
-        let log = LogFolder::open(self.rt.alloc(), self.files()?);
-        Ok((lock, log.try_map_err(|error| self.of_log(error))?))
-    }
-
-    /// The registry of a folder, for the one who holds its lock.
-    pub fn registry<'f>(
-        &self,
-        files: SystemFolder<'f>,
-    ) -> Result<RegistryFolder<SystemFolder<'f>>, Refusal> {
-        let registry = RegistryFolder::open(self.rt.alloc(), files);
-        registry.try_map_err(|error| self.of_registry(error))
-    }
-
-    /// The registry of a folder, for those who read.
-    pub fn registry_reader<'f>(
-        &self,
-        files: SystemFolder<'f>,
-    ) -> Result<RegistryReader<SystemFolder<'f>>, Refusal> {
-        let registry = RegistryReader::open(self.rt.alloc(), files);
-        registry.try_map_err(|error| self.of_registry(error))
+        let log = self.done(LogFolder::open(self.rt.alloc(), self.files()?))?;
+        Ok((lock, log))
     }
 
     /// Makes the folder, and those above it, where they aren't there, and forces their names.
@@ -158,6 +137,11 @@ impl<'a> Session<'a> {
         let path = String::from_str(self.rt.alloc(), "standard output")?;
         done.map_err(|error| Refusal::of_write(path, error))
     }
+
+    /// Prints where the entries begin that were added, and the new length.
+    pub fn say_added(&self, first: usize, length: usize) -> Result<(), Refusal> {
+        self.said(println!(self.rt; "first {first}, length {length}"))
+    }
 }
 
 /// A count of entries, of which a line on standard error tells each million.
@@ -172,10 +156,4 @@ impl Progress for Counted<'_> {
         }
         self.1 = count;
     }
-}
-
-/// Whether a checkpoint's text is a registry's: a further line is to name its map's root.
-pub fn names_map(text: &CheckpointText<Sha256>) -> bool {
-    let mut lines = text.extensions().iter();
-    lines.any(|line| line.as_slice().starts_with(b"map "))
 }

@@ -2,8 +2,9 @@
 
 use crate::lines::Lines;
 use crate::refusal::Refusal;
+use crate::session::Session;
 use base64::engine::general_purpose::STANDARD;
-use std::alloc::Global;
+use std::alloc::{AllocError, Global};
 use warg_crypto::{Hash, Sha256};
 use warg_log::Checkpoint;
 use warg_paths::{check_record, check_tree};
@@ -21,12 +22,18 @@ enum Claim {
     Consistency(Checkpoint<Sha256>, Checkpoint<Sha256>),
 }
 
-/// Whether the path on standard input shows the claim above it.
-pub fn verify(rt: &HostRuntime) -> Result<bool, Refusal> {
+/// Says whether the path on standard input shows the claim above it, and prints that.
+pub fn verify(session: &Session<'_>) -> Result<bool, Refusal> {
+    let verdict = judged(session.rt)?;
+    session.said(println!(session.rt; "{verdict}"))?;
+    Ok(verdict)
+}
+
+fn judged(rt: &HostRuntime) -> Result<bool, Refusal> {
     let alloc = rt.alloc();
     let mut lines = Lines::new(rt)?;
     next(&mut lines)?;
-    match claim_in(lines.line()) {
+    match claim_in(alloc, lines.line())? {
         Some(Claim::Inclusion(index, checkpoint)) => {
             next(&mut lines)?;
             let entry = Vec::from_slice(alloc, lines.entry()?)?;
@@ -66,23 +73,24 @@ fn path_in(alloc: Global, lines: &mut Lines) -> Result<Vec<Hash<Sha256>>, Refusa
 }
 
 // The claim of a line.
-fn claim_in(line: &[u8]) -> Option<Claim> {
-    let mut words = str::from_utf8(line).ok()?.split(' ');
-    let claim = match words.next()? {
-        "inclusion" => {
-            let index = words.next()?.parse().ok()?;
-            Claim::Inclusion(index, checkpoint_of(words.next()?, words.next()?)?)
+fn claim_in(alloc: Global, line: &[u8]) -> Result<Option<Claim>, AllocError> {
+    let words: Vec<&str> = str::from_utf8(line)
+        .unwrap_or("")
+        .split(' ')
+        .collect(alloc)?;
+    Ok(claim_of(words.as_slice()))
+}
+
+fn claim_of(words: &[&str]) -> Option<Claim> {
+    match words {
+        ["inclusion", index, length, root] => {
+            Some(Claim::Inclusion(index.parse().ok()?, checkpoint_of(length, root)?))
         }
-        "consistency" => {
-            let old = checkpoint_of(words.next()?, words.next()?)?;
-            Claim::Consistency(old, checkpoint_of(words.next()?, words.next()?)?)
+        ["consistency", old, old_root, new, new_root] => {
+            let old = checkpoint_of(old, old_root)?;
+            Some(Claim::Consistency(old, checkpoint_of(new, new_root)?))
         }
-        _ => return None,
-    };
-    if words.next().is_some() {
-        None
-    } else {
-        Some(claim)
+        _ => None,
     }
 }
 
@@ -92,12 +100,9 @@ pub fn checkpoint_of(length: &str, root: &str) -> Option<Checkpoint<Sha256>> {
 }
 
 fn root_in(word: &str) -> Option<Hash<Sha256>> {
-    if let Ok(root) = word.parse::<Hash<Sha256>>() {
-        return Some(root);
-    }
     let mut root = [0; 32];
     match STANDARD.decode_slice(word.as_bytes(), &mut root) {
         Ok(32) => Some(Hash::from_array(root)),
-        _ => None,
+        _ => word.parse().ok(),
     }
 }

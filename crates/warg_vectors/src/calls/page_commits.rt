@@ -91,6 +91,8 @@ impl<D: SupportedDigest, M: Memory> Pages<M> for Stock<D, M> {
 
     ghost bytes_at = { λ _ _ _. None };
 
+    ghost tells_all = { λ _. ⊥ };
+
     fn page(&mut self, prefix: &[u8], version: u64) -> Result<Vec<u8, M>, NotLent> {
         for page in &self.pages {
             if page.prefix.as_slice() == prefix && page.version == version {

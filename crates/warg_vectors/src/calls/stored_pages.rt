@@ -51,6 +51,8 @@ impl<M: Memory> Pages<M> for Way<M> {
 
     ghost bytes_at = { λ _ _ _. None };
 
+    ghost tells_all = { λ _. ⊥ };
+
     fn page(&mut self, prefix: &[u8], version: u64) -> Result<Vec<u8, M>, NotLent> {
         match self.pages.as_slice().get(prefix.len()) {
             Some(page) if page.prefix.as_slice() == prefix && page.version == version => {

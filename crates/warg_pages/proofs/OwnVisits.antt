@@ -1,0 +1,180 @@
+-- A visit of the pages of insertions finds each of them.
+use Rattle.std.proofs.Common.{◌≡◌, ℕ, zero, suc, ◌+◌, ◌-◌, ◌*◌, ◌^◌, ◌<◌, ◌≤◌, Bool, true, false, eqb, List, [], ◌∷◌, ◌++◌, length, Option, Some, None, refl, sym, ap, subst, ◌∙◌, arith, length-append, append_assoc}
+use Rattle.std.proofs.lemmas.List.{append-nil}
+use Rattle.std.proofs.Math.Seq.{get_or-append_seam}
+use Rattle.std.proofs.lemmas.List.Elements.{Contains-append_left, Contains-append_right}
+use Rattle.std.specs.Prelude.{find, IfSome}
+use Rattle.std.specs.Bool.{then_some}
+use Rattle.std.specs.List.{All, Contains}
+use Rattle.warg_crypto.specs.Digests.{IsByte}
+use Rattle.warg_crypto.specs.Collisions.{GivesHashes}
+use Rattle.warg_crypto.specs.Tree.{leaf_digest}
+use Rattle.warg_map.specs.Last.{last_with}
+use Rattle.warg_map.specs.Sparse.{root_of_levels, map_of}
+use Rattle.warg_pages.specs.Prefixes.{bits_of_bytes, byte_bits, is_below, below, version}
+use Rattle.warg_pages.specs.Slots.{SlotAt, is_lone, slot_over, slot_of, page_of}
+use Rattle.warg_pages.specs.Pages.{slot_at}
+use Rattle.warg_pages.specs.ChangedPages.{ChangedPageAt, page_at}
+use Rattle.warg_pages.specs.OwnPages.{stands, stands_over}
+use Rattle.warg_pages.specs.ProvedKeys.{IsOwnSource}
+use Rattle.warg_pages.specs.Visits.{AreOfSlot, AreOfSlots, AreFrom, AreAllPages, IsAllowed}
+use Rattle.warg_pages.specs.Private.Visited.{IsOwnFrom, IsOwnSlot}
+use Rattle.warg_pages.proofs.KeyPrefixes.{length-bits_from}
+use Rattle.warg_pages.proofs.LoneSlots.{some_same}
+use Rattle.warg_pages.proofs.MoreInsertions.{none_longer}
+use Rattle.warg_pages.proofs.OwnDescent.{own_slot_at}
+use Rattle.warg_pages.proofs.PrefixBytes.{bits-append, bits-more}
+use Rattle.warg_pages.proofs.SlotsAfter.{no_page_lone}
+use Rattle.warg_pages.proofs.VisitedPages.{own_root, own_page, own_below}
+
+-- pages of a slot among those of all
+record AreAmong (H : List ℕ → List ℕ) (From : List ℕ → ℕ → List ℕ → List ChangedPageAt → Type 0) (prefix : List ℕ)
+    (x : SlotAt) (pages : List ChangedPageAt) : Type 0 where
+  before : List ChangedPageAt
+  these : List ChangedPageAt
+  after : List ChangedPageAt
+  parts : pages ≡ before ++ (these ++ after)
+  of_slot : AreOfSlot H From prefix x x.lone these
+
+-- the pages below the slot of a byte are among those below slots
+of_byte : (H : List ℕ → List ℕ) (From : List ℕ → ℕ → List ℕ → List ChangedPageAt → Type 0) (prefix : List ℕ) (s : ℕ)
+    (x : SlotAt) (slots : List SlotAt) (pages : List ChangedPageAt) → slot_at slots s ≡ Some x
+    → AreOfSlots H From prefix slots pages → AreAmong H From prefix x pages
+unfolding AreOfSlots
+of_byte H From prefix s x [] pages e all = absurd (cc)
+of_byte H From prefix s x (y ∷ ys) pages e all = by_test (eqb y.byte s) refl (λ h. of_byte H From prefix s x ys all.1 h all.4)
+  where
+    by_test : (b : Bool) → eqb y.byte s ≡ b → (slot_at ys s ≡ Some x → AreAmong H From prefix x all.1)
+        → AreAmong H From prefix x pages
+    by_test true t rest =
+        let same : y ≡ x = some_same (rw t at e) in
+        let P : SlotAt → Type 0 = λ z. AreOfSlot H From prefix z z.lone all.0 in
+        record { before = []; these = all.0; after = all.1; parts = all.2; of_slot = subst P same all.3 }
+    by_test false t rest =
+        let found = rest (rw t at e) in record {
+          before = all.0 ++ found.before;
+          these = found.these;
+          after = found.after;
+          parts = all.2 ∙ ap (λ r. all.0 ++ r) found.parts
+              ∙ sym (append_assoc all.0 found.before (found.these ++ found.after));
+          of_slot = found.of_slot;
+        }
+
+-- the slot of a byte, on the way to a page further on
+record IsSlotAbove (H : List ℕ → List ℕ) (es : List (List ℕ × List ℕ)) (prefix : List ℕ) (s : ℕ) : Type 0 where
+  slot : SlotAt
+  is_slot : slot_of H es (bits_of_bytes prefix) s ≡ Some slot
+  is_byte : slot.byte ≡ s
+  no_lone : slot.lone ≡ None
+
+slot_above : (H : List ℕ → List ℕ) (es : List (List ℕ × List ℕ)) (prefix : List ℕ) (s : ℕ) (rest : List ℕ)
+    → stands H es (bits_of_bytes (prefix ++ s ∷ rest)) ≡ true → IsSlotAbove H es prefix s
+slot_above H es prefix s rest there = by_last (last_with (is_below H p) es) refl
+  where
+    p : List Bool
+    p = bits_of_bytes prefix ++ byte_bits s
+
+    r : List Bool
+    r = bits_of_bytes rest
+
+    bits : bits_of_bytes (prefix ++ s ∷ rest) ≡ p ++ r
+    bits = ap bits_of_bytes (sym (append_assoc prefix (s ∷ []) rest)) ∙ bits-append (prefix ++ s ∷ []) rest
+        ∙ ap (λ q. q ++ r) (bits-more prefix s)
+
+    is_there : stands H es (p ++ r) ≡ true
+    is_there = ap (stands H es) (sym bits) ∙ there
+
+    some : 0 < length p
+    some = (let n = length-append (bits_of_bytes prefix) (byte_bits s) in let m = length-bits_from (s ∷ []) 0 8 in omega arith)
+
+    slot : List ℕ × List ℕ → Bool → SlotAt
+    slot e b = record {
+      byte = s;
+      version = version H es p;
+      digest = root_of_levels H (256 - length p) (below (map_of H es) p);
+      lone = then_some b (H e.0, leaf_digest H e.1);
+    }
+
+    by_lone : (e : List ℕ × List ℕ) → last_with (is_below H p) es ≡ Some e → (b : Bool) → is_lone H es p e ≡ b
+        → IsSlotAbove H es prefix s
+    by_lone e l true t = absurd (no_page_lone H es p r e some l t is_there)
+    by_lone e l false t = record {
+      slot = slot e false;
+      is_slot = ap (slot_over H es p s) l ∙ ap (λ b. Some (slot e b)) t;
+      is_byte = refl;
+      no_lone = refl;
+    }
+
+    by_last : (last : Option (List ℕ × List ℕ)) → last_with (is_below H p) es ≡ last → IsSlotAbove H es prefix s
+    by_last None l =
+        let no : stands H es (p ++ r) ≡ false = ap (stands_over H es (p ++ r)) (none_longer H p r es l) in
+        absurd (let both : true ≡ false = sym is_there ∙ no in cc)
+    by_last (Some e) l = by_lone e l (is_lone H es p e) refl
+
+-- each page is among those of a visit from a prefix on
+own_among : (H : List ℕ → List ℕ) → GivesHashes H → (bytes_at : List ℕ → ℕ → Option (List ℕ)) (tells_all : Type 0)
+    (es : List (List ℕ × List ℕ)) (n : ℕ) (prefix digest : List ℕ) (number : ℕ) (pages : List ChangedPageAt)
+    (rest : List ℕ) → AreFrom H (IsAllowed bytes_at tells_all) n prefix number digest pages
+    → IsOwnFrom H bytes_at prefix number digest es → All IsByte (prefix ++ rest) → length (prefix ++ rest) < 32
+    → stands H es (bits_of_bytes (prefix ++ rest)) ≡ true → Contains pages (page_at H es (prefix ++ rest))
+unfolding AreFrom
+own_among H gives f T es zero prefix digest number pages rest from own are_bytes short there = absurd from
+own_among H gives f T es (suc n) prefix digest number pages [] from own are_bytes short there =
+    let lt : length prefix < 32 = (let k = length-append prefix [] in omega arith) in
+    let page = own_page H gives f prefix digest number from.0 es lt from.3 from.4.allowed own in
+    let first : ChangedPageAt = record { prefix = prefix; version = number; page = from.0 } in
+    let same : first ≡ page_at H es prefix = (λ i. record { prefix = prefix; version = own.is_version i; page = page i }) in
+    let P : List ChangedPageAt → Type 0 = λ ps. Contains ps (page_at H es prefix) in
+    let Q : List ℕ → Type 0 = λ q. Contains pages (page_at H es q) in
+    subst Q (sym (append-nil prefix)) (subst P (sym from.2) (0, omega arith, same))
+own_among H gives f T es (suc n) prefix digest number pages (s ∷ rest) from own are_bytes short there =
+    let From : List ℕ → ℕ → List ℕ → List ChangedPageAt → Type 0 = AreFrom H (IsAllowed f T) n in
+    let lt : length prefix < 32 = (let k = length-append prefix (s ∷ rest) in omega arith) in
+    let page = own_page H gives f prefix digest number from.0 es lt from.3 from.4.allowed own in
+    let byte : s < 256 = subst IsByte (get_or-append_seam prefix s rest 0)
+    (are_bytes (length prefix) 0 (let k = length-append prefix (s ∷ rest) in omega arith)) in
+    let above = slot_above H es prefix s rest there in
+    let x = above.slot in
+    let at : slot_at from.0 s ≡ Some x = ap (λ xs. slot_at xs s) page ∙ own_slot_at H es (bits_of_bytes prefix) s byte
+    ∙ above.is_slot in
+    let found = of_byte H From prefix s x from.0 from.1 at from.6 in
+    let P : Option (List ℕ × List ℕ) → Type 0 = λ o. AreOfSlot H From prefix x o found.these in
+    let below_slot = subst P above.no_lone found.of_slot in
+    let own_slot : IsOwnSlot H f prefix x es = record {
+      pages = own.pages;
+      fits = own.fits;
+      are_bytes = own.are_bytes;
+      is_byte = (let e = above.is_byte in omega arith);
+      is_slot = ap (slot_of H es (bits_of_bytes prefix)) above.is_byte ∙ above.is_slot;
+    } in
+    let longer = prefix ++ x.byte ∷ [] in
+    let whole : longer ++ rest ≡ prefix ++ s ∷ rest = append_assoc prefix (x.byte ∷ []) rest
+    ∙ ap (λ b. prefix ++ b ∷ rest) above.is_byte in
+    let Bytes : List ℕ → Type 0 = λ q. All IsByte q in
+    let there_below = own_among H gives f T es n longer x.digest x.version found.these rest below_slot
+    (own_below H f prefix longer x es refl above.no_lone own_slot) (subst Bytes (sym whole) are_bytes)
+    (let k = ap length whole in omega arith) (ap (λ q. stands H es (bits_of_bytes q)) whole ∙ there) in
+    let target : ChangedPageAt = page_at H es (prefix ++ s ∷ rest) in
+    let Q : List ℕ → Type 0 = λ q. Contains found.these (page_at H es q) in
+    let R : List ChangedPageAt → Type 0 = λ ps. Contains ps target in
+    let first : ChangedPageAt = record { prefix = prefix; version = number; page = from.0 } in
+    subst R (sym (from.2 ∙ ap (λ ps. first ∷ ps) found.parts))
+    (Contains-append_right (first ∷ []) (found.before ++ (found.these ++ found.after)) target
+    (Contains-append_right found.before (found.these ++ found.after) target
+    (Contains-append_left found.these found.after target (subst Q whole there_below))))
+
+pub own_visit : (H : List ℕ → List ℕ) (bytes_at : List ℕ → ℕ → Option (List ℕ)) (tells_all : Type 0) (root : List ℕ)
+    (count : ℕ) (es : List (List ℕ × List ℕ)) (pages : List ChangedPageAt) (prefix : List ℕ) → GivesHashes H
+    → count < 2 ^ 64 → IsOwnSource H bytes_at root count es
+    → AreAllPages H (IsAllowed bytes_at tells_all) root count pages → All IsByte prefix → length prefix < 32
+    → stands H es (bits_of_bytes prefix) ≡ true → Contains pages (page_at H es prefix)
+unfolding last_with
+own_visit H f T root zero es pages prefix gives fits own all are_bytes short there = none es own.all there
+  where
+    none : (es : List (List ℕ × List ℕ)) → length es ≡ 0 → stands H es (bits_of_bytes prefix) ≡ true
+        → Contains pages (page_at H es prefix)
+    none [] e is = absurd (let no : true ≡ false = sym is in cc)
+    none (x ∷ es) e is = absurd (omega arith)
+own_visit H f T root (suc n) es pages prefix gives fits own all are_bytes short there =
+    own_among H gives f T es 32 [] root (suc n) pages prefix all (own_root H f root (suc n) es fits (λ z. omega arith) own)
+    are_bytes short there

@@ -1,0 +1,122 @@
+-- The pages that pruning keeps.
+use Rattle.std.proofs.Common.{◌≡◌, ⊎_elim, ◌⊎◌, ℕ, ◌<◌, ◌≤◌, ◌^◌, Bool, true, false, ◌||◌, List, [], ◌∷◌, ◌++◌, length, map, refl, sym, ap, subst, ◌∙◌, arith, inl, inr}
+use Rattle.std.proofs.lemmas.Bool.{or_parts}
+use Rattle.std.proofs.lemmas.List.{length-map, map-append}
+use Rattle.std.proofs.lemmas.List.Elements.{Contains-append_cases}
+use Rattle.std.proofs.lemmas.Map.Text.{is_eq-slice_cmp}
+use Rattle.std.proofs.lemmas.Slice.Eq.{bytes_eq-Decides}
+use Rattle.std.specs.BTreeMap.{is_at}
+use Rattle.std.specs.BTreeSet.{insert_key}
+use Rattle.std.specs.Cmp.Lexicographic.{slice_cmp}
+use Rattle.std.specs.List.{Contains, list_any}
+use Rattle.std.specs.Ordering.{nat_cmp, is_eq, match_ordering}
+use Rattle.std.specs.String.{string_bytes, string_cmp}
+use Rattle.std.specs.declared.string.String.{String}
+use Rattle.std.specs.declared.alloc.Global.{Global}
+use Rattle.std.specs.declared.cmp.Ordering.{Ordering}
+use Rattle.std.specs.declared.cmp.Ordering.TheVariants.{Less, Equal, Greater}
+use Rattle.warg_crypto.specs.Digests.{sha256, IsDigest}
+use Rattle.warg_crypto.specs.DigestFacts.{IsDigest-sha256}
+use Rattle.warg_map.specs.Sparse.{map_of, sparse_root}
+use Rattle.warg_pages.specs.ChangedPages.{ChangedPageAt, page_at}
+use Rattle.warg_pages.specs.PagePaths.{page_path}
+use Rattle.warg_pages.specs.ProvedKeys.{IsOwnSource}
+use Rattle.warg_pages.specs.Visits.{AreAllPages, IsAllowed}
+use Rattle.warg_pages.proofs.ForCallers.{own_visit}
+use Rattle.warg_tiles.specs.CheckpointText.{Said}
+use Rattle.warg_store.specs.Files.{File, Files}
+use Rattle.warg_store.specs.Log.{Serves}
+use Rattle.warg_store.specs.Log as log
+use Rattle.warg_store.specs.Names.{page_name}
+use Rattle.warg_store.specs.Pruned.{IsNoneOf}
+use Rattle.warg_registry.specs.Folder.{pages_of, page_found, registry_of}
+use Rattle.warg_registry.specs.Insertions.{entry_of}
+use Rattle.warg_registry.specs.Registry.{line_of}
+use Rattle.warg_registry.specs.Pruning.{bytes_of, ArePathsOf, HaveAllPages, AreNone}
+use Rattle.warg_registry.proofs.MapLines.{one_root, map_digest}
+use Rattle.warg_registry.proofs.Listed.{none_there, of_one, first_there, later_there, there_cases}
+use Rattle.warg_registry.proofs.RegistryPages.{page_of_list, own_files}
+
+-- a set has what it had, and what was put in
+pub name_there : (cmp : String Global → String Global → Ordering)
+    → ((x y : String Global) → cmp x y ≡ Equal → string_bytes x ≡ string_bytes y) → (ks : List (String Global))
+    (k : String Global) (n : List ℕ) → Contains (bytes_of ks) n ⊎ (string_bytes k ≡ n)
+    → Contains (bytes_of (insert_key cmp ks k)) n
+name_there cmp same [] k n h = ⊎_elim (λ old. absurd (none_there n old))
+    (λ e. subst (λ m. Contains (string_bytes k ∷ []) m) e (first_there [] (string_bytes k))) h
+name_there cmp same (x ∷ xs) k n h = by_order (cmp k x) refl (name_there cmp same xs k n)
+  where
+    by_order : (o : Ordering) → cmp k x ≡ o
+        → (Contains (bytes_of xs) n ⊎ (string_bytes k ≡ n) → Contains (bytes_of (insert_key cmp xs k)) n)
+        → Contains (bytes_of (match_ordering o (k ∷ x ∷ xs) (x ∷ xs) (x ∷ insert_key cmp xs k))) n
+    by_order Less e rest = ⊎_elim (λ old. later_there (bytes_of (x ∷ xs)) n (string_bytes k) old)
+        (λ new. subst (λ m. Contains (bytes_of (k ∷ x ∷ xs)) m) new (first_there (bytes_of (x ∷ xs)) (string_bytes k))) h
+    by_order Equal e rest = ⊎_elim (λ old. old)
+        (λ new. subst (λ m. Contains (bytes_of (x ∷ xs)) m) (sym (same k x e) ∙ new)
+        (first_there (bytes_of xs) (string_bytes x))) h
+    by_order Greater e rest = ⊎_elim (λ old. ⊎_elim
+        (λ first. subst (λ m. Contains (bytes_of (x ∷ insert_key cmp xs k)) m) first
+        (first_there (bytes_of (insert_key cmp xs k)) (string_bytes x)))
+        (λ more. later_there (bytes_of (insert_key cmp xs k)) n (string_bytes x) (rest (inl more)))
+        (there_cases (bytes_of xs) n (string_bytes x) old))
+        (λ new. later_there (bytes_of (insert_key cmp xs k)) n (string_bytes x) (rest (inr new))) h
+
+-- texts that compare as equal have the same bytes
+pub same_names : (x y : String Global) → string_cmp x y ≡ Equal → string_bytes x ≡ string_bytes y
+same_names x y e = (bytes_eq-Decides (string_bytes x) (string_bytes y)).0
+    (sym (is_eq-slice_cmp (string_bytes x) (string_bytes y)) ∙ ap is_eq e)
+
+-- what a set doesn't have
+pub not_there : (q : List ℕ) (ks : List (String Global)) → list_any (is_at (λ k. slice_cmp nat_cmp q (string_bytes k))) ks
+    ≡ false → Contains (bytes_of ks) q → ⊥
+not_there q [] e h = none_there q h
+not_there q (x ∷ xs) e h =
+    let parts = or_parts (is_eq (slice_cmp nat_cmp q (string_bytes x)))
+    (list_any (is_at (λ k. slice_cmp nat_cmp q (string_bytes k))) xs) e in
+    ⊎_elim (λ here.
+    let yes : is_eq (slice_cmp nat_cmp q (string_bytes x)) ≡ true = is_eq-slice_cmp q (string_bytes x)
+    ∙ (bytes_eq-Decides q (string_bytes x)).1 (sym here) in
+    let no : true ≡ false = sym yes ∙ parts.0 in cc)
+    (λ more. not_there q xs parts.1 more) (there_cases (bytes_of xs) q (string_bytes x) h)
+
+-- a name more that isn't among others
+pub pushed_none : (names : List (List ℕ)) (others after : List (String Global)) (s : String Global)
+    → after ≡ others ++ s ∷ [] → AreNone (bytes_of others) names → (Contains names (string_bytes s) → ⊥)
+    → AreNone (bytes_of after) names
+pushed_none names others after s e none new = λ n is there.
+    let all = subst (λ ks. Contains ks n) (ap bytes_of e ∙ map-append (λ (k : String Global). string_bytes k) others (s ∷ []))
+    is in
+    ⊎_elim (λ old. none n old there) (λ last. new (subst (Contains names) (sym (of_one (string_bytes s) n last)) there))
+    (Contains-append_cases (bytes_of others) (string_bytes s ∷ []) n all)
+
+-- the pages of insertions are among those that were visited
+pub all_named : (seen : Files) (tells_all : Type 0) (root : List ℕ) (count : ℕ) (es : List (List ℕ × List ℕ))
+    (pages : List ChangedPageAt) (names : List (List ℕ)) → count < 2 ^ 64
+    → IsOwnSource sha256 (page_found seen) root count es
+    → AreAllPages sha256 (IsAllowed (page_found seen) tells_all) root count pages → ArePathsOf names pages
+    → HaveAllPages names es
+all_named seen T root count es pages names fits own all named = λ f there.
+    let found = page_of_list es f there in
+    let at = own_visit sha256 (page_found seen) T root count es pages found.0 IsDigest-sha256 fits own all
+    found.1.are_bytes found.1.short found.1.is_there in
+    subst (λ (g : File). Contains names (page_name g.0)) found.2 (named (page_at sha256 es found.0) at)
+
+pub no_paths : (names : List (List ℕ)) → ArePathsOf names []
+no_paths names = λ p there. absurd (none_there p there)
+
+pub none_of : (names others : List (List ℕ)) (es : List (List ℕ × List ℕ)) → AreNone others names
+    → HaveAllPages names es → IsNoneOf others (pages_of es)
+none_of names others es none all = λ n is f there same. none n is (subst (Contains names) same (all f there))
+
+-- the pages that are served are those of the insertions that are
+pub served_source : (origin : List ℕ) (served : List (List ℕ × List ℕ)) (files : Files) (root : List ℕ) (count : ℕ)
+    (said : Said) → Serves (registry_of origin served) files → said ≡ log.said_of (registry_of origin served)
+    → IsDigest root → said.extensions ≡ line_of root ∷ [] → count ≡ said.length
+    → IsOwnSource sha256 (page_found files) root count served
+served_source origin served files root count said serves is digest lines counts =
+    let map_root = sparse_root sha256 256 (map_of sha256 served) in record {
+      pages = own_files origin served files serves.holds;
+      all = sym (counts ∙ ap (λ (t : Said). t.length) is ∙ length-map served entry_of);
+      is_root = one_root root map_root digest (map_digest (map_of sha256 served))
+          (sym lines ∙ ap (λ (t : Said). t.extensions) is);
+    }

@@ -1,0 +1,39 @@
+use Rattle.std.proofs.Common.{◌≡◌, refl, sym, ap, ◌∙◌, arith}
+use Rattle.warg_store.specs.Reading.{ServedIn}
+use Rattle.warg_store.proofs.ForCallers.{read_is, read_then}
+use Rattle.warg_tiles.specs.CheckpointText.{Said}
+use Rattle.warg_registry.proofs.Replaying.{none_replayed, replayed_at}
+use Rattle.warg_registry.proofs.reader.RegistryReader.replay.Goals as goal
+
+pub bundles-init : goal.bundles-init
+bundles-init g c =
+    let dev = g.F.Folder in
+    let first = c.args.self.now in record {
+      few = omega arith;
+      same = (refl, refl);
+      read = λ faithful. read_is dev.seen dev.may_leave dev.moment dev.left_since first.log.folder;
+      replayed = none_replayed dev.IsFaithful (dev.seen first.log.folder) first.log.text.length c.default.result
+          c.default.ensures.stands;
+    }
+
+pub bundles-preserved : goal.bundles-preserved
+bundles-preserved g c =
+    let dev = g.F.Folder in
+    let first = c.args.self.now in
+    let mid = c.bundles.self in
+    let was = c.bundles.invariant in
+    let done = c.in_ok-replay_bundle.ensures in
+    let files : dev.IsFaithful → dev.seen mid.log.folder ≡ dev.seen first.log.folder = λ faithful.
+    (was.read faithful).found in
+    let length = ap (λ (t : Said). t.length) was.same.1 in record {
+      few = done.few;
+      same = (done.same.0 ∙ was.same.0, done.same.1 ∙ was.same.1);
+      read = λ faithful. read_then dev.seen dev.may_leave dev.moment dev.left_since first.log.folder mid.log.folder
+          c.replay_bundle.new.self.log.folder (g.met.F.Folder.counts_now first.log.folder) (was.read faithful)
+          (done.read faithful);
+      replayed = replayed_at dev.IsFaithful (dev.seen mid.log.folder) (dev.seen first.log.folder) mid.log.text.length
+          first.log.text.length c.replay_bundle.new.replay.log c.replay_bundle.new.replay.last files length
+          (done.replayed (replayed_at dev.IsFaithful (dev.seen first.log.folder) (dev.seen mid.log.folder)
+          first.log.text.length mid.log.text.length c.bundles.replay.log c.bundles.replay.last
+          (λ faithful. sym (files faithful)) (sym length) was.replayed));
+    }

@@ -1,0 +1,34 @@
+use Rattle.std.proofs.Common.{sym, subst, ◌∙◌}
+use Rattle.warg_store.specs.Log.{Serves}
+use Rattle.warg_store.specs.Files.{Files}
+use Rattle.warg_registry.specs.Folder.{registry_of}
+use Rattle.warg_registry.proofs.FolderMoments.{log_read_then}
+use Rattle.warg_registry.proofs.Pruned.{served_source}
+use Rattle.warg_registry.proofs.source.KeptPages.served.Goals as goal
+
+pub returns-in-Ok-clause-served : goal.returns-in-Ok-clause-served
+returns-in-Ok-clause-served g c = λ faithful known origin insertions read serves.
+    let dev = g.F.Folder in
+    let now : Serves (registry_of origin insertions) (dev.seen c.args.self.now.log.folder) =
+    subst (λ (f : Files). Serves (registry_of origin insertions) f) (sym read.read.found) serves in
+    served_source origin insertions (dev.seen known.folder) c.in-Ok.root c.length-version.result c.in_ok-text.text serves
+    (c.in_ok-text.ensures.said faithful (registry_of origin insertions) now) c.in-Ok.ensures.ok.0 c.in-Ok.ensures.ok.1
+    (c.length-version.ensures ∙ c.checkpoint.ensures.length)
+
+pub returns-in-Ok-clause-read : goal.returns-in-Ok-clause-read
+returns-in-Ok-clause-read g c = λ faithful known read.
+    let dev = g.F.Folder in
+    log_read_then dev.seen dev.may_leave dev.moment dev.left_since g.met.F.Folder.counts_now known c.args.self.now.log
+    c.served.new.self read c.served.ensures.same (c.served.ensures.read faithful)
+
+pub returns-in-Err-Log-clause-read : goal.returns-in-Err-Log-clause-read
+returns-in-Err-Log-clause-read g c = λ faithful known read.
+    let dev = g.F.Folder in
+    log_read_then dev.seen dev.may_leave dev.moment dev.left_since g.met.F.Folder.counts_now known c.args.self.now.log
+    c.served.new.self read c.served.ensures.same (c.served.ensures.read faithful)
+
+pub returns-clause-read : goal.returns-clause-read
+returns-clause-read g c = λ faithful known read.
+    let dev = g.F.Folder in
+    log_read_then dev.seen dev.may_leave dev.moment dev.left_since g.met.F.Folder.counts_now known c.args.self.now.log
+    c.served.new.self read c.served.ensures.same (c.served.ensures.read faithful)

@@ -1,0 +1,31 @@
+-- What an audit of a registry finds.
+use Rattle.std.specs.Prelude.{◌≡◌, ℕ, true, List, length}
+use Rattle.warg_crypto.specs.Digests.{sha256}
+use Rattle.warg_log.specs.Blocks.{Blocks, StandsFor}
+use Rattle.warg_log.specs.Claims.{RootAndLength}
+use Rattle.warg_log.specs.Tree.{leaves_of, root_of}
+use Rattle.warg_map.specs.Sparse.{map_of, sparse_root}
+use Rattle.warg_pages.specs.Audits.{AreInPages, count_last}
+use Rattle.warg_pages.specs.ChangedPages.{ChangedPageAt}
+use Rattle.warg_pages.specs.Visits.{AreAllPages, IsAllowed}
+use Rattle.warg_store.specs.Files.{Files}
+use Rattle.warg_registry.specs.Folder.{page_found}
+use Rattle.warg_registry.specs.Insertions.{entries_of}
+
+-- The log of these insertions has the checkpoint's root and length, and their map has the map's root.
+pub record AreOfRegistry (checkpoint : RootAndLength) (said : List ℕ) (insertions : List (List ℕ × List ℕ)) : Type 0 where
+  pub count : length insertions ≡ checkpoint.length
+  pub log_root : root_of sha256 (leaves_of sha256 (entries_of insertions)) ≡ checkpoint.root
+  pub map_root : said ≡ sparse_root sha256 256 (map_of sha256 insertions)
+
+-- These are all pages that a root leads to in files.
+abbrev pub AreAllInFiles : Files → List ℕ → ℕ → List ChangedPageAt → Type 0
+AreAllInFiles files root version all = AreAllPages sha256 (IsAllowed (page_found files) (true ≡ true)) root version all
+
+-- The log stands for the entries of some insertions; and where a device is faithful, these are in all pages that a root leads
+-- to, so many of them as the last ones of their keys.
+pub record IsReplayed (IsFaithful : Type 0) (files : Files) (version : ℕ) (log : Blocks) (last : ℕ) : Type 0 where
+  pub insertions : List (List ℕ × List ℕ)
+  pub entries : StandsFor sha256 log (leaves_of sha256 (entries_of insertions))
+  pub in_pages : IsFaithful → (root : List ℕ) (all : List ChangedPageAt) → AreAllInFiles files root version all
+      → (versions : List ℕ) × AreInPages sha256 all 0 insertions versions × (last ≡ count_last 0 versions)

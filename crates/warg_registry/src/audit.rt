@@ -1,0 +1,242 @@
+//! That the map in a registry's pages is the one that the log's entries make.
+
+ghost use Rattle.std.specs.Prelude.{◌≡◌, ◌+◌, ◌<◌, ◌≤◌, ℕ, nat_eq, List, length, filter, Some, IfOk, OnOk, IfSome};
+ghost use Rattle.std.specs.Option.{is_some};
+ghost use Rattle.warg_crypto.specs.Digests.{sha256};
+ghost use Rattle.warg_crypto.specs.Tree.{leaf_digest};
+ghost use Rattle.warg_pages.specs.Audits.{IsHeldIn, IsInPages};
+ghost use Rattle.warg_pages.specs.ChangedPages.{ChangedPageAt};
+ghost use Rattle.warg_pages.specs.Visits.{lone_slots};
+ghost use Rattle.warg_store.specs.Audited.{IsOfEntries};
+ghost use Rattle.warg_store.specs.Moments.{IsRead};
+ghost use Rattle.warg_store.specs.Reading.{checkpoint_said};
+ghost use Rattle.warg_registry.specs.Auditing.{AreOfRegistry, AreAllInFiles, IsReplayed};
+
+use crate::error::{damaged, of_way};
+use crate::insertion::{Insertion, read_insertion};
+use crate::reader::RegistryReader;
+use std::alloc::{AllocError, Global};
+use warg_crypto::{Hash, Sha256, hash_leaf};
+use warg_log::{Checkpoint, GREATEST_LENGTH, LogBuilder, StackLog};
+use warg_pages::{HeldInPages, MapPage, PageVisitor, held_in_pages, visit_pages};
+use warg_store::{Folder, LogError, Progress};
+use warg_tiles::Tile;
+
+// How many keys stand alone in the slots of pages.
+#[derive(Drop)]
+struct LoneKeys {
+    count: usize,
+}
+
+impl PageVisitor<Sha256, Global> for LoneKeys {
+    ghost use Rattle.std.specs.Prelude.{◌≡◌, length};
+    ghost use Rattle.warg_pages.specs.Visits.{lone_slots};
+
+    ghost HasSeen = { λ lones pages. lones.count ≡ length (lone_slots pages) };
+
+    // More than 2^64 keys count as memory that was refused.
+    fn visit(
+        &mut self,
+        _prefix: &[u8],
+        _version: u64,
+        page: &MapPage<Sha256, Global>,
+    ) -> Result<(), AllocError> {
+        self.count = self.count.checked_add(count_lones(page)).ok_or(AllocError)?;
+        Ok(())
+    }
+}
+
+// How many slots of a page have a lone key.
+fn count_lones(page: &MapPage<Sha256, Global>) -> usize
+    ensures { result ≡ length (filter (λ x. is_some x.lone) page.now) }
+{
+    page.slots()
+        .iter()
+        .filter(|slot| slot.lone.is_some())
+        .count()
+}
+
+/// The log of the entries that were read, and how many of them are the last ones of their keys.
+#[derive(Drop)]
+pub(crate) struct Replay {
+    log: StackLog<Sha256, Vec<u8>>,
+    last: usize,
+}
+
+impl<F: Folder + Drop> RegistryReader<F> {
+    /// Shows that the map is the one that the log's entries make, and audits the log as [`LogReader::audit`] does. Each page
+    /// that the map's root leads to has the digest of the slot that names it; each entry is an insertion whose key stands
+    /// alone in a slot of a version above the entry's index, and where it is the next version, with the entry's value; and
+    /// there are no other keys. `Damaged` names the file at fault.
+    ///
+    /// It reads each page once, and for each entry those on the way of its key; each entry bundle twice, and each tile. Its
+    /// memory is that of one bundle, and a page for each byte that two keys' digests share.
+    pub fn audit<P: Progress>(&mut self, progress: &mut P) -> Result<Checkpoint<Sha256>, LogError>
+        ensures entries { IfOk result IsOfEntries }
+        ensures insertions { F.IsFaithful → IfOk result (λ checkpoint. (insertions : List (List ℕ × List ℕ))
+            × AreOfRegistry checkpoint self.old.root insertions) }
+        ensures served { IfOk result (λ checkpoint. checkpoint ≡ checkpoint_said self.old.log.text) }
+    {
+        let keys = self.count_keys()?;
+        let replay = self.replay()?;
+        let checkpoint = self.checkpoint();
+        if replay.log.checkpoint() != checkpoint {
+            let fault = "has another root than the log's entries";
+            return Err(damaged(self.alloc, "checkpoint", fault));
+        }
+        if replay.last != keys {
+            let fault = "has a key that no entry has";
+            return Err(damaged(self.alloc, "map", fault));
+        }
+        self.pages.log.audit(progress)?;
+        Ok(checkpoint)
+    }
+
+    // How many keys the map's pages hold, once each page has the digest of the slot that names it.
+    fn count_keys(&mut self) -> Result<usize, LogError>
+        ensures keys { F.IsFaithful → IfOk result (λ count. (all : List ChangedPageAt)
+            × AreAllInFiles (F.seen self.old.log.folder) self.old.root self.old.log.text.length all
+            × (count ≡ length (lone_slots all))) }
+        ensures same { (self.new.root ≡ self.old.root) × (self.new.log.text ≡ self.old.log.text) }
+        ensures read { F.IsFaithful
+            → IsRead F.seen F.may_leave F.moment F.left_since self.old.log.folder self.new.log.folder }
+    {
+        let version = self.checkpoint().length() as u64;
+        let mut lones = LoneKeys { count: 0 };
+        match visit_pages(self.alloc, &mut self.pages, &self.root, version, &mut lones) {
+            Ok(()) => Ok(lones.count),
+            Err(error) => Err(of_way(self.alloc, self.pages.last.as_str(), error)),
+        }
+    }
+
+    // Reads all entries, one bundle after the other.
+    fn replay(&mut self) -> Result<Replay, LogError>
+        ensures replayed { IfOk result (λ replay. IsReplayed F.IsFaithful (F.seen self.old.log.folder)
+            self.old.log.text.length replay.log replay.last) }
+        ensures same { (self.new.root ≡ self.old.root) × (self.new.log.text ≡ self.old.log.text) }
+        ensures read { F.IsFaithful
+            → IsRead F.seen F.may_leave F.moment F.left_since self.old.log.folder self.new.log.folder }
+    {
+        let mut replay = Replay {
+            log: StackLog::default(self.alloc),
+            last: 0,
+        };
+        'bundles: for bundle in 0..self.checkpoint().length().div_ceil(256) {
+            self.replay_bundle(&mut replay, bundle)?;
+        }
+        Ok(replay)
+    }
+
+    // Reads the entries of a bundle.
+    fn replay_bundle(&mut self, replay: &mut Replay, bundle: usize) -> Result<(), LogError>
+        requires { replay.old.last ≤ replay.old.log.len }
+        ensures few { OnOk result (replay.new.last ≤ replay.new.log.len) }
+        ensures replayed { OnOk result (IsReplayed F.IsFaithful (F.seen self.old.log.folder) self.old.log.text.length
+            replay.old.log replay.old.last
+            → IsReplayed F.IsFaithful (F.seen self.old.log.folder) self.old.log.text.length
+            replay.new.log replay.new.last) }
+        ensures same { (self.new.root ≡ self.old.root) × (self.new.log.text ≡ self.old.log.text) }
+        ensures read { F.IsFaithful
+            → IsRead F.seen F.may_leave F.moment F.left_since self.old.log.folder self.new.log.folder }
+    {
+        let entries = self.pages.log.entries(bundle)?;
+        'entries: for entry in &entries {
+            self.replay_entry(replay, entry)?;
+        }
+        Ok(())
+    }
+
+    // Looks an entry's insertion up in the pages, and adds the entry.
+    fn replay_entry(&mut self, replay: &mut Replay, entry: &Vec<u8>) -> Result<(), LogError>
+        requires { replay.old.last ≤ replay.old.log.len }
+        ensures few { OnOk result (replay.new.last ≤ replay.new.log.len) }
+        ensures replayed { OnOk result (IsReplayed F.IsFaithful (F.seen self.old.log.folder) self.old.log.text.length
+            replay.old.log replay.old.last
+            → IsReplayed F.IsFaithful (F.seen self.old.log.folder) self.old.log.text.length
+            replay.new.log replay.new.last) }
+        ensures same { (self.new.root ≡ self.old.root) × (self.new.log.text ≡ self.old.log.text) }
+        ensures read { F.IsFaithful
+            → IsRead F.seen F.may_leave F.moment F.left_since self.old.log.folder self.new.log.folder }
+    {
+        let index = replay.log.length();
+        if index >= GREATEST_LENGTH {
+            return Err(LogError::from(AllocError));
+        }
+        let Ok(insertion) = read_insertion(entry.as_slice()) else {
+            return Err(no_insertion(self.alloc, self.checkpoint().length(), index));
+        };
+        let is_last = self.is_last(index as u64, &insertion)?;
+        replay.log.push(entry)?;
+        if is_last {
+            replay.last += 1;
+        }
+        Ok(())
+    }
+
+    // What the map's pages hold under a key digest.
+    fn held_in_map(&mut self, key: &Hash<Sha256>) -> Result<Option<HeldInPages<Sha256>>, LogError>
+        ensures held { F.IsFaithful → IfOk result (λ held. (root : List ℕ) (all : List ChangedPageAt)
+            → AreAllInFiles (F.seen self.old.log.folder) root self.old.log.text.length all
+            → IsHeldIn all key.now held) }
+        ensures same { (self.new.root ≡ self.old.root) × (self.new.log.text ≡ self.old.log.text) }
+        ensures read { F.IsFaithful
+            → IsRead F.seen F.may_leave F.moment F.left_since self.old.log.folder self.new.log.folder }
+    {
+        let version = self.checkpoint().length() as u64;
+        match held_in_pages(self.alloc, &mut self.pages, version, key) {
+            Ok(held) => Ok(held),
+            Err(error) => Err(of_way(self.alloc, self.pages.last.as_str(), error)),
+        }
+    }
+
+    // Whether an insertion is the last one of its key by the pages, in which it has to be.
+    fn is_last(&mut self, index: u64, insertion: &Insertion<'_>) -> Result<bool, LogError>
+        requires { index < GREATEST_LENGTH }
+        ensures in_pages { F.IsFaithful → IfOk result (λ last. (root : List ℕ) (all : List ChangedPageAt)
+            → AreAllInFiles (F.seen self.old.log.folder) root self.old.log.text.length all → (version : ℕ)
+            × IsInPages sha256 all index (insertion.now.key.now, insertion.now.value.now) version
+            × (last ≡ nat_eq version (index + 1))) }
+        ensures same { (self.new.root ≡ self.old.root) × (self.new.log.text ≡ self.old.log.text) }
+        ensures read { F.IsFaithful
+            → IsRead F.seen F.may_leave F.moment F.left_since self.old.log.folder self.new.log.folder }
+    {
+        let key: Hash<Sha256> = Hash::of(&insertion.key);
+        let held = self.held_in_map(&key)?;
+        match is_next(&held, index, insertion.value) {
+            Some(last) => Ok(last),
+            None => {
+                let fault = "hasn't the key of a log's entry, or another value or version";
+                Err(damaged(self.alloc, self.pages.last.as_str(), fault))
+            }
+        }
+    }
+}
+
+// Whether the version under a key digest is the one behind an index; `None` where it is an earlier one, or the leaf digest
+// isn't that of the value.
+fn is_next(held: &Option<HeldInPages<Sha256>>, index: u64, value: &[u8]) -> Option<bool>
+    requires { index < GREATEST_LENGTH }
+    ensures { IfSome result (λ last. (found : ℕ × List ℕ) × (held.now ≡ Some found) × (index < found.0)
+        × (last ≡ nat_eq found.0 (index + 1)) × (found.0 ≡ index + 1 → found.1 ≡ leaf_digest sha256 value.now)) }
+{
+    let Some(held) = held else {
+        return None;
+    };
+    if held.version > index + 1 {
+        return Some(false);
+    }
+    if held.version <= index || held.leaf != hash_leaf(&value) {
+        return None;
+    }
+    Some(true)
+}
+
+// That the bundle with an entry has one that is no insertion.
+fn no_insertion(alloc: Global, length: usize, index: usize) -> LogError {
+    let number = index / 256;
+    let width = length.saturating_sub(256 * number).clamp(1, 256);
+    match Tile::new(0, number, width).entries_path(alloc) {
+        Ok(path) => damaged(alloc, path.as_str(), "has an entry that is no insertion"),
+        Err(error) => LogError::from(error),
+    }
+}

@@ -1,0 +1,146 @@
+//! The pages that a registry needs, and those that it doesn't.
+
+ghost use Rattle.std.specs.Prelude.{◌≡◌, ◌++◌, ℕ, List, [], IfOk, OnOk};
+ghost use Rattle.warg_crypto.specs.Digests.{sha256};
+ghost use Rattle.warg_pages.specs.ChangedPages.{ChangedPageAt};
+ghost use Rattle.warg_pages.specs.ProvedKeys.{IsOwnSource};
+ghost use Rattle.warg_store.specs.Growing.{LogIn};
+ghost use Rattle.warg_store.specs.Log.{Serves};
+ghost use Rattle.warg_store.specs.Pruned.{IsNoneOf};
+ghost use Rattle.warg_registry.specs.Folder.{registry_of, pages_of, page_found, IsLogRead};
+ghost use Rattle.warg_registry.specs.Pruning.{bytes_of, ArePathsOf, HaveAllPages, AreNone};
+
+use crate::error::{RegistryError, damaged, of_way};
+use crate::folder::root_said;
+use crate::source::KeptPages;
+use std::alloc::{AllocError, Global};
+use std::collections::BTreeSet;
+use warg_crypto::{Hash, Sha256};
+use warg_pages::{MapPage, PageVisitor, PagedMap, page_path, visit_pages};
+use warg_store::{Folder, LogError};
+
+/// The names of pages that are needed.
+#[derive(Drop)]
+pub(crate) struct NeededPages {
+    alloc: Global,
+    names: BTreeSet<String>,
+}
+
+impl PageVisitor<Sha256, Global> for NeededPages {
+    ghost use Rattle.warg_registry.specs.Pruning.{bytes_of, ArePathsOf};
+
+    ghost HasSeen = { λ needed pages. ArePathsOf (bytes_of needed.names.keys) pages };
+
+    fn visit(
+        &mut self,
+        prefix: &[u8],
+        version: u64,
+        _page: &MapPage<Sha256, Global>,
+    ) -> Result<(), AllocError> {
+        self.names.insert(page_path(self.alloc, prefix, version)?)?;
+        Ok(())
+    }
+}
+
+impl NeededPages {
+    /// No names.
+    pub(crate) fn new(alloc: Global) -> NeededPages
+        ensures { result.names.keys ≡ [] }
+    {
+        NeededPages {
+            alloc,
+            names: BTreeSet::new(alloc),
+        }
+    }
+
+    /// Adds the names of all pages that a root leads to, of a map with so many insertions.
+    pub(crate) fn add<F: Folder + Drop>(
+        &mut self,
+        pages: &mut KeptPages<F>,
+        root: &Hash<Sha256>,
+        version: u64,
+    ) -> Result<(), LogError>
+        ensures added { OnOk result ((before : List ChangedPageAt) → ArePathsOf (bytes_of self.old.names.keys) before
+            → (all : List ChangedPageAt) × ArePathsOf (bytes_of self.new.names.keys) (before ++ all)
+            × (F.IsFaithful → (known : LogIn F) (insertions : List (List ℕ × List ℕ))
+            → IsLogRead F.seen F.may_leave F.moment F.left_since known pages.old.log
+            → IsOwnSource sha256 (page_found (F.seen known.folder)) root.now version insertions
+            → (names : List (List ℕ)) → ArePathsOf names (before ++ all) → HaveAllPages names insertions)) }
+        ensures read { F.IsFaithful → (known : LogIn F)
+            → IsLogRead F.seen F.may_leave F.moment F.left_since known pages.old.log
+            → IsLogRead F.seen F.may_leave F.moment F.left_since known pages.new.log }
+    {
+        match visit_pages(self.alloc, pages, root, version, self) {
+            Ok(()) => Ok(()),
+            Err(error) => Err(of_way(self.alloc, pages.last.as_str(), error)),
+        }
+    }
+
+    /// Those of some names that are none of these.
+    pub(crate) fn others(&self, names: Vec<String>) -> Result<Vec<String>, AllocError>
+        ensures { IfOk result (λ others. AreNone (bytes_of others.items) (bytes_of self.now.names.keys)) }
+    {
+        let mut others = Vec::new(self.alloc);
+        'names: for name in names {
+            if !self.names.contains(name.as_str()) {
+                others.push(name)?;
+            }
+        }
+        Ok(others)
+    }
+}
+
+impl<F: Folder + Drop> KeptPages<F> {
+    /// The names of pages that neither a map with a root and so many insertions needs, nor the served one.
+    pub(crate) fn spare(
+        &mut self,
+        root: &Hash<Sha256>,
+        version: u64,
+    ) -> Result<Vec<String>, LogError>
+        ensures spare { F.IsFaithful → IfOk result (λ spare. (known : LogIn F) (origin : List ℕ)
+            (served kept : List (List ℕ × List ℕ))
+            → IsLogRead F.seen F.may_leave F.moment F.left_since known self.old.log
+            → Serves (registry_of origin served) (F.seen known.folder)
+            → IsOwnSource sha256 (page_found (F.seen known.folder)) root.now version kept
+            → IsNoneOf (bytes_of spare.items) (pages_of served) × IsNoneOf (bytes_of spare.items) (pages_of kept)) }
+        ensures read { F.IsFaithful → (known : LogIn F)
+            → IsLogRead F.seen F.may_leave F.moment F.left_since known self.old.log
+            → IsLogRead F.seen F.may_leave F.moment F.left_since known self.new.log }
+    {
+        let mut needed = NeededPages::new(self.alloc);
+        needed.add(self, root, version)?;
+        let served = self.served()?;
+        needed.add(self, &served.root, served.version)?;
+        let names = self.names()?;
+        Ok(needed.others(names)?)
+    }
+
+    // The served map's root and number of insertions.
+    fn served(&mut self) -> Result<PagedMap<Sha256>, LogError>
+        ensures served { F.IsFaithful → IfOk result (λ map. (known : LogIn F) (origin : List ℕ)
+            (insertions : List (List ℕ × List ℕ))
+            → IsLogRead F.seen F.may_leave F.moment F.left_since known self.old.log
+            → Serves (registry_of origin insertions) (F.seen known.folder)
+            → IsOwnSource sha256 (page_found (F.seen known.folder)) map.root map.version insertions) }
+        ensures read { F.IsFaithful → (known : LogIn F)
+            → IsLogRead F.seen F.may_leave F.moment F.left_since known self.old.log
+            → IsLogRead F.seen F.may_leave F.moment F.left_since known self.new.log }
+    {
+        let text = self.log.served()?;
+        let version = text.checkpoint().length() as u64;
+        match root_said(self.alloc, &text) {
+            Ok(root) => Ok(PagedMap { root, version }),
+            Err(RegistryError::Log(error)) => Err(error),
+            Err(RegistryError::NoMap) => Err(damaged(self.alloc, "checkpoint", "names no map")),
+        }
+    }
+
+    // The names of all pages that are there.
+    fn names(&mut self) -> Result<Vec<String>, LogError>
+        ensures read { F.IsFaithful → (known : LogIn F)
+            → IsLogRead F.seen F.may_leave F.moment F.left_since known self.old.log
+            → IsLogRead F.seen F.may_leave F.moment F.left_since known self.new.log }
+    {
+        Ok(self.log.pages()?)
+    }
+}

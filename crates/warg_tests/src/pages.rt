@@ -1,0 +1,122 @@
+//! What the pages of a map hold, with ample memory, beside a map in memory.
+
+use std::alloc::{AllocError, Global};
+use std::collections::HashMap;
+use std::test::Fail;
+use warg_crypto::{Hash, Sha256, hash_leaf};
+use warg_map::Map;
+use warg_pages::{MapPage, PageVisitor, PagedMap, Pages, held_in_pages, visit_pages};
+
+const PAIRS: [(&[u8], &[u8]); 4] = [
+    (b"a", b"one"),
+    (b"b", b"two"),
+    (b"a", b"three"),
+    (b"c", b""),
+];
+
+// The newest pages of a map, each by its prefix, as bytes.
+#[derive(Drop)]
+struct Newest {
+    alloc: Global,
+    bytes: HashMap<Vec<u8>, Vec<u8>>,
+}
+
+// Why a page isn't lent.
+#[derive(Debug, Drop)]
+enum NotLent {
+    NoPage,
+    Memory,
+}
+
+impl Pages<Global> for Newest {
+    ghost use Rattle.std.specs.Prelude.{None};
+
+    type Error = NotLent;
+
+    // Nothing is proved of what a test reads.
+    ghost Known = { Unit {0} };
+
+    ghost IsKnown = { λ _ _. Unit {0} };
+
+    ghost bytes_at = { λ _ _ _. None };
+
+    ghost tells_all = { λ _. ⊥ };
+
+    fn page(&mut self, prefix: &[u8], _version: u64) -> Result<Vec<u8>, NotLent> {
+        match self.bytes.get(prefix) {
+            Some(bytes) => Vec::from_slice(self.alloc, bytes.as_slice()).map_err(
+                |_| NotLent::Memory,
+            ),
+            None => Err(NotLent::NoPage),
+        }
+    }
+}
+
+// How many keys stand alone in slots, and how many pages were seen.
+#[derive(Drop)]
+struct Seen {
+    keys: usize,
+    pages: usize,
+}
+
+impl PageVisitor<Sha256, Global> for Seen {
+    ghost HasSeen = { λ _ _. Unit {0} };
+
+    fn visit(
+        &mut self,
+        _prefix: &[u8],
+        _version: u64,
+        page: &MapPage<Sha256, Global>,
+    ) -> Result<(), AllocError> {
+        let lones = page
+            .slots()
+            .iter()
+            .filter(|slot| slot.lone.is_some())
+            .count();
+        self.keys = self.keys.saturating_add(lones);
+        self.pages = self.pages.saturating_add(1);
+        Ok(())
+    }
+}
+
+// The pages of the pairs, and the map's root.
+fn pages_of(alloc: Global) -> Result<(Newest, PagedMap<Sha256>), Fail> {
+    let mut map = PagedMap::new();
+    let mut pages = Newest {
+        alloc,
+        bytes: HashMap::new(alloc),
+    };
+    let changed = map.insert_all(alloc, &mut pages, &PAIRS);
+    for page in changed.map_err(|_| Fail::from("an insertion"))? {
+        let bytes = page.page.write(alloc)?;
+        pages.bytes.insert(page.prefix.clone()?, bytes)?;
+    }
+    Ok((pages, map))
+}
+
+// Whether the pages hold a value under a key, of this version.
+fn is_held(pages: &mut Newest, key: &[u8], version: u64, value: &[u8]) -> Result<bool, Fail> {
+    let key: Hash<Sha256> = Hash::of(&key);
+    let held = held_in_pages(pages.alloc, pages, 4, &key);
+    match held.map_err(|_| Fail::from("a key's pages"))? {
+        Some(held) => Ok(held.version == version && held.leaf == hash_leaf(&value)),
+        None => Ok(false),
+    }
+}
+
+#[test]
+fn pages_hold_what_the_map_does(rt: HostRuntime) -> Result<(), Fail> {
+    let alloc = rt.alloc();
+    let (mut pages, paged) = pages_of(alloc)?;
+    let map = Map::<Sha256, &[u8], &[u8]>::default(alloc).extend(PAIRS.iter().copied())?;
+    assert!(rt; paged.root == *map.root());
+    let mut seen = Seen { keys: 0, pages: 0 };
+    let visited = visit_pages(alloc, &mut pages, map.root(), 4, &mut seen);
+    assert!(rt; visited.is_ok() && seen.keys == map.len() && seen.pages == pages.bytes.len());
+    let is_a = is_held(&mut pages, b"a", 3, b"three")?;
+    let is_c = is_held(&mut pages, b"c", 4, b"")?;
+    assert!(rt; is_a && is_c);
+    let is_d = is_held(&mut pages, b"d", 4, b"")?;
+    assert!(rt; !is_d);
+    Ok(())
+}
