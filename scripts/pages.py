@@ -81,6 +81,13 @@ def exported(root):
     return names | set(re.findall(r"^pub (?:struct|enum|trait) (\w+)", text, re.M))
 
 
+def renamed(root):
+    """Returns the names under which a library's root file exports others, by their module and own name."""
+    used = re.findall(r"^pub use (\w+)::(\{[^}]*\}|[^;]*);", root.read_text(), re.M)
+    found = ((module, it) for module, names in used for it in re.findall(r"(\w+) as (\w+)", names))
+    return {(module, own): other for module, (own, other) in found}
+
+
 def sentence(text, at):
     """Returns the first sentence of the doc comment above a place."""
     lines = itertools.takewhile(lambda it: it.startswith(("//", "#[")), map(str.strip, reversed(text[:at].splitlines())))
@@ -121,7 +128,7 @@ def needs(clauses):
 
 def calls(folder):
     """Yields the owner, signature, first sentence and conditions of each public call of a library, file by file, the laws last."""
-    names = exported(folder / "src/lib.rt")
+    names, aliases = exported(folder / "src/lib.rt"), renamed(folder / "src/lib.rt")
     for path in sorted((folder / "src").rglob("*.rt"), key=lambda it: (it.stem == "laws", it)):
         text, is_law = path.read_text(), path.stem == "laws"
         for call in sorted(items.functions(text, path.stem), key=lambda it: it.body < it.end):
@@ -129,7 +136,7 @@ def calls(folder):
             owner = call.owner if call.owner != path.stem or call.owner in names else ""
             shown = is_law or (owner in names if owner else call.name in names or path.name == "lib.rt")
             if shown and (re.match(r"\s*pub (?!\()", text[line:]) or call.is_of_trait and owner in names):
-                signature = signature_of(owner, text[call.start : min(call.clauses, call.body)])
+                signature = signature_of(aliases.get((path.parent.name, owner), owner), text[call.start : min(call.clauses, call.body)])
                 yield "laws" if is_law else owner, signature, sentence(text, line), needs(text[call.clauses : call.body])
 
 

@@ -114,7 +114,7 @@ class Crate:
                 self.run(backend)
         elif self.is_static:
             self.build(*TOOLCHAIN, "-o", self.product)
-        elif not self.has_tests or (self.folder / "proofs").is_dir():
+        elif not self.has_tests or any(self.name in needs for needs in kit.crates().values()):
             self.build(*(["--statements"] if self.is_named else []), "-o", self.product)
         if self.has_tests and not self.is_named:
             # The kit's interpreter, which is far slower than what is compiled, takes no more than the first steps.

@@ -4,8 +4,8 @@
 //! They join the verdicts with the laws of `warg_witness`: where a verdict is true under the checkpoint of
 //! given entries, or under the root of given insertions, its claim is met there, and so it is true of them or
 //! a collision is computed (`value_or_collision`, `consistency_or_collision`, `key_or_collision`,
-//! `absence_or_collision` and `update_or_collision` there). Those laws ask for digests of 32 bytes, which the bundle's
-//! are (`hashes`).
+//! `absence_or_collision` and `update_or_collision` there). That the bundle's digests have 32 bytes (`hashes`) is more
+//! than those laws ask for.
 
 ghost use Rattle.std.specs.Prelude.{◌≡◌, ℕ, List, Ok, true};
 ghost use Rattle.warg_check.specs.Verdicts.{key_verdict, absent_verdict, IsKeyShown, IsAbsenceShown};

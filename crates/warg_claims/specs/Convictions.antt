@@ -12,6 +12,7 @@ pub record IsShownOf (H : List ℕ → List ℕ) (claim : Claim) (evidence : Evi
   pub roots : HasRoots H claim world
 
 -- The finding is right: the claim isn't shown under the world's roots; or it is, and it is true of the world; or it is shown
--- and untrue, and the two byte strings, which differ and have one digest, stand at the named place.
+-- and untrue, and the two byte strings stand at the named place. That they differ and have one digest is `Collision`'s own
+-- promise.
 abbrev pub Convicts : {D A : _} → (List ℕ → List ℕ) → (claim : Claim) → Evidence → World claim → Finding D A → Type 0
 Convicts H claim evidence world finding = Finds (IsShownOf H claim evidence world) (IsTrueOf claim world) (IsPlaced H claim evidence world) finding

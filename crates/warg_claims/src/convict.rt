@@ -203,7 +203,8 @@ pub fn convict_growth_path<D: SupportedDigest, V: VisitBytes, A: Allocator + Cop
 }
 
 /// Whether the claim that the map with this root holds the value under the key, which the proof at a place of a bundle shows
-/// ([`check_key`]), is true of the map's insertions: the value inserted last under the key's bytes has the value's bytes.
+/// ([`check_key`]), is true of the map's insertions: the value inserted last under the key's bytes has the value's bytes. A
+/// key that is inserted nowhere counts as one with no bytes.
 ///
 /// `NotMet` exactly if the verdict isn't true, or the map of the insertions has another root. `Holds` exactly if it is, the
 /// map has this root, and the claim is true. Else a collision: what the digest function takes in the evaluation of the

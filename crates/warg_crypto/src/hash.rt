@@ -261,7 +261,7 @@ impl<A: Allocator> ByteVisitor for Collector<A> {
     }
 }
 
-/// The value's bytes, as a list over `alloc`. It refuses only where a growth was refused.
+/// The value's bytes, as a list over `alloc`. It fails only if allocation fails.
 pub fn bytes_of<T: VisitBytes, A: Allocator>(alloc: A, value: &T) -> Result<Vec<u8, A>, AllocError>
     ensures { IfOk result (λ v. v.items ≡ T.bytes value.now) }
 {

@@ -42,17 +42,14 @@ impl<D> VisitBytes for Branch<'_, D> {
 pub fn hash_empty<D: SupportedDigest>() -> Hash<D>
     ensures { result ≡ D.digest [] }
 {
-    Hash::from_array(D::start().finish())
+    Hash::of(&())
 }
 
 /// The digest of a leaf: that of the byte 00 and the value's bytes (RFC 6962, section 2.1).
 pub fn hash_leaf<D: SupportedDigest, V: VisitBytes>(value: &V) -> Hash<D>
     ensures { result ≡ leaf_digest D.digest (V.bytes value.now) }
 {
-    let mut digest = D::start();
-    digest.visit_bytes(&[0]);
-    value.visit(&mut digest);
-    Hash::from_array(digest.finish())
+    Hash::of(&Leaf(value))
 }
 
 /// The digest of a branch: that of the byte 01, the left digest and the right one (RFC 6962,
@@ -60,11 +57,7 @@ pub fn hash_leaf<D: SupportedDigest, V: VisitBytes>(value: &V) -> Hash<D>
 pub fn hash_branch<D: SupportedDigest>(left: &Hash<D>, right: &Hash<D>) -> Hash<D>
     ensures { result ≡ branch D.digest left.now right.now }
 {
-    let mut digest = D::start();
-    digest.visit_bytes(&[1]);
-    digest.visit_bytes(&left.bytes);
-    digest.visit_bytes(&right.bytes);
-    Hash::from_array(digest.finish())
+    Hash::of(&Branch(left, right))
 }
 
 /// The digest of the empty tree of `height` levels: `H(00)` at height 0, and at each height above

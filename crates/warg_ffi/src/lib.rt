@@ -3,7 +3,7 @@
 //!
 //! Each call stands alone. It keeps no state and no pointer, gives back what memory it takes, and returns
 //! a number: 1 for true, 0 for false, and a negative number for each reason why there is no verdict. The
-//! header `ffi/warg.h` names the numbers, and says what a caller of C has to keep.
+//! header `ffi/warg.h` names the numbers that a call returns, and says what a caller of C has to keep.
 #![tactic(auto)]
 
 ghost use Rattle.std.specs.Prelude.{◌≡◌, ◌+◌, ◌*◌, ◌^◌, [], ◌∷◌, None, Err};

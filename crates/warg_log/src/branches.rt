@@ -1,4 +1,4 @@
-//! The branches that one consistency proof's evaluation joins, each hashed once.
+//! Roots of ranges of leaves, and the branches that one consistency proof's evaluation joins, each hashed once.
 
 ghost use Rattle.std.specs.Prelude.{◌≡◌, ◌<◌, IsTrue, IfSome, ◌↔◌};
 ghost use Rattle.warg_crypto.specs.Tree.{branch};
@@ -35,6 +35,24 @@ impl<D> Branch<D> {
         ensures { IsTrue result ↔ ((self.now.left ≡ left.now) × (self.now.right ≡ right.now)) }
     {
         self.left == *left && self.right == *right
+    }
+}
+
+// How the digest of a branch is had.
+pub(crate) trait Branches<D: SupportedDigest> {
+    // The digest of the branch of a range's two parts.
+    fn join_parts(&mut self, range: &LeafRange, left: &Hash<D>, right: &Hash<D>) -> Hash<D>
+        requires { 1 < range.now.count }
+        ensures { result ≡ branch D.digest left.now right.now };
+}
+
+// Each branch is hashed.
+#[derive(Drop)]
+pub(crate) struct EachHashed;
+
+impl<D: SupportedDigest> Branches<D> for EachHashed {
+    fn join_parts(&mut self, _range: &LeafRange, left: &Hash<D>, right: &Hash<D>) -> Hash<D> {
+        hash_branch(left, right)
     }
 }
 
@@ -94,12 +112,10 @@ impl<D: SupportedDigest> BranchCache<D> {
         }
         None
     }
+}
 
-    // The digest of the branch of a range's two parts.
-    fn join(&mut self, range: &LeafRange, left: &Hash<D>, right: &Hash<D>) -> Hash<D>
-        requires { 1 < range.now.count }
-        ensures { result ≡ branch D.digest left.now right.now }
-    {
+impl<D: SupportedDigest> Branches<D> for BranchCache<D> {
+    fn join_parts(&mut self, range: &LeafRange, left: &Hash<D>, right: &Hash<D>) -> Hash<D> {
         let slot = slot_of(range.count);
         if let Some(digest) = self.find(slot, left, right) {
             return digest;
@@ -117,9 +133,9 @@ impl<D: SupportedDigest> BranchCache<D> {
     }
 }
 
-// The cut root of one range, as `range_root` says, by branches that are hashed once.
-pub(crate) fn range_root_by<D: SupportedDigest, V: VisitBytes, L: LogData<D, V>>(
-    branches: &mut BranchCache<D>,
+// The cut root of one range, as `range_root` says, by these branches.
+pub(crate) fn range_root_by<D: SupportedDigest, V: VisitBytes, L: LogData<D, V>, B: Branches<D>>(
+    branches: &mut B,
     hashes: &L,
     target: &LeafRange,
     hash: &Hash<D>,
@@ -137,5 +153,5 @@ pub(crate) fn range_root_by<D: SupportedDigest, V: VisitBytes, L: LogData<D, V>>
     let (front, rest) = range.split();
     let left = range_root_by(branches, hashes, target, hash, &front)?;
     let right = range_root_by(branches, hashes, target, hash, &rest)?;
-    Some(branches.join(range, &left, &right))
+    Some(branches.join_parts(range, &left, &right))
 }

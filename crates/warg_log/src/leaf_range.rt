@@ -4,6 +4,7 @@ ghost use Rattle.std.specs.Prelude.{◌≡◌, ℕ, ◌+◌, ◌-◌, ◌^◌, �
 ghost use Rattle.warg_log.specs.Ranges.{leaves_from, front_part, rest_part};
 ghost use Rattle.warg_log.specs.Cut.{is_beside, IsFull, with_target, cut_over, old_over};
 
+use crate::branches::{EachHashed, range_root_by};
 use crate::log::{GREATEST_LENGTH, LogData};
 use crate::node::Node;
 use std::marker::Model;
@@ -122,16 +123,7 @@ pub fn range_root<D: SupportedDigest, V: VisitBytes, L: LogData<D, V>>(
     ensures { result ≡ cut_over D.digest
         (with_target (L.digest_at hashes.now) target.now hash.now) range.now }
 {
-    if range == target {
-        return Some(hash.copied());
-    }
-    if range.is_read(target) {
-        return hashes.hash_for(Node::over(range));
-    }
-    let (front, rest) = range.split();
-    let left = range_root(hashes, target, hash, &front)?;
-    let right = range_root(hashes, target, hash, &rest)?;
-    Some(hash_branch(&left, &right))
+    range_root_by(&mut EachHashed, hashes, target, hash, range)
 }
 
 /// The old root of one range: the root of the range's leaves by the digests that the data holds for the

@@ -37,7 +37,7 @@ pub enum MapError {
     /// A new key digest, where as many are held as a `usize` can count.
     #[error("map is full")]
     Full,
-    /// A growth was refused.
+    /// Allocation failed.
     #[error("out of memory")]
     Memory,
 }
@@ -258,7 +258,8 @@ impl<D: SupportedDigest, K: VisitBytes + Drop, V: VisitBytes + Drop, A: Allocato
 
     /// The map with `val` under `key`, in place of what was held under the key's digest.
     ///
-    /// `Full` comes exactly for a new key digest where `len` is `usize::MAX`, before anything grows.
+    /// `Full` comes exactly for a new key digest where `len` is `usize::MAX`, before allocating; else it fails only if
+    /// allocation fails (`Memory`).
     pub fn insert(&self, key: K, val: V) -> Result<Map<D, K, V, A>, MapError>
         ensures ok { IfOk result (λ m. m ≡ map.insert self.now (key_bits D.digest (K.bytes key))
             (leaf_digest D.digest (V.bytes val))) }
@@ -274,7 +275,7 @@ impl<D: SupportedDigest, K: VisitBytes + Drop, V: VisitBytes + Drop, A: Allocato
     /// It first takes all of them, as their digests, and then hashes once each branch above several of them. A map more
     /// than half full takes them one by one.
     ///
-    /// `Full` comes where one of them is a new key digest at a `len` of `usize::MAX`: before anything grows where it is
+    /// `Full` comes where one of them is a new key digest at a `len` of `usize::MAX`: before allocating where it is
     /// the first. After a refusal the rest of the iterator is dropped.
     pub fn extend<I: Iterator<Item = (K, V)> + Drop>(
         &self,

@@ -203,6 +203,14 @@ pub own_visit : (H : List ℕ → List ℕ) (bytes_at : List ℕ → ℕ → Opt
     → stands H insertions (bits_of_bytes prefix) ≡ true → Contains pages (page_at H insertions prefix)
 own_visit = visits.own_visit
 
+-- And no others: at the prefix of each that it finds a page of the insertions stands, and it is of that version.
+pub visit_own : (H : List ℕ → List ℕ) (bytes_at : List ℕ → ℕ → Option (List ℕ)) (tells_all : Type 0) (root : List ℕ)
+    (count : ℕ) (insertions : List (List ℕ × List ℕ)) (pages : List ChangedPageAt) → GivesHashes H → count < 2 ^ 64
+    → IsOwnSource H bytes_at root count insertions → AreAllPages H (IsAllowed bytes_at tells_all) root count pages
+    → (p : ChangedPageAt) → Contains pages p → (stands H insertions (bits_of_bytes p.prefix) ≡ true)
+    × (p.version ≡ version H insertions (bits_of_bytes p.prefix))
+visit_own = visits.visit_own
+
 -- The root of a visit's pages is that of the map that they hold.
 pub root_of_pages : (H : List ℕ → List ℕ) (IsThere : List ℕ → ℕ → List SlotAt → Type 0) (root : List ℕ) (version : ℕ)
     (all : List ChangedPageAt) → AreAllPages H IsThere root version all

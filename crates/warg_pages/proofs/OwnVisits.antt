@@ -1,8 +1,8 @@
--- A visit of the pages of insertions finds each of them.
-use Rattle.std.proofs.Common.{◌≡◌, ℕ, zero, suc, ◌+◌, ◌-◌, ◌*◌, ◌^◌, ◌<◌, ◌≤◌, Bool, true, false, eqb, List, [], ◌∷◌, ◌++◌, length, Option, Some, None, refl, sym, ap, subst, ◌∙◌, arith, length-append, append_assoc}
+-- A visit of the pages of insertions finds each of them, and no others.
+use Rattle.std.proofs.Common.{◌≡◌, ⊎_elim, ℕ, zero, suc, ◌+◌, ◌-◌, ◌*◌, ◌^◌, ◌<◌, ◌≤◌, Bool, true, false, eqb, List, [], ◌∷◌, ◌++◌, length, Option, Some, None, refl, sym, ap, subst, ◌∙◌, arith, length-append, append_assoc}
 use Rattle.std.proofs.lemmas.List.{append-nil}
 use Rattle.std.proofs.Math.Seq.{get_or-append_seam}
-use Rattle.std.proofs.lemmas.List.Elements.{Contains-append_left, Contains-append_right}
+use Rattle.std.proofs.lemmas.List.Elements.{Contains-append_left, Contains-append_right, Contains-append_cases}
 use Rattle.std.specs.Prelude.{find, IfSome}
 use Rattle.std.specs.Bool.{then_some}
 use Rattle.std.specs.List.{All, Contains}
@@ -21,11 +21,12 @@ use Rattle.warg_pages.specs.Visits.{AreOfSlot, AreOfSlots, AreFrom, AreAllPages,
 use Rattle.warg_pages.specs.Private.Visited.{IsOwnFrom, IsOwnSlot}
 use Rattle.warg_pages.proofs.KeyPrefixes.{length-bits_from}
 use Rattle.warg_pages.proofs.LoneSlots.{some_same}
+use Rattle.warg_pages.proofs.Members.{among, first_among, later_among}
 use Rattle.warg_pages.proofs.MoreInsertions.{none_longer}
 use Rattle.warg_pages.proofs.OwnDescent.{own_slot_at}
 use Rattle.warg_pages.proofs.PrefixBytes.{bits-append, bits-more}
 use Rattle.warg_pages.proofs.SlotsAfter.{no_page_lone}
-use Rattle.warg_pages.proofs.VisitedPages.{own_root, own_page, own_below}
+use Rattle.warg_pages.proofs.VisitedPages.{own_root, own_page, own_slot, own_below}
 
 -- pages of a slot among those of all
 record AreAmong (H : List ℕ → List ℕ) (From : List ℕ → ℕ → List ℕ → List ChangedPageAt → Type 0) (prefix : List ℕ)
@@ -178,3 +179,69 @@ own_visit H f T root zero es pages prefix gives fits own all are_bytes short the
 own_visit H f T root (suc n) es pages prefix gives fits own all are_bytes short there =
     own_among H gives f T es 32 [] root (suc n) pages prefix all (own_root H f root (suc n) es fits (λ z. omega arith) own)
     are_bytes short there
+
+-- a page is one of those of insertions
+abbrev pub IsOwnAt : (List ℕ → List ℕ) → List (List ℕ × List ℕ) → ChangedPageAt → Type 0
+IsOwnAt H es p = (stands H es (bits_of_bytes p.prefix) ≡ true) × (p.version ≡ version H es (bits_of_bytes p.prefix))
+
+-- what holds of the pages below each slot holds of those below all
+of_slots : (H : List ℕ → List ℕ) (From : List ℕ → ℕ → List ℕ → List ChangedPageAt → Type 0) (prefix : List ℕ)
+    (P : ChangedPageAt → Type 0) (slots : List SlotAt) (pages : List ChangedPageAt)
+    → ((x : SlotAt) (these : List ChangedPageAt) → Contains slots x → AreOfSlot H From prefix x x.lone these
+    → (p : ChangedPageAt) → Contains these p → P p)
+    → AreOfSlots H From prefix slots pages → (p : ChangedPageAt) → Contains pages p → P p
+unfolding AreOfSlots
+of_slots H From prefix P [] pages each all p there =
+    let Q : List ChangedPageAt → Type 0 = λ ps. Contains ps p in
+    let lt = (subst Q all there).1 in absurd (omega arith)
+of_slots H From prefix P (x ∷ xs) pages each all p there =
+    let Q : List ChangedPageAt → Type 0 = λ ps. Contains ps p in
+    ⊎_elim (λ first. each x all.0 (first_among x xs) all.3 p first)
+    (λ rest. of_slots H From prefix P xs all.1 (λ y these in_rest. each y these (later_among x xs y in_rest)) all.4 p rest)
+    (Contains-append_cases all.0 all.1 p (subst Q all.2 there))
+
+-- each page of a visit from a prefix on is one of the insertions'
+own_from : (H : List ℕ → List ℕ) → GivesHashes H → (bytes_at : List ℕ → ℕ → Option (List ℕ)) (tells_all : Type 0)
+    (es : List (List ℕ × List ℕ)) (n : ℕ) (prefix digest : List ℕ) (number : ℕ) (pages : List ChangedPageAt)
+    → length prefix + n ≡ 32 → AreFrom H (IsAllowed bytes_at tells_all) n prefix number digest pages
+    → IsOwnFrom H bytes_at prefix number digest es → (p : ChangedPageAt) → Contains pages p → IsOwnAt H es p
+unfolding AreFrom
+own_from H gives f T es zero prefix digest number pages depth from own p there = absurd from
+own_from H gives f T es (suc n) prefix digest number pages depth from own p there =
+    let Q : List ChangedPageAt → Type 0 = λ ps. Contains ps p in
+    let first : ChangedPageAt = record { prefix = prefix; version = number; page = from.0 } in
+    ⊎_elim (λ same. subst (IsOwnAt H es) same (own.is_there, own.is_version))
+    (λ more. of_slots H From prefix (IsOwnAt H es) from.0 from.1
+    (λ x these in_page of_slot. by_lone x these in_page (own_from H gives f T es n) x.lone refl of_slot) from.6 p more)
+    (among first from.1 p (subst Q from.2 there))
+  where
+    From : List ℕ → ℕ → List ℕ → List ChangedPageAt → Type 0
+    From = AreFrom H (IsAllowed f T) n
+
+    by_lone : (x : SlotAt) (these : List ChangedPageAt) → Contains from.0 x
+        → ((longer lower : List ℕ) (later : ℕ) (ps : List ChangedPageAt) → length longer + n ≡ 32
+        → From longer later lower ps → IsOwnFrom H f longer later lower es → (q : ChangedPageAt) → Contains ps q
+        → IsOwnAt H es q)
+        → (lone : Option (List ℕ × List ℕ)) → x.lone ≡ lone → AreOfSlot H From prefix x lone these
+        → (q : ChangedPageAt) → Contains these q → IsOwnAt H es q
+    by_lone x these in_page rest (Some lone) is of_slot q in_these =
+        let R : List ChangedPageAt → Type 0 = λ ps. Contains ps q in
+        let lt = (subst R of_slot.0 in_these).1 in absurd (omega arith)
+    by_lone x these in_page rest None is of_slot q in_these =
+        let lt : length prefix < 32 = omega (arith, depth) in
+        let page = own_page H gives f prefix digest number from.0 es lt from.3 from.4.allowed own in
+        let at = own_slot H f prefix digest number from.0 es in_page.0 x page in_page.1 (sym in_page.2) own in
+        let longer = prefix ++ x.byte ∷ [] in
+        rest longer x.digest x.version these
+        (let k = length-append prefix (x.byte ∷ []) in omega (arith, depth)) of_slot
+        (own_below H f prefix longer x es refl is at) q in_these
+
+pub visit_own : (H : List ℕ → List ℕ) (bytes_at : List ℕ → ℕ → Option (List ℕ)) (tells_all : Type 0) (root : List ℕ)
+    (count : ℕ) (es : List (List ℕ × List ℕ)) (pages : List ChangedPageAt) → GivesHashes H → count < 2 ^ 64
+    → IsOwnSource H bytes_at root count es → AreAllPages H (IsAllowed bytes_at tells_all) root count pages
+    → (p : ChangedPageAt) → Contains pages p → IsOwnAt H es p
+visit_own H f T root zero es pages gives fits own all p there =
+    let Q : List ChangedPageAt → Type 0 = λ ps. Contains ps p in
+    let lt = (subst Q all.0 there).1 in absurd (omega arith)
+visit_own H f T root (suc n) es pages gives fits own all p there =
+    own_from H gives f T es 32 [] root (suc n) pages refl all (own_root H f root (suc n) es fits (λ z. omega arith) own) p there

@@ -225,7 +225,9 @@ fn only_root<D>(known: Option<Hash<D>>, path: &[Hash<D>]) -> Option<Hash<D>>
 }
 
 /// Whether a consistency path shows that the log of the old checkpoint is a beginning of the log of the new one:
-/// whether the path leads from the old root to both checkpoints' roots, at their lengths. It does not allocate.
+/// whether the path leads from the old root to both checkpoints' roots, at their lengths (RFC 6962, section 2.1.2). False
+/// also from an old length of 0, to a lesser length, or where the path has another number of digests than is due. It does
+/// not allocate.
 pub fn check_tree<D: SupportedDigest>(
     old: &Checkpoint<D>,
     new: &Checkpoint<D>,

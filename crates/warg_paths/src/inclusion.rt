@@ -150,7 +150,8 @@ fn root_within<D: SupportedDigest>(
 }
 
 /// Whether an inclusion path shows that the log of this checkpoint has the value at `index`, from 0: whether
-/// the path leads from the value's leaf digest to the checkpoint's root, at its length. It does not allocate.
+/// the path leads from the value's leaf digest to the checkpoint's root, at its length (RFC 6962, section 2.1.1). False also
+/// where `index` isn't below the length, or the path has another number of digests than is due. It does not allocate.
 pub fn check_record<D: SupportedDigest, V: VisitBytes>(
     checkpoint: &Checkpoint<D>,
     index: usize,

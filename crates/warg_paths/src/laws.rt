@@ -100,13 +100,13 @@ pub fn consistency_path_is_unique()
         → (xs ≡ ys) ⊎ SomeCollision H (AreGrowthInputs H m n r xs s ys) }
 {}
 
-/// An inclusion path of a log of at most 2^h entries has at most h digests, so one of at most 2^63 has 63.
+/// An inclusion path of a log of at most 2^h entries has at most h digests, so one of at most 2^63 has at most 63.
 pub fn path_is_short()
     ensures { (R : Range → Option (List ℕ)) (m n h : ℕ) (path : List (List ℕ)) → n ≤ 2 ^ h
         → inclusion_of R m n ≡ Some path → length path ≤ h }
 {}
 
-/// A consistency path to at most 2^h entries has at most h + 1 digests, so one to at most 2^63 has 64.
+/// A consistency path to at most 2^h entries has at most h + 1 digests, so one to at most 2^63 has at most 64.
 pub fn consistency_path_is_short()
     ensures { (R : Range → Option (List ℕ)) (m n h : ℕ) (path : List (List ℕ)) → 0 < m → m ≤ n
         → n ≤ 2 ^ h → consistency_of R m n ≡ Some path → length path ≤ h + 1 }

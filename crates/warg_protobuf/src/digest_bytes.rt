@@ -62,7 +62,7 @@ impl<A: Allocator> DigestBytes<A> {
         }
     }
 
-    /// A copy of these bytes. `AllocError` where a growth was refused, and never for 32 bytes.
+    /// A copy of these bytes. `AllocError` where allocation failed, and never for 32 bytes.
     pub fn from_slice(alloc: A, bytes: &[u8]) -> Result<Self, AllocError>
         ensures { IfOk result (λ digest. digest ≡ bytes.now) }
     {

@@ -35,7 +35,7 @@ pub enum WireError {
     /// A uint32 is above 2^32 - 1.
     #[error("number too large")]
     NumberTooLarge,
-    /// A growth was refused. This says nothing of the bytes.
+    /// Allocation failed. This says nothing of the bytes.
     #[error("out of memory")]
     Memory,
 }

@@ -143,7 +143,7 @@ impl<A: Allocator + Copy> LogProofBundle<A> {
     ///
     /// # Errors
     ///
-    /// The first fault of the bytes ([`WireError`]), or `Memory` where a growth was refused. Memory grows with
+    /// The first fault of the bytes ([`WireError`]), or `Memory` where allocation failed. Memory grows with
     /// the bytes read, and never by a length that they announce.
     pub fn decode(alloc: A, bytes: &[u8]) -> Result<Self, WireError>
         ensures { Decodes log_schema log_view bytes.now result }
@@ -155,7 +155,7 @@ impl<A: Allocator + Copy> LogProofBundle<A> {
     ///
     /// # Errors
     ///
-    /// `AllocError` where a growth was refused.
+    /// `AllocError` where allocation failed.
     pub fn encode(&self, alloc: A) -> Result<Vec<u8, A>, AllocError>
         ensures { IfOk result (λ v. IsEncoded log_schema log_bytes (log_view self.now) v.items) }
     {

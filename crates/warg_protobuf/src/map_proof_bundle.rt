@@ -65,7 +65,7 @@ impl<A: Allocator + Copy> MapProofBundle<A> {
     ///
     /// # Errors
     ///
-    /// The first fault of the bytes ([`WireError`]), or `Memory` where a growth was refused. Memory grows with
+    /// The first fault of the bytes ([`WireError`]), or `Memory` where allocation failed. Memory grows with
     /// the bytes read, and never by a length that they announce.
     pub fn decode(alloc: A, bytes: &[u8]) -> Result<Self, WireError>
         ensures { Decodes map_schema map_view bytes.now result }
@@ -77,7 +77,7 @@ impl<A: Allocator + Copy> MapProofBundle<A> {
     ///
     /// # Errors
     ///
-    /// `AllocError` where a growth was refused.
+    /// `AllocError` where allocation failed.
     pub fn encode(&self, alloc: A) -> Result<Vec<u8, A>, AllocError>
         ensures { IfOk result (λ v. IsEncoded map_schema map_bytes (map_view self.now) v.items) }
     {

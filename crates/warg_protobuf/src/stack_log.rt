@@ -67,7 +67,7 @@ impl<A: Allocator + Copy> StackLog<A> {
     ///
     /// # Errors
     ///
-    /// The first fault of the bytes ([`WireError`]), or `Memory` where a growth was refused. Memory grows with
+    /// The first fault of the bytes ([`WireError`]), or `Memory` where allocation failed. Memory grows with
     /// the bytes read, and never by a length that they announce.
     pub fn decode(alloc: A, bytes: &[u8]) -> Result<Self, WireError>
         ensures { Decodes stack_schema stack_view bytes.now result }
@@ -79,7 +79,7 @@ impl<A: Allocator + Copy> StackLog<A> {
     ///
     /// # Errors
     ///
-    /// `AllocError` where a growth was refused.
+    /// `AllocError` where allocation failed.
     pub fn encode(&self, alloc: A) -> Result<Vec<u8, A>, AllocError>
         ensures { IfOk result (λ v. IsEncoded stack_schema stack_bytes (stack_view self.now) v.items) }
     {

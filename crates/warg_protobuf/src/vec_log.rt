@@ -70,7 +70,7 @@ impl<A: Allocator + Copy> VecLog<A> {
     ///
     /// # Errors
     ///
-    /// The first fault of the bytes ([`WireError`]), or `Memory` where a growth was refused. Memory grows with
+    /// The first fault of the bytes ([`WireError`]), or `Memory` where allocation failed. Memory grows with
     /// the bytes read, and never by a length that they announce.
     pub fn decode(alloc: A, bytes: &[u8]) -> Result<Self, WireError>
         ensures { Decodes vec_schema vec_view bytes.now result }
@@ -82,7 +82,7 @@ impl<A: Allocator + Copy> VecLog<A> {
     ///
     /// # Errors
     ///
-    /// `AllocError` where a growth was refused.
+    /// `AllocError` where allocation failed.
     pub fn encode(&self, alloc: A) -> Result<Vec<u8, A>, AllocError>
         ensures { IfOk result (λ v. IsEncoded vec_schema vec_bytes (vec_view self.now) v.items) }
     {

@@ -4,7 +4,7 @@ use Rattle.std.specs.Prelude.{slice_get}
 use Rattle.std.specs.Option.{option_map}
 use Rattle.std.specs.FinMap.{get}
 use Rattle.std.proofs.lemmas.Bool.{cases_Bool}
-use Rattle.std.proofs.lemmas.Option.{slice_get-map}
+use Rattle.std.proofs.lemmas.Option.{slice_get-map, slice_get_within}
 use Rattle.std.proofs.lemmas.List.{length-append}
 use Rattle.std.proofs.Math.Dec.{eqb-suc-zero}
 use Rattle.warg_crypto.specs.Tree.{leaf_digest}
@@ -81,6 +81,15 @@ own_entry H insertions key value leaf index at held own =
     let same : last.0 ≡ (key, value) = cc in
     (last.2 ∙ ap (λ e. Some (entry_of e)) same, ap (λ e. leaf_digest H e.1) (sym same) ∙ last.4)
 
+-- An entry of fewer than 2^64 bytes is of a key and a value whose lengths 8 bytes can say.
+small_insertion : (key value entry : List ℕ) → length entry < 2 ^ 64 → entry ≡ entry_of (key, value)
+    → IsInsertion (key, value)
+small_insertion key value entry small is =
+    let size = ap length is in
+    let left = length-append key (framed_part value ++ []) in
+    let right = length-append value [] in
+    (omega (arith, size, left, right, small), omega (arith, size, left, right, small))
+
 -- The entry at a held key's index, if it is one of the key itself, is that of the last insertion under the key's digest.
 pub own_value : (H : List ℕ → List ℕ) (insertions : List (List ℕ × List ℕ)) (key value entry leaf : List ℕ) (index : ℕ)
     → length entry < 2 ^ 64 → slice_get (entries_of insertions) index ≡ Some entry → entry ≡ entry_of (key, value)
@@ -90,8 +99,27 @@ own_value H insertions key value entry leaf index small there is at held =
     let last = last_entry H insertions key leaf index at held in
     let both : Some entry ≡ Some (entry_of last.0) = sym there ∙ last.2 in
     let same : entry_of (key, value) ≡ entry_of last.0 = let e : entry ≡ entry_of last.0 = cc in sym is ∙ e in
-    let size = ap length is in
-    let left = length-append key (framed_part value ++ []) in
-    let right = length-append value [] in
-    let fine : IsInsertion (key, value) = (omega (arith, size, left, right, small), omega (arith, size, left, right, small)) in
-    last.1 ∙ ap (λ (e : List ℕ × List ℕ). Some e) (sym (one_insertion (key, value) last.0 fine same))
+    last.1 ∙ ap (λ (e : List ℕ × List ℕ). Some e)
+    (sym (one_insertion (key, value) last.0 (small_insertion key value entry small is) same))
+
+-- It is one of the key itself, where the last insertion under the key's digest is.
+pub entry_of_key : (H : List ℕ → List ℕ) (insertions : List (List ℕ × List ℕ)) (key entry leaf : List ℕ) (index : ℕ)
+    → length entry < 2 ^ 64 → slice_get (entries_of insertions) index ≡ Some entry
+    → index + 1 ≡ version H insertions (key_bits H key) → get (map_of H insertions) (key_bits H key) ≡ Some leaf
+    → ((e : List ℕ × List ℕ) → last_under H (key_bits H key) insertions ≡ Some e → e.0 ≡ key)
+    → (value : List ℕ) × IsInsertion (key, value) × (entry ≡ entry_of (key, value)) × (leaf_digest H value ≡ leaf)
+entry_of_key H insertions key entry leaf index small there at held own =
+    let last = last_entry H insertions key leaf index at held in
+    let value = last.0.1 in
+    let both : Some entry ≡ Some (entry_of last.0) = sym there ∙ last.2 in
+    let same : entry ≡ entry_of last.0 = cc in
+    let is : entry ≡ entry_of (key, value) = same ∙ ap (λ (k : List ℕ). entry_of (k, value)) (own last.0 last.1) in
+    (value, small_insertion key value entry small is, is, last.4)
+
+-- There is an entry at its index.
+pub held_within : (H : List ℕ → List ℕ) (insertions : List (List ℕ × List ℕ)) (key leaf : List ℕ) (index : ℕ)
+    → index + 1 ≡ version H insertions (key_bits H key) → get (map_of H insertions) (key_bits H key) ≡ Some leaf
+    → index < length (entries_of insertions)
+held_within H insertions key leaf index at held =
+    let last = last_entry H insertions key leaf index at held in
+    slice_get_within (entries_of insertions) index (entry_of last.0) last.2

@@ -1,11 +1,13 @@
 mod Entries
 mod MapLines
 mod HeldEntries
+mod FoundKeys
 mod Refused
 mod Listed
 mod RegistryPages
 mod RegistryGrowth
 mod Pruned
+mod LeftPages
 mod Replaying
 mod FolderMoments
 mod Publishing

@@ -1,13 +1,13 @@
 -- The pages that pruning keeps.
-use Rattle.std.proofs.Common.{◌≡◌, ⊎_elim, ◌⊎◌, ℕ, ◌<◌, ◌≤◌, ◌^◌, Bool, true, false, ◌||◌, List, [], ◌∷◌, ◌++◌, length, map, refl, sym, ap, subst, ◌∙◌, arith, inl, inr}
-use Rattle.std.proofs.lemmas.Bool.{or_parts}
+use Rattle.std.proofs.Common.{◌≡◌, ⊎_elim, ◌⊎◌, ℕ, ◌<◌, ◌≤◌, ◌^◌, Bool, true, false, eqb, ◌&&◌, ◌||◌, List, [], ◌∷◌, ◌++◌, length, map, refl, sym, ap, subst, ◌∙◌, arith, inl, inr, append_assoc}
+use Rattle.std.proofs.lemmas.Bool.{or_parts, and_parts}
 use Rattle.std.proofs.lemmas.List.{length-map, map-append}
-use Rattle.std.proofs.lemmas.List.Elements.{Contains-append_cases}
+use Rattle.std.proofs.lemmas.List.Elements.{Contains-append_cases, Contains-append_left, Contains-append_right}
 use Rattle.std.proofs.lemmas.Map.Text.{is_eq-slice_cmp}
 use Rattle.std.proofs.lemmas.Slice.Eq.{bytes_eq-Decides}
 use Rattle.std.specs.BTreeMap.{is_at}
 use Rattle.std.specs.BTreeSet.{insert_key}
-use Rattle.std.specs.Cmp.Lexicographic.{slice_cmp}
+use Rattle.std.specs.Cmp.Lexicographic.{slice_cmp, pointwise, bytes_decides}
 use Rattle.std.specs.List.{Contains, list_any}
 use Rattle.std.specs.Ordering.{nat_cmp, is_eq, match_ordering}
 use Rattle.std.specs.String.{string_bytes, string_cmp}
@@ -22,7 +22,7 @@ use Rattle.warg_pages.specs.ChangedPages.{ChangedPageAt, page_at}
 use Rattle.warg_pages.specs.PagePaths.{page_path}
 use Rattle.warg_pages.specs.ProvedKeys.{IsOwnSource}
 use Rattle.warg_pages.specs.Visits.{AreAllPages, IsAllowed}
-use Rattle.warg_pages.proofs.ForCallers.{own_visit}
+use Rattle.warg_pages.proofs.ForCallers.{own_visit, visit_own}
 use Rattle.warg_tiles.specs.CheckpointText.{Said}
 use Rattle.warg_store.specs.Files.{File, Files}
 use Rattle.warg_store.specs.Log.{Serves}
@@ -32,7 +32,7 @@ use Rattle.warg_store.specs.Pruned.{IsNoneOf}
 use Rattle.warg_registry.specs.Folder.{pages_of, page_found, registry_of}
 use Rattle.warg_registry.specs.Insertions.{entry_of}
 use Rattle.warg_registry.specs.Registry.{line_of}
-use Rattle.warg_registry.specs.Pruning.{bytes_of, ArePathsOf, HaveAllPages, AreNone}
+use Rattle.warg_registry.specs.Pruning.{bytes_of, ArePathsOf, AreOnlyPathsOf, HaveAllPages, IsPageOf, AreNone, AreAmong}
 use Rattle.warg_registry.proofs.MapLines.{one_root, map_digest}
 use Rattle.warg_registry.proofs.Listed.{none_there, of_one, first_there, later_there, there_cases}
 use Rattle.warg_registry.proofs.RegistryPages.{page_of_list, own_files}
@@ -61,6 +61,24 @@ name_there cmp same (x ∷ xs) k n h = by_order (cmp k x) refl (name_there cmp s
         (there_cases (bytes_of xs) n (string_bytes x) old))
         (λ new. later_there (bytes_of (insert_key cmp xs k)) n (string_bytes x) (rest (inr new))) h
 
+-- and nothing else
+pub name_from : (cmp : String Global → String Global → Ordering) (ks : List (String Global)) (k : String Global) (n : List ℕ)
+    → Contains (bytes_of (insert_key cmp ks k)) n → Contains (bytes_of ks) n ⊎ (string_bytes k ≡ n)
+name_from cmp [] k n h = inr (of_one (string_bytes k) n h)
+name_from cmp (x ∷ xs) k n h = by_order (cmp k x) h (name_from cmp xs k n)
+  where
+    by_order : (o : Ordering)
+        → Contains (bytes_of (match_ordering o (k ∷ x ∷ xs) (x ∷ xs) (x ∷ insert_key cmp xs k))) n
+        → (Contains (bytes_of (insert_key cmp xs k)) n → Contains (bytes_of xs) n ⊎ (string_bytes k ≡ n))
+        → Contains (bytes_of (x ∷ xs)) n ⊎ (string_bytes k ≡ n)
+    by_order Less is rest = ⊎_elim (λ new. inr new) (λ old. inl old)
+        (there_cases (bytes_of (x ∷ xs)) n (string_bytes k) is)
+    by_order Equal is rest = inl is
+    by_order Greater is rest = ⊎_elim
+        (λ first. inl (subst (λ m. Contains (bytes_of (x ∷ xs)) m) first (first_there (bytes_of xs) (string_bytes x))))
+        (λ more. ⊎_elim (λ old. inl (later_there (bytes_of xs) n (string_bytes x) old)) (λ new. inr new) (rest more))
+        (there_cases (bytes_of (insert_key cmp xs k)) n (string_bytes x) is)
+
 -- texts that compare as equal have the same bytes
 pub same_names : (x y : String Global) → string_cmp x y ≡ Equal → string_bytes x ≡ string_bytes y
 same_names x y e = (bytes_eq-Decides (string_bytes x) (string_bytes y)).0
@@ -78,6 +96,51 @@ not_there q (x ∷ xs) e h =
     ∙ (bytes_eq-Decides q (string_bytes x)).1 (sym here) in
     let no : true ≡ false = sym yes ∙ parts.0 in cc)
     (λ more. not_there q xs parts.1 more) (there_cases (bytes_of xs) q (string_bytes x) h)
+
+-- and what it has
+pub is_there : (q : List ℕ) (ks : List (String Global)) → list_any (is_at (λ k. slice_cmp nat_cmp q (string_bytes k))) ks
+    ≡ true → Contains (bytes_of ks) q
+is_there q [] e = absurd (cc)
+is_there q (x ∷ xs) e = by_test (is_eq (slice_cmp nat_cmp q (string_bytes x))) refl e (is_there q xs)
+  where
+    by_test : (b : Bool) → is_eq (slice_cmp nat_cmp q (string_bytes x)) ≡ b
+        → (b || list_any (is_at (λ k. slice_cmp nat_cmp q (string_bytes k))) xs) ≡ true
+        → (list_any (is_at (λ k. slice_cmp nat_cmp q (string_bytes k))) xs ≡ true → Contains (bytes_of xs) q)
+        → Contains (bytes_of (x ∷ xs)) q
+    by_test true t some rest =
+        let same = (bytes_eq-Decides q (string_bytes x)).0 (sym (is_eq-slice_cmp q (string_bytes x)) ∙ t) in
+        subst (λ m. Contains (bytes_of (x ∷ xs)) m) (sym same) (first_there (bytes_of xs) (string_bytes x))
+    by_test false t some rest = later_there (bytes_of xs) q (string_bytes x) (rest some)
+
+-- names that are left to be looked at, one of which goes to the others
+pub among_pushed : (names keys : List (List ℕ)) (others after items rest : List (String Global)) (s : String Global)
+    → after ≡ others ++ s ∷ [] → items ≡ s ∷ rest → AreAmong names (bytes_of (others ++ items)) keys
+    → AreAmong names (bytes_of (after ++ rest)) keys
+among_pushed names keys others after items rest s pushed e all =
+    let P : List (String Global) → Type 0 = λ ks. AreAmong names (bytes_of ks) keys in
+    subst P (ap (λ r. others ++ r) e ∙ sym (append_assoc others (s ∷ []) rest) ∙ ap (λ a. a ++ rest) (sym pushed)) all
+
+-- or is one of the keys
+pub among_passed : (names keys : List (List ℕ)) (others items rest : List (String Global)) (s : String Global)
+    → items ≡ s ∷ rest → Contains keys (string_bytes s) → AreAmong names (bytes_of (others ++ items)) keys
+    → AreAmong names (bytes_of (others ++ rest)) keys
+among_passed names keys others items rest s e key all = λ n is. ⊎_elim (λ there. by_place n there) (λ k. inr k) (all n is)
+  where
+    left : (n : List ℕ) → Contains (bytes_of others) n → Contains (bytes_of (others ++ rest)) n
+    left n h = subst (λ ks. Contains ks n) (sym (map-append (λ (k : String Global). string_bytes k) others rest))
+        (Contains-append_left (bytes_of others) (bytes_of rest) n h)
+
+    right : (n : List ℕ) → Contains (bytes_of rest) n → Contains (bytes_of (others ++ rest)) n
+    right n h = subst (λ ks. Contains ks n) (sym (map-append (λ (k : String Global). string_bytes k) others rest))
+        (Contains-append_right (bytes_of others) (bytes_of rest) n h)
+
+    by_place : (n : List ℕ) → Contains (bytes_of (others ++ items)) n
+        → Contains (bytes_of (others ++ rest)) n ⊎ Contains keys n
+    by_place n there = ⊎_elim (λ old. inl (left n old))
+        (λ later. ⊎_elim (λ same. inr (subst (Contains keys) same key)) (λ more. inl (right n more))
+        (there_cases (bytes_of rest) n (string_bytes s) (subst (λ ks. Contains (bytes_of ks) n) e later)))
+        (Contains-append_cases (bytes_of others) (bytes_of items) n
+        (subst (λ ks. Contains ks n) (map-append (λ (k : String Global). string_bytes k) others items) there))
 
 -- a name more that isn't among others
 pub pushed_none : (names : List (List ℕ)) (others after : List (String Global)) (s : String Global)
@@ -101,8 +164,36 @@ all_named seen T root count es pages names fits own all named = λ f there.
     found.1.are_bytes found.1.short found.1.is_there in
     subst (λ (g : File). Contains names (page_name g.0)) found.2 (named (page_at sha256 es found.0) at)
 
+-- and what was visited is one of them
+pub own_named : (seen : Files) (tells_all : Type 0) (root : List ℕ) (count : ℕ) (es : List (List ℕ × List ℕ))
+    (pages : List ChangedPageAt) → count < 2 ^ 64 → IsOwnSource sha256 (page_found seen) root count es
+    → AreAllPages sha256 (IsAllowed (page_found seen) tells_all) root count pages → (p : ChangedPageAt)
+    → Contains pages p → IsPageOf es (page_path p.prefix p.version)
+own_named seen T root count es pages fits own all p there =
+    let at = visit_own sha256 (page_found seen) T root count es pages IsDigest-sha256 fits own all p there in
+    (p.prefix, at.0, ap (page_path p.prefix) (sym at.1))
+
+-- names of visited pages, one list after the other, are those of needed ones
+pub of_visits : (names : List (List ℕ)) (first second : List ChangedPageAt) (served kept : List (List ℕ × List ℕ))
+    → AreOnlyPathsOf names (first ++ second)
+    → ((p : ChangedPageAt) → Contains first p → IsPageOf kept (page_path p.prefix p.version))
+    → ((p : ChangedPageAt) → Contains second p → IsPageOf served (page_path p.prefix p.version))
+    → (n : List ℕ) → Contains names n → IsPageOf served n ⊎ IsPageOf kept n
+of_visits names first second served kept only of_first of_second n is =
+    let from = only n is in
+    ⊎_elim (λ one. inr (subst (IsPageOf kept) from.2 (of_first from.0 one)))
+    (λ two. inl (subst (IsPageOf served) from.2 (of_second from.0 two)))
+    (Contains-append_cases first second from.0 from.1)
+
 pub no_paths : (names : List (List ℕ)) → ArePathsOf names []
 no_paths names = λ p there. absurd (none_there p there)
+
+pub none_named : (ks : List (String Global)) → ks ≡ [] → AreOnlyPathsOf (bytes_of ks) []
+none_named ks e = λ n is. absurd (none_there n (subst (λ xs. Contains (bytes_of xs) n) e is))
+
+-- what `==` on hashes says
+pub same_hashes : (a b : List ℕ) → (pointwise eqb a b && true) ≡ true → a ≡ b
+same_hashes a b e = (bytes_decides a b).0 (and_parts (pointwise eqb a b) true e).0
 
 pub none_of : (names others : List (List ℕ)) (es : List (List ℕ × List ℕ)) → AreNone others names
     → HaveAllPages names es → IsNoneOf others (pages_of es)

@@ -1,5 +1,6 @@
 -- The pages of insertions, as files.
 use Rattle.std.proofs.Common.{◌≡◌, ◌⊎◌, ℕ, zero, suc, ◌+◌, ◌<◌, ◌≤◌, ◌^◌, true, List, [], ◌∷◌, ◌++◌, length, map, take, sym, ap, ◌∙◌, subst, inl, inr, arith, Option, Some}
+use Rattle.std.specs.Prelude.{unwrap_or}
 use Rattle.std.specs.List.{All, Contains}
 use Rattle.std.specs.Option.{option_map}
 use Rattle.std.proofs.lemmas.Bool.{cases_lt}
@@ -22,7 +23,7 @@ use Rattle.warg_store.specs.Names.{checkpoint}
 use Rattle.warg_registry.specs.Insertions.{entry_of, entries_of}
 use Rattle.warg_registry.specs.Registry.{line_of, said_of}
 use Rattle.warg_store.specs.Log.{HasFiles, HasPage, Serves}
-use Rattle.warg_registry.specs.Folder.{path_below, page_file, prefixes_on_way, pages_of, registry_of, page_found, files_of}
+use Rattle.warg_registry.specs.Folder.{path_below, page_file, prefixes_on_way, pages_of, registry_of, page_found, page_read, files_of}
 use Rattle.warg_registry.proofs.Listed.{mapped_there, of_mapped, passed_there, of_passed, joined_there, of_joined, first_there, later_there, there_cases, none_there}
 
 Insertions : Type 0
@@ -177,3 +178,9 @@ served_checkpoint origin insertions files serves =
       serves.checkpoint.0,
       serves.checkpoint.1 ∙ ap (λ (s : Said). Some (text_before s serves.checkpoint.0)) says,
     )
+
+-- And those that are read of it.
+pub read_files : (origin : List ℕ) (insertions : List (List ℕ × List ℕ)) (files : Files)
+    → HasFiles (registry_of origin insertions) files → AreOwnPages sha256 (page_read files) insertions
+read_files origin insertions files has = λ prefix bytes short there.
+    ap (λ (o : Option (List ℕ)). Some (unwrap_or o (0 ∷ []))) (own_files origin insertions files has prefix bytes short there)

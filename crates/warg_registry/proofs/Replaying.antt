@@ -16,7 +16,7 @@ use Rattle.warg_pages.proofs.ForCallers.{audited, AreInPages-push, count_last-pu
 use Rattle.warg_store.specs.Audited.{IsOfEntries}
 use Rattle.warg_store.specs.Files.{Files}
 use Rattle.warg_registry.specs.Auditing.{AreAllInFiles, AreOfRegistry, IsReplayed}
-use Rattle.warg_registry.specs.Folder.{page_found}
+use Rattle.warg_registry.specs.Folder.{page_read}
 use Rattle.warg_registry.specs.Insertions.{entry_of, entries_of}
 
 -- no entry yet
@@ -115,6 +115,6 @@ module _ (IsFaithful : Type 0) (files : Files) (version : ℕ) (log : Blocks) (l
       let in_pages = was.in_pages faithful root all led in record {
         count = sym (length-map was.insertions entry_of) ∙ many;
         log_root = root_is;
-        map_root = audited sha256 (IsAllowed (page_found files) (true ≡ true)) root version was.insertions all in_pages.0
+        map_root = audited sha256 (IsAllowed (page_read files) (true ≡ true)) root version was.insertions all in_pages.0
             led in_pages.1 (sym in_pages.2 ∙ counted ∙ held);
       }

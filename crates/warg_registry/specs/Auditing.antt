@@ -9,7 +9,7 @@ use Rattle.warg_pages.specs.Audits.{AreInPages, count_last}
 use Rattle.warg_pages.specs.ChangedPages.{ChangedPageAt}
 use Rattle.warg_pages.specs.Visits.{AreAllPages, IsAllowed}
 use Rattle.warg_store.specs.Files.{Files}
-use Rattle.warg_registry.specs.Folder.{page_found}
+use Rattle.warg_registry.specs.Folder.{page_read}
 use Rattle.warg_registry.specs.Insertions.{entries_of}
 
 -- The log of these insertions has the checkpoint's root and length, and their map has the map's root.
@@ -20,7 +20,7 @@ pub record AreOfRegistry (checkpoint : RootAndLength) (said : List ℕ) (inserti
 
 -- These are all pages that a root leads to in files.
 abbrev pub AreAllInFiles : Files → List ℕ → ℕ → List ChangedPageAt → Type 0
-AreAllInFiles files root version all = AreAllPages sha256 (IsAllowed (page_found files) (true ≡ true)) root version all
+AreAllInFiles files root version all = AreAllPages sha256 (IsAllowed (page_read files) (true ≡ true)) root version all
 
 -- The log stands for the entries of some insertions; and where a device is faithful, these are in all pages that a root leads
 -- to, so many of them as the last ones of their keys.

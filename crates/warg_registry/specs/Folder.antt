@@ -1,5 +1,5 @@
 -- A registry in a folder: its log's files, and the pages of its map.
-use Rattle.std.specs.Prelude.{◌≡◌, ℕ, ◌<◌, ◌++◌, ◌⊎◌, Bool, true, false, List, [], ◌∷◌, length, map, take, Option, None}
+use Rattle.std.specs.Prelude.{◌≡◌, ℕ, ◌<◌, ◌++◌, ◌⊎◌, Bool, true, false, List, [], ◌∷◌, length, map, take, Option, Some, None, unwrap_or}
 use Rattle.std.specs.Fmt.{decimal}
 use Rattle.std.specs.List.{Contains, flat_map, filter, slice_index_or}
 use Rattle.std.specs.Option.{option_map}
@@ -55,6 +55,10 @@ registry_of origin insertions = record {
 -- The bytes of a page that a reader finds, but no more than one above the most that a page has: 256 slots of 106 bytes.
 abbrev pub page_found : Files → List ℕ → ℕ → Option (List ℕ)
 page_found files prefix number = option_map (take 27137) (files (page_path prefix number))
+
+-- The bytes that are read as a page: those that are found, or, where a file is missing, one byte, as no page has.
+abbrev pub page_read : Files → List ℕ → ℕ → Option (List ℕ)
+page_read files prefix number = Some (unwrap_or (page_found files prefix number) (0 ∷ []))
 
 -- What is found where a device is known to be faithful; else nothing is said.
 abbrev pub found_if : Bool → (List ℕ → ℕ → Option (List ℕ)) → List ℕ → ℕ → Option (List ℕ)

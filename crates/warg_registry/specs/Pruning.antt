@@ -1,12 +1,15 @@
 -- The pages that a registry needs.
-use Rattle.std.specs.Prelude.{◌≡◌, ◌≢◌, ℕ, List, map}
+use Rattle.std.specs.Prelude.{◌≡◌, ◌≢◌, ◌⊎◌, ℕ, true, List, map}
 use Rattle.std.specs.BTreeSet.{BTreeSet}
 use Rattle.std.specs.declared.alloc.Global.{Global}
 use Rattle.std.specs.List.{Contains}
 use Rattle.std.specs.String.{string_bytes}
 use Rattle.std.specs.declared.string.String.{String}
+use Rattle.warg_crypto.specs.Digests.{sha256}
 use Rattle.warg_pages.specs.ChangedPages.{ChangedPageAt}
+use Rattle.warg_pages.specs.OwnPages.{stands}
 use Rattle.warg_pages.specs.PagePaths.{page_path}
+use Rattle.warg_pages.specs.Prefixes.{bits_of_bytes, version}
 use Rattle.warg_store.specs.Files.{File}
 use Rattle.warg_store.specs.Names.{page_name}
 use Rattle.warg_registry.specs.Folder.{pages_of}
@@ -19,10 +22,30 @@ bytes_of names = map (λ name. string_bytes name) names
 abbrev pub ArePathsOf : List (List ℕ) → List ChangedPageAt → Type 0
 ArePathsOf names pages = (p : ChangedPageAt) → Contains pages p → Contains names (page_path p.prefix p.version)
 
+-- Each name is that of one of these pages.
+abbrev pub AreOnlyPathsOf : List (List ℕ) → List ChangedPageAt → Type 0
+AreOnlyPathsOf names pages = (n : List ℕ) → Contains names n
+    → (p : ChangedPageAt) × Contains pages p × (page_path p.prefix p.version ≡ n)
+
 -- Among the names are those of all pages of these insertions.
 abbrev pub HaveAllPages : List (List ℕ) → List (List ℕ × List ℕ) → Type 0
 HaveAllPages names insertions = (f : File) → Contains (pages_of insertions) f → Contains names (page_name f.0)
 
--- The names are those of files, but for those among others.
+-- The name is that of a page of these insertions: where one stands, at its version.
+abbrev pub IsPageOf : List (List ℕ × List ℕ) → List ℕ → Type 0
+IsPageOf insertions n = (prefix : List ℕ) × (stands sha256 insertions (bits_of_bytes prefix) ≡ true)
+    × (page_path prefix (version sha256 insertions (bits_of_bytes prefix)) ≡ n)
+
+-- The names are those of the pages of two lists of insertions, and no others.
+pub record AreNeeded (names : List (List ℕ)) (served kept : List (List ℕ × List ℕ)) : Type 0 where
+  pub all_served : HaveAllPages names served
+  pub all_kept : HaveAllPages names kept
+  pub only : (n : List ℕ) → Contains names n → IsPageOf served n ⊎ IsPageOf kept n
+
+-- No name stands in both lists.
 abbrev pub AreNone : List (List ℕ) → List (List ℕ) → Type 0
 AreNone names others = (n : List ℕ) → Contains names n → Contains others n → ⊥
+
+-- Each name stands in one of two lists.
+abbrev pub AreAmong : List (List ℕ) → List (List ℕ) → List (List ℕ) → Type 0
+AreAmong names these those = (n : List ℕ) → Contains names n → Contains these n ⊎ Contains those n

@@ -29,13 +29,27 @@ pub record ReadsRegistry {F : Type 0} (seen : F → Files) (origin : List ℕ) (
   pub reads : Reads seen (registry_of origin insertions) r.log
   pub is_root : r.root ≡ sparse_root sha256 256 (map_of sha256 insertions)
 
--- A value is shown by its entry's inclusion under the checkpoint, and by the proof that leads from its leaf digest to the
--- map's root; that nothing is there, by the proof that leads from an empty leaf.
-abbrev pub IsKeyShown : RootAndLength → List ℕ → List ℕ → KeyInRegistry → Type 0
-IsKeyShown checkpoint root key (Held index value peers) = IsShown checkpoint index (entry_of (key, value.items))
-    × (proof_value sha256 peers.items (leaf_digest sha256 value.items) (key_bits sha256 key) ≡ root)
-IsKeyShown checkpoint root key (Absent peers) =
-    proof_value sha256 peers.items (empty_root sha256 0) (key_bits sha256 key) ≡ root
+-- The map's proof leads to a root: from the value's leaf digest, or, where nothing is there, from an empty leaf.
+abbrev pub IsKeyShown : List ℕ → List ℕ → KeyInRegistry → Type 0
+IsKeyShown root key (Held index value peers) =
+    proof_value sha256 peers.items (leaf_digest sha256 value.items) (key_bits sha256 key) ≡ root
+IsKeyShown root key (Absent peers) = proof_value sha256 peers.items (empty_root sha256 0) (key_bits sha256 key) ≡ root
+
+-- The entry of a value's insertion is shown by its inclusion under the checkpoint.
+abbrev pub IsLogged : RootAndLength → List ℕ → KeyInRegistry → Type 0
+IsLogged checkpoint key (Held index value peers) = IsShown checkpoint index (entry_of (key, value.items))
+IsLogged checkpoint key (Absent peers) = Unit {0}
+
+-- The value is that of an entry under the key, of this leaf digest, and the index and the peers are these.
+abbrev pub IsOfEntry : List ℕ → ℕ → List ℕ → List ℕ → List (Option (List ℕ)) → KeyInRegistry → Type 0
+IsOfEntry key index leaf entry peers (Held at value others) = (at ≡ index) × (others.items ≡ peers)
+    × (entry ≡ entry_of (key, value.items)) × (leaf_digest sha256 value.items ≡ leaf)
+IsOfEntry key index leaf entry peers (Absent others) = ⊥
+
+-- The last insertion under a key's digest, if there is one, is of this very key.
+abbrev pub IsOwnKey : List (List ℕ × List ℕ) → List ℕ → Type 0
+IsOwnKey insertions key =
+    (e : List ℕ × List ℕ) → last_under sha256 (key_bits sha256 key) insertions ≡ Some e → e.0 ≡ key
 
 -- The map of insertions holds a leaf digest under bits, by the insertion at an index, and these are the peers of its proof.
 pub record IsHeldAt (insertions : List (List ℕ × List ℕ)) (bits : List Bool) (index : ℕ) (leaf : List ℕ)

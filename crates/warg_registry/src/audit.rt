@@ -12,7 +12,7 @@ ghost use Rattle.warg_store.specs.Moments.{IsRead};
 ghost use Rattle.warg_store.specs.Reading.{checkpoint_said};
 ghost use Rattle.warg_registry.specs.Auditing.{AreOfRegistry, AreAllInFiles, IsReplayed};
 
-use crate::error::{damaged, of_way};
+use crate::error::damaged;
 use crate::insertion::{Insertion, read_insertion};
 use crate::reader::RegistryReader;
 use std::alloc::{AllocError, Global};
@@ -105,7 +105,7 @@ impl<F: Folder + Drop> RegistryReader<F> {
         let mut lones = LoneKeys { count: 0 };
         match visit_pages(self.alloc, &mut self.pages, &self.root, version, &mut lones) {
             Ok(()) => Ok(lones.count),
-            Err(error) => Err(of_way(self.alloc, self.pages.last.as_str(), error)),
+            Err(error) => Err(self.pages.refusal(error)),
         }
     }
 
@@ -185,7 +185,7 @@ impl<F: Folder + Drop> RegistryReader<F> {
         let version = self.checkpoint().length() as u64;
         match held_in_pages(self.alloc, &mut self.pages, version, key) {
             Ok(held) => Ok(held),
-            Err(error) => Err(of_way(self.alloc, self.pages.last.as_str(), error)),
+            Err(error) => Err(self.pages.refusal(error)),
         }
     }
 

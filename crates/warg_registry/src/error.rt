@@ -1,5 +1,8 @@
 //! Why bytes are read as no insertion, a text as none of a registry, and a call on a registry's folder is refused.
 
+ghost use Rattle.warg_pages.specs.Refusals.{IsMemoryUnless};
+ghost use Rattle.warg_store.specs.Refusals.{IsNoFault};
+
 use std::alloc::{AllocError, AllocFailed, Global};
 use thiserror::Error;
 use warg_pages::{ProveError, WayError};
@@ -52,8 +55,8 @@ pub enum PublishError {
     /// The entry of an insertion would have more than 65,535 bytes.
     #[error("entry of an insertion has more than 65,535 bytes")]
     TooLong,
-    /// The log would have more than 2^63 entries.
-    #[error("log would have more than 2^63 entries")]
+    /// The log would have more than 2^63 entries, or its checkpoint's text more than 2^20 bytes.
+    #[error("log would have more than 2^63 entries, or a checkpoint's text of more than 2^20 bytes")]
     Full,
     /// An earlier call has failed once it had begun to write: open the folder again.
     #[error("a call has failed")]
@@ -120,17 +123,24 @@ pub(crate) fn damaged(alloc: Global, name: &str, fault: &'static str) -> LogErro
 pub(crate) fn of_way(alloc: Global, last: &str, error: ProveError<LogError>) -> LogError {
     match error {
         ProveError::Pages(error) => error,
-        ProveError::Way(WayError::Memory) => LogError::Folder(FolderError::Memory),
-        ProveError::Way(WayError::BadPage) => damaged(alloc, last, "isn't a page of a map"),
-        ProveError::Way(WayError::WrongDigest) => {
+        ProveError::Way(error) => of_pages(alloc, last, error),
+    }
+}
+
+/// What is wrong with pages, where this one was read last.
+pub(crate) fn of_pages(alloc: Global, last: &str, error: WayError) -> LogError
+    ensures { IsMemoryUnless ⊥ error → IsNoFault ⊥ result }
+{
+    match error {
+        WayError::Memory => LogError::Folder(FolderError::Memory),
+        WayError::BadPage => damaged(alloc, last, "isn't a page of a map"),
+        WayError::WrongDigest => {
             damaged(
                 alloc,
                 last,
                 "hasn't the digest that the checkpoint or the page above it has",
             )
         }
-        ProveError::Way(WayError::WrongLoneKey) => {
-            damaged(alloc, last, "has a lone key that isn't its slot's")
-        }
+        WayError::WrongLoneKey => damaged(alloc, last, "has a lone key that isn't its slot's"),
     }
 }

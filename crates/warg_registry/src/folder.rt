@@ -1,6 +1,6 @@
 //! A registry in a folder, as whoever adds to it holds it.
 
-ghost use Rattle.std.specs.Prelude.{◌≡◌, ◌⊎◌, ◌+◌, ◌++◌, ◌^◌, ◌<◌, ℕ, List, [], ◌∷◌, length, map, true, false, Err, IfOk, IfErr, OnOk, OnErr};
+ghost use Rattle.std.specs.Prelude.{◌≡◌, ◌⊎◌, ◌+◌, ◌++◌, ◌^◌, ◌<◌, ℕ, List, [], ◌∷◌, length, map, true, false, Err, IfOk, IfErr, OnOk, OnErr, IsSome};
 ghost use Rattle.std.specs.List.{AllByRecursion};
 ghost use Rattle.warg_crypto.specs.Digests.{sha256, IsDigest};
 ghost use Rattle.warg_map.specs.Sparse.{map_of, sparse_root, pair_bytes};
@@ -10,8 +10,10 @@ ghost use Rattle.warg_tiles.specs.CheckpointText.{IsLine};
 ghost use Rattle.warg_store.specs.Growing.{LogIn, IsReady, Has, HasNext, IsFresh, with_page};
 ghost use Rattle.warg_store.specs.Log.{LogOf, HasLog, IsOneOf, IsCommitting};
 ghost use Rattle.warg_store.specs.Moments.{LeavesOnly};
+ghost use Rattle.warg_store.specs.Names.{is_page};
 ghost use Rattle.warg_store.specs.Opening.{IsBeside, IsOpening, opened};
 ghost use Rattle.warg_registry.specs.Insertions.{entries_of, entry_of};
+ghost use Rattle.warg_registry.specs.Pruning.{IsPageOf};
 ghost use Rattle.warg_registry.specs.Registry.{line_of};
 ghost use Rattle.warg_registry.specs.Folder.{registry_of, page_found, HasRegistry, IsLogRead, IsNoFault, with_entries, with_pages, file_of, files_of, AreFresh, IsNextLog};
 
@@ -98,10 +100,12 @@ impl<F: Folder + Drop> RegistryFolder<F> {
     }
 
     /// Inserts keys with values, in order, and serves them: the log's entries, the pages that change, and the checkpoint
-    /// with the map's root. All of it or nothing, whatever happens at whatever moment; no name of a file changes its bytes.
+    /// with the map's root. All of it or nothing, whatever happens at whatever moment; no file below `tile/` or `map/` changes
+    /// its bytes.
     ///
-    /// `TooLong`, `Full` and a page that is missing or corrupt come before anything is written, and the registry is as it
-    /// was. After another error it takes no more, and the folder is opened again.
+    /// `TooLong` for an entry of more than 65,535 bytes, `Full` for more than 2^63 entries, and `Damaged` for a page that is
+    /// missing or corrupt come before anything is written, and the registry is as it was. After another error it takes no
+    /// more (`Closed`), and the folder is opened again.
     pub fn publish(&mut self, insertions: &[(&[u8], &[u8])]) -> Result<(), PublishError>
         requires { F.IsFaithful → IsReady F.seen F.may_leave self.old.log }
         ensures published { F.IsFaithful → OnOk result ((origin : List ℕ) (served kept : List (List ℕ × List ℕ))
@@ -182,7 +186,7 @@ impl<F: Folder + Drop> RegistryFolder<F> {
     /// [`LogFolder::prune`] removes. First it visits all pages of both, each by its digest: where one is missing or corrupt,
     /// `Damaged` names it, and nothing is removed. Returns how many files it removed. After an error, open the folder again.
     ///
-    /// It reads each page that is needed once, or twice where both states have it, and keeps the names of all.
+    /// It reads each page that is needed once, or twice where two states have it, and keeps the names of all.
     pub fn prune(&mut self) -> Result<usize, LogError>
         ensures pruned { F.IsFaithful → OnOk result ((origin : List ℕ) (served kept : List (List ℕ × List ℕ))
             → HasRegistry F.seen F.may_leave origin served kept self.old
@@ -191,6 +195,9 @@ impl<F: Folder + Drop> RegistryFolder<F> {
             → HasRegistry F.seen F.may_leave origin served kept self.old
             → LeavesOnly F.moment F.left_since self.old.log.folder self.new.log.folder
             (IsOneOf (registry_of origin served) (registry_of origin kept) (registry_of origin kept)) }
+        ensures all { F.IsFaithful → OnOk result ((origin : List ℕ) (served kept : List (List ℕ × List ℕ))
+            → HasRegistry F.seen F.may_leave origin served kept self.old → (n : List ℕ) → is_page n ≡ true
+            → IsSome (F.seen self.new.log.folder n) → IsPageOf served n ⊎ IsPageOf kept n) }
     {
         let spare = self.pages.spare(&self.map.root, self.map.version)?;
         let log = &mut self.pages.log;

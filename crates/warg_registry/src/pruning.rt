@@ -1,14 +1,17 @@
 //! The pages that a registry needs, and those that it doesn't.
 
-ghost use Rattle.std.specs.Prelude.{◌≡◌, ◌++◌, ℕ, List, [], IfOk, OnOk};
+ghost use Rattle.std.specs.Prelude.{◌≡◌, ◌⊎◌, ◌++◌, ℕ, true, List, [], IfOk, OnOk, IsSome};
+ghost use Rattle.std.specs.List.{Contains};
 ghost use Rattle.warg_crypto.specs.Digests.{sha256};
 ghost use Rattle.warg_pages.specs.ChangedPages.{ChangedPageAt};
+ghost use Rattle.warg_pages.specs.PagePaths.{page_path};
 ghost use Rattle.warg_pages.specs.ProvedKeys.{IsOwnSource};
 ghost use Rattle.warg_store.specs.Growing.{LogIn};
 ghost use Rattle.warg_store.specs.Log.{Serves};
+ghost use Rattle.warg_store.specs.Names.{is_page};
 ghost use Rattle.warg_store.specs.Pruned.{IsNoneOf};
 ghost use Rattle.warg_registry.specs.Folder.{registry_of, pages_of, page_found, IsLogRead};
-ghost use Rattle.warg_registry.specs.Pruning.{bytes_of, ArePathsOf, HaveAllPages, AreNone};
+ghost use Rattle.warg_registry.specs.Pruning.{bytes_of, ArePathsOf, AreOnlyPathsOf, HaveAllPages, IsPageOf, AreNeeded, AreNone, AreAmong};
 
 use crate::error::{RegistryError, damaged, of_way};
 use crate::folder::root_said;
@@ -27,9 +30,10 @@ pub(crate) struct NeededPages {
 }
 
 impl PageVisitor<Sha256, Global> for NeededPages {
-    ghost use Rattle.warg_registry.specs.Pruning.{bytes_of, ArePathsOf};
+    ghost use Rattle.warg_registry.specs.Pruning.{bytes_of, ArePathsOf, AreOnlyPathsOf};
 
-    ghost HasSeen = { λ needed pages. ArePathsOf (bytes_of needed.names.keys) pages };
+    ghost HasSeen = { λ needed pages. ArePathsOf (bytes_of needed.names.keys) pages
+        × AreOnlyPathsOf (bytes_of needed.names.keys) pages };
 
     fn visit(
         &mut self,
@@ -61,11 +65,14 @@ impl NeededPages {
         version: u64,
     ) -> Result<(), LogError>
         ensures added { OnOk result ((before : List ChangedPageAt) → ArePathsOf (bytes_of self.old.names.keys) before
+            → AreOnlyPathsOf (bytes_of self.old.names.keys) before
             → (all : List ChangedPageAt) × ArePathsOf (bytes_of self.new.names.keys) (before ++ all)
+            × AreOnlyPathsOf (bytes_of self.new.names.keys) (before ++ all)
             × (F.IsFaithful → (known : LogIn F) (insertions : List (List ℕ × List ℕ))
             → IsLogRead F.seen F.may_leave F.moment F.left_since known pages.old.log
             → IsOwnSource sha256 (page_found (F.seen known.folder)) root.now version insertions
-            → (names : List (List ℕ)) → ArePathsOf names (before ++ all) → HaveAllPages names insertions)) }
+            → ((names : List (List ℕ)) → ArePathsOf names (before ++ all) → HaveAllPages names insertions)
+            × ((p : ChangedPageAt) → Contains all p → IsPageOf insertions (page_path p.prefix p.version)))) }
         ensures read { F.IsFaithful → (known : LogIn F)
             → IsLogRead F.seen F.may_leave F.moment F.left_since known pages.old.log
             → IsLogRead F.seen F.may_leave F.moment F.left_since known pages.new.log }
@@ -78,7 +85,9 @@ impl NeededPages {
 
     /// Those of some names that are none of these.
     pub(crate) fn others(&self, names: Vec<String>) -> Result<Vec<String>, AllocError>
-        ensures { IfOk result (λ others. AreNone (bytes_of others.items) (bytes_of self.now.names.keys)) }
+        ensures none { IfOk result (λ others. AreNone (bytes_of others.items) (bytes_of self.now.names.keys)) }
+        ensures all { IfOk result (λ others.
+            AreAmong (bytes_of names.items) (bytes_of others.items) (bytes_of self.now.names.keys)) }
     {
         let mut others = Vec::new(self.alloc);
         'names: for name in names {
@@ -91,7 +100,7 @@ impl NeededPages {
 }
 
 impl<F: Folder + Drop> KeptPages<F> {
-    /// The names of pages that neither a map with a root and so many insertions needs, nor the served one.
+    /// The names of pages that are there, and that neither a map with a root and so many insertions needs, nor the served one.
     pub(crate) fn spare(
         &mut self,
         root: &Hash<Sha256>,
@@ -103,6 +112,30 @@ impl<F: Folder + Drop> KeptPages<F> {
             → Serves (registry_of origin served) (F.seen known.folder)
             → IsOwnSource sha256 (page_found (F.seen known.folder)) root.now version kept
             → IsNoneOf (bytes_of spare.items) (pages_of served) × IsNoneOf (bytes_of spare.items) (pages_of kept)) }
+        ensures all { F.IsFaithful → IfOk result (λ spare. (known : LogIn F) (origin : List ℕ)
+            (served kept : List (List ℕ × List ℕ))
+            → IsLogRead F.seen F.may_leave F.moment F.left_since known self.old.log
+            → Serves (registry_of origin served) (F.seen known.folder)
+            → IsOwnSource sha256 (page_found (F.seen known.folder)) root.now version kept
+            → (n : List ℕ) → is_page n ≡ true → IsSome (F.seen known.folder n)
+            → Contains (bytes_of spare.items) n ⊎ IsPageOf served n ⊎ IsPageOf kept n) }
+        ensures read { F.IsFaithful → (known : LogIn F)
+            → IsLogRead F.seen F.may_leave F.moment F.left_since known self.old.log
+            → IsLogRead F.seen F.may_leave F.moment F.left_since known self.new.log }
+    {
+        let needed = self.needed(root, version)?;
+        let names = self.names()?;
+        Ok(needed.others(names)?)
+    }
+
+    // The names of the pages that a map with a root and so many insertions needs, and of those that the served one needs.
+    fn needed(&mut self, root: &Hash<Sha256>, version: u64) -> Result<NeededPages, LogError>
+        ensures needed { F.IsFaithful → IfOk result (λ needed. (known : LogIn F) (origin : List ℕ)
+            (served kept : List (List ℕ × List ℕ))
+            → IsLogRead F.seen F.may_leave F.moment F.left_since known self.old.log
+            → Serves (registry_of origin served) (F.seen known.folder)
+            → IsOwnSource sha256 (page_found (F.seen known.folder)) root.now version kept
+            → AreNeeded (bytes_of needed.names.keys) served kept) }
         ensures read { F.IsFaithful → (known : LogIn F)
             → IsLogRead F.seen F.may_leave F.moment F.left_since known self.old.log
             → IsLogRead F.seen F.may_leave F.moment F.left_since known self.new.log }
@@ -110,9 +143,11 @@ impl<F: Folder + Drop> KeptPages<F> {
         let mut needed = NeededPages::new(self.alloc);
         needed.add(self, root, version)?;
         let served = self.served()?;
+        if served.root == *root && served.version == version {
+            return Ok(needed);
+        }
         needed.add(self, &served.root, served.version)?;
-        let names = self.names()?;
-        Ok(needed.others(names)?)
+        Ok(needed)
     }
 
     // The served map's root and number of insertions.
@@ -137,6 +172,9 @@ impl<F: Folder + Drop> KeptPages<F> {
 
     // The names of all pages that are there.
     fn names(&mut self) -> Result<Vec<String>, LogError>
+        ensures all { F.IsFaithful → IfOk result (λ names. (known : LogIn F)
+            → IsLogRead F.seen F.may_leave F.moment F.left_since known self.old.log
+            → (n : List ℕ) → is_page n ≡ true → IsSome (F.seen known.folder n) → Contains (bytes_of names.items) n) }
         ensures read { F.IsFaithful → (known : LogIn F)
             → IsLogRead F.seen F.may_leave F.moment F.left_since known self.old.log
             → IsLogRead F.seen F.may_leave F.moment F.left_since known self.new.log }

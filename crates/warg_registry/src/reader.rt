@@ -8,10 +8,12 @@ ghost use Rattle.warg_map.specs.ProofValue.{proof_value};
 ghost use Rattle.warg_pages.specs.ProvedKeys.{LeadsTo, IsProved};
 ghost use Rattle.warg_store.specs.Log.{HasLog, Serves};
 ghost use Rattle.warg_store.specs.Reading.{checkpoint_said};
+ghost use Rattle.warg_store.specs.Refusals.{IsNoFault as IsNoLogFault};
 ghost use Rattle.warg_registry.specs.Folder.{registry_of, IsNoFault};
-ghost use Rattle.warg_registry.specs.Reading.{ReadsRegistry, IsKeyShown, IsHeldAt, IsKeyIn};
+ghost use Rattle.warg_registry.specs.Reading.{ReadsRegistry, IsKeyShown, IsLogged, IsOfEntry, IsOwnKey, IsHeldAt, IsKeyIn};
+ghost use Rattle.warg_registry.specs.Insertions.{entry_of, IsInsertion};
 
-use crate::error::{RegistryError, damaged, of_way};
+use crate::error::{RegistryError, damaged};
 use crate::folder::root_said;
 use crate::insertion::inserted_value;
 use crate::source::ServedPages;
@@ -59,8 +61,12 @@ impl<F: Folder + Drop> RegistryReader<F> {
     {
         let log = LogReader::open(alloc, folder)?;
         let root = root_said(alloc, log.text())?;
-        let last = String::new(alloc);
-        let pages = ServedPages { alloc, log, last };
+        let pages = ServedPages {
+            alloc,
+            log,
+            last: String::new(alloc),
+            is_missing: false,
+        };
         Ok(RegistryReader { alloc, pages, root })
     }
 
@@ -88,18 +94,43 @@ impl<F: Folder + Drop> RegistryReader<F> {
     }
 
     /// What the registry has under a key: the value of the last insertion under the key's digest, with the index of its
-    /// entry, or nothing, each with the proof under the map's root. `Damaged` names a page or a file of the log that is
-    /// missing or corrupt, or a page that names an entry which isn't of this key and value.
+    /// entry, or nothing, each with the proof under the map's root. `Damaged` names a page or a bundle that is missing or
+    /// corrupt, or a page that names an entry which isn't of this key and value, as where another key has its digest.
+    ///
+    /// It reads no tile: the map's root has the value, and the index is that of its entry as the bundle has it. That the
+    /// entry is in the log, `inclusion_path` of [`into_log`](RegistryReader::into_log) shows, and `get_logged` does.
     pub fn get(&mut self, key: &[u8]) -> Result<KeyInRegistry, LogError>
-        ensures shown { IfOk result (IsKeyShown (checkpoint_said self.old.log.text) self.old.root key.now) }
+        ensures shown { IfOk result (IsKeyShown self.old.root key.now) }
         ensures own { F.IsFaithful → IfOk result (λ found. (origin : List ℕ) (insertions : List (List ℕ × List ℕ))
             → ReadsRegistry F.seen origin insertions self.old → IsKeyIn insertions key.now found) }
+        ensures whole { F.IsFaithful → (origin : List ℕ) (insertions : List (List ℕ × List ℕ))
+            → ReadsRegistry F.seen origin insertions self.old → IsOwnKey insertions key.now
+            → IfErr result (IsNoLogFault ⊥) }
         ensures reads { F.IsFaithful → (origin : List ℕ) (insertions : List (List ℕ × List ℕ))
             → ReadsRegistry F.seen origin insertions self.old → ReadsRegistry F.seen origin insertions self.new }
     {
         match self.prove(key)? {
-            KeyInPages::Held(index, leaf, peers) => self.held(key, index, &leaf, peers),
+            KeyInPages::Held(index, leaf, peers) => self.bundled(key, index, &leaf, peers),
             KeyInPages::Absent(peers) => Ok(KeyInRegistry::Absent(peers)),
+        }
+    }
+
+    /// As [`get`](RegistryReader::get), once the entry's inclusion path leads to the checkpoint's root. `Damaged` names a tile,
+    /// too.
+    pub fn get_logged(&mut self, key: &[u8]) -> Result<KeyInRegistry, LogError>
+        ensures shown { IfOk result (IsKeyShown self.old.root key.now) }
+        ensures logged { IfOk result (IsLogged (checkpoint_said self.old.log.text) key.now) }
+        ensures own { F.IsFaithful → IfOk result (λ found. (origin : List ℕ) (insertions : List (List ℕ × List ℕ))
+            → ReadsRegistry F.seen origin insertions self.old → IsKeyIn insertions key.now found) }
+        ensures whole { F.IsFaithful → (origin : List ℕ) (insertions : List (List ℕ × List ℕ))
+            → ReadsRegistry F.seen origin insertions self.old → IsOwnKey insertions key.now
+            → IfErr result (IsNoLogFault ⊥) }
+        ensures reads { F.IsFaithful → (origin : List ℕ) (insertions : List (List ℕ × List ℕ))
+            → ReadsRegistry F.seen origin insertions self.old → ReadsRegistry F.seen origin insertions self.new }
+    {
+        match self.prove(key)? {
+            KeyInPages::Held(index, leaf, peers) => self.logged(key, index, &leaf, peers),
+            KeyInPages::Absent(beside) => Ok(KeyInRegistry::Absent(beside)),
         }
     }
 
@@ -108,6 +139,8 @@ impl<F: Folder + Drop> RegistryReader<F> {
         ensures leads { IfOk result (LeadsTo sha256 (key_bits sha256 key.now) self.old.root) }
         ensures own { F.IsFaithful → IfOk result (λ found. (origin : List ℕ) (insertions : List (List ℕ × List ℕ))
             → ReadsRegistry F.seen origin insertions self.old → IsProved sha256 insertions key.now found) }
+        ensures whole { F.IsFaithful → (origin : List ℕ) (insertions : List (List ℕ × List ℕ))
+            → ReadsRegistry F.seen origin insertions self.old → IfErr result (IsNoLogFault ⊥) }
         ensures same { (self.new.root ≡ self.old.root) × (self.new.log.text ≡ self.old.log.text) }
         ensures reads { F.IsFaithful → (origin : List ℕ) (insertions : List (List ℕ × List ℕ))
             → ReadsRegistry F.seen origin insertions self.old → ReadsRegistry F.seen origin insertions self.new }
@@ -115,12 +148,12 @@ impl<F: Folder + Drop> RegistryReader<F> {
         let version = self.checkpoint().length() as u64;
         match prove_by_pages(self.alloc, &mut self.pages, &self.root, version, &key) {
             Ok(found) => Ok(found),
-            Err(error) => Err(of_way(self.alloc, self.pages.last.as_str(), error)),
+            Err(error) => Err(self.pages.refusal(error)),
         }
     }
 
-    // The value that a held key's entry has.
-    fn held(
+    // The value that a held key's entry has, as its bundle has it.
+    fn bundled(
         &mut self,
         key: &[u8],
         index: u64,
@@ -128,17 +161,62 @@ impl<F: Folder + Drop> RegistryReader<F> {
         peers: Vec<Option<Hash<Sha256>>>,
     ) -> Result<KeyInRegistry, LogError>
         ensures shown { IfOk result (λ found. proof_value sha256 peers.items leaf.now (key_bits sha256 key.now)
-            ≡ self.old.root
-            → IsKeyShown (checkpoint_said self.old.log.text) self.old.root key.now found) }
+            ≡ self.old.root → IsKeyShown self.old.root key.now found) }
         ensures own { F.IsFaithful → IfOk result (λ found. (origin : List ℕ) (insertions : List (List ℕ × List ℕ))
             → ReadsRegistry F.seen origin insertions self.old
             → IsHeldAt insertions (key_bits sha256 key.now) index leaf.now peers.items
             → IsKeyIn insertions key.now found) }
+        ensures whole { F.IsFaithful → (origin : List ℕ) (insertions : List (List ℕ × List ℕ))
+            → ReadsRegistry F.seen origin insertions self.old → IsOwnKey insertions key.now
+            → IsHeldAt insertions (key_bits sha256 key.now) index leaf.now peers.items
+            → IfErr result (IsNoLogFault ⊥) }
+        ensures reads { F.IsFaithful → (origin : List ℕ) (insertions : List (List ℕ × List ℕ))
+            → ReadsRegistry F.seen origin insertions self.old → ReadsRegistry F.seen origin insertions self.new }
+    {
+        let entry = self.pages.log.bundle_entry(index as usize)?;
+        self.held(key, index, leaf, entry.as_slice(), peers)
+    }
+
+    // The same, once the entry's inclusion path leads to the checkpoint's root.
+    fn logged(
+        &mut self,
+        key: &[u8],
+        index: u64,
+        leaf: &Hash<Sha256>,
+        peers: Vec<Option<Hash<Sha256>>>,
+    ) -> Result<KeyInRegistry, LogError>
+        ensures shown { IfOk result (λ found. proof_value sha256 peers.items leaf.now (key_bits sha256 key.now)
+            ≡ self.old.root → IsKeyShown self.old.root key.now found) }
+        ensures logged { IfOk result (IsLogged (checkpoint_said self.old.log.text) key.now) }
+        ensures own { F.IsFaithful → IfOk result (λ found. (origin : List ℕ) (insertions : List (List ℕ × List ℕ))
+            → ReadsRegistry F.seen origin insertions self.old
+            → IsHeldAt insertions (key_bits sha256 key.now) index leaf.now peers.items
+            → IsKeyIn insertions key.now found) }
+        ensures whole { F.IsFaithful → (origin : List ℕ) (insertions : List (List ℕ × List ℕ))
+            → ReadsRegistry F.seen origin insertions self.old → IsOwnKey insertions key.now
+            → IsHeldAt insertions (key_bits sha256 key.now) index leaf.now peers.items
+            → IfErr result (IsNoLogFault ⊥) }
         ensures reads { F.IsFaithful → (origin : List ℕ) (insertions : List (List ℕ × List ℕ))
             → ReadsRegistry F.seen origin insertions self.old → ReadsRegistry F.seen origin insertions self.new }
     {
         let entry = self.pages.log.entry(index as usize)?;
-        match inserted_value(entry.as_slice(), key, leaf) {
+        self.held(key, index, leaf, entry.as_slice(), peers)
+    }
+
+    // The value that a held key's entry has.
+    fn held(
+        &self,
+        key: &[u8],
+        index: u64,
+        leaf: &Hash<Sha256>,
+        entry: &[u8],
+        peers: Vec<Option<Hash<Sha256>>>,
+    ) -> Result<KeyInRegistry, LogError>
+        ensures of_entry { IfOk result (IsOfEntry key.now index leaf.now entry.now peers.items) }
+        ensures whole { (value : List ℕ) → IsInsertion (key.now, value) → entry.now ≡ entry_of (key.now, value)
+            → leaf_digest sha256 value ≡ leaf.now → IfErr result (IsNoLogFault ⊥) }
+    {
+        match inserted_value(entry, key, leaf) {
             Some(value) => Ok(KeyInRegistry::Held(
                 index as usize,
                 Vec::from_slice(self.alloc, value)?,

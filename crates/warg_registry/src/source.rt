@@ -1,15 +1,17 @@
 //! A log in a folder as the source of its map's pages.
 
 ghost use Rattle.std.specs.Prelude.{◌≡◌, ◌++◌, ℕ, Bool, true, List, codes, IfOk, string_bytes};
+ghost use Rattle.warg_pages.specs.Refusals.{IsOfSourceUnless};
 ghost use Rattle.warg_store.specs.Growing.{LogIn};
 ghost use Rattle.warg_store.specs.Moments.{IsRead};
 ghost use Rattle.warg_store.specs.Reading.{ServedIn};
-ghost use Rattle.warg_registry.specs.Folder.{path_below, page_found, found_if, IsLogRead};
+ghost use Rattle.warg_store.specs.Refusals.{IsNoFault};
+ghost use Rattle.warg_registry.specs.Folder.{path_below, page_found, page_read, found_if, IsLogRead};
 
-use crate::error::damaged;
+use crate::error::{damaged, of_pages};
 use std::alloc::{AllocError, Global};
-use warg_pages::{Pages, page_path};
-use warg_store::{Folder, LogError, LogFolder, LogReader};
+use warg_pages::{Pages, ProveError, WayError, page_path};
+use warg_store::{Folder, FolderError, LogError, LogFolder, LogReader};
 
 // The most bytes that a page has: 256 slots of 106 bytes.
 const MOST: usize = 256 * 106;
@@ -46,16 +48,18 @@ impl<F: Folder + Drop> Pages<Global> for KeptPages<F> {
     }
 }
 
-/// A log that is read, with the path of the page that was asked for last.
+/// A log that is read, with the path of the page that was asked for last, and whether that one is missing.
 #[derive(Drop)]
 pub(crate) struct ServedPages<F: Folder + Drop> {
     pub(crate) alloc: Global,
     pub(crate) log: LogReader<F>,
     pub(crate) last: String,
+    pub(crate) is_missing: bool,
 }
 
 impl<F: Folder + Drop> Pages<Global> for ServedPages<F> {
-    type Error = LogError;
+    // A page that is missing has other bytes than any page, and so no error is a fault of the files.
+    type Error = FolderError;
 
     // The log as it was before it was read, and whether its device is known to be faithful.
     ghost Known = { ServedIn F × Bool };
@@ -64,17 +68,33 @@ impl<F: Folder + Drop> Pages<Global> for ServedPages<F> {
         × (known.1 ≡ true → F.IsFaithful
         × IsRead F.seen F.may_leave F.moment F.left_since known.0.folder pages.log.folder) };
 
-    ghost bytes_at = { λ known. found_if known.1 (page_found (F.seen known.0.folder)) };
+    ghost bytes_at = { λ known. found_if known.1 (page_read (F.seen known.0.folder)) };
 
     ghost tells_all = { λ known. known.1 ≡ true };
 
-    fn page(&mut self, prefix: &[u8], version: u64) -> Result<Vec<u8>, LogError> {
+    fn page(&mut self, prefix: &[u8], version: u64) -> Result<Vec<u8>, FolderError> {
         let path = page_path(self.alloc, prefix, version)?;
         let found = self.log.page(below_map(path.as_str()), MOST)?;
         self.last = path;
+        self.is_missing = found.is_none();
         match found {
             Some(bytes) => Ok(bytes),
-            None => Err(damaged(self.alloc, self.last.as_str(), "is missing")),
+            None => Ok(Vec::from_slice(self.alloc, &[0])?),
+        }
+    }
+}
+
+impl<F: Folder + Drop> ServedPages<F> {
+    /// Why these pages lead to nothing.
+    pub(crate) fn refusal(&self, error: ProveError<FolderError>) -> LogError
+        ensures { IsOfSourceUnless ⊥ error → IsNoFault ⊥ result }
+    {
+        match error {
+            ProveError::Pages(error) => LogError::Folder(error),
+            ProveError::Way(WayError::BadPage) if self.is_missing => {
+                damaged(self.alloc, self.last.as_str(), "is missing")
+            }
+            ProveError::Way(error) => of_pages(self.alloc, self.last.as_str(), error),
         }
     }
 }

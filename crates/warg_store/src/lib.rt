@@ -13,8 +13,10 @@ mod log;
 mod log_folder;
 mod memory;
 mod names;
+mod older_staging;
 mod opening;
 mod pages;
+mod places;
 mod pruning;
 mod reader;
 mod reading;
@@ -36,6 +38,3 @@ pub use recovery::{RecoverError, recover};
 pub use signing::SignError;
 pub use staging::{discard, stage};
 pub use system::{Fault, SystemFolder};
-
-#[cfg(test)]
-mod tests;

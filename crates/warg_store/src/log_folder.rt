@@ -264,7 +264,8 @@ impl<F: Folder + Drop> LogFolder<F> {
     }
 
     /// Puts a page beside what was pushed: a file at this path below `map/`, which no page has that is served, kept or to be
-    /// kept. Nothing that is served changes before a commit. `Closed` exactly if a commit has failed; else it fails only if
+    /// kept. Nothing that is served changes before a commit, and only a commit of at least one new entry keeps the page. `Closed`
+    /// exactly if a commit has failed; else it fails only if
     /// memory is refused or the device fails, and the folder is then opened again.
     pub fn put_page(&mut self, path: &str, bytes: &[u8]) -> Result<(), PushError>
         requires { F.IsFaithful → IsReady F.seen F.may_leave self.old }
@@ -291,7 +292,8 @@ impl<F: Folder + Drop> LogFolder<F> {
 
     /// Keeps what was pushed, and serves it, unless the checkpoint is signed: that one is served until another is signed. All
     /// of it or nothing, whatever happens at whatever moment; after `Ok` a crash leaves all of it. The checkpoint's text keeps
-    /// its further lines. No name of a file that isn't new changes its bytes. A commit of nothing changes nothing.
+    /// its further lines. No file below `tile/` or `map/` changes its bytes. A commit of no new entry changes nothing, and keeps no
+    /// page.
     ///
     /// `Memory` and `TooLong` come only before anything is written, and the log is as it was; after another error it takes no
     /// more, and the folder is opened again.
@@ -312,7 +314,8 @@ impl<F: Folder + Drop> LogFolder<F> {
         self.commit_lines(None)
     }
 
-    /// As [`commit`](Self::commit), with these as the further lines of the checkpoint's text.
+    /// As [`commit`](Self::commit), with these as the further lines of the checkpoint's text. Without a new entry the text keeps
+    /// the lines that it has.
     pub fn commit_with(&mut self, lines: &[Vec<u8>]) -> Result<(), CommitError>
         requires ready { F.IsFaithful → IsReady F.seen F.may_leave self.old }
         requires lines { AllByRecursion IsLine (map (λ l. l.items) lines.now) }

@@ -15,7 +15,7 @@ use crate::edge::{open_edge, read_edge};
 use crate::error::LogError;
 use crate::opening::read_newest;
 use crate::pages::read_page;
-use crate::reading::{Path, entry, growth, inclusion, read_entries};
+use crate::reading::{Path, entry, growth, inclusion, read_entries, read_entry};
 use std::alloc::Global;
 use std::marker::Model;
 use warg_crypto::Sha256;
@@ -155,6 +155,28 @@ impl<F: Folder + Drop> LogReader<F> {
             return Err(LogError::OutOfRange { bound: bundles });
         }
         read_entries(self.alloc, &mut self.folder, bundle, length)
+    }
+
+    /// The bytes of the entry at `index`, from 0, out of its bundle alone: they aren't compared with the checkpoint's root.
+    /// `OutOfRange` where the log has no such entry; `Damaged` where the bundle's file is missing, or isn't one of as many
+    /// entries as the log has there. It changes nothing.
+    pub fn bundle_entry(&mut self, index: usize) -> Result<Vec<u8>, LogError>
+        ensures inside { OnOk result (index < self.old.text.length) }
+        ensures own { F.IsFaithful → IfOk result (λ entry. (log : LogOf) → Reads F.seen log self.old
+            → slice_get log.entries index ≡ Some entry.items) }
+        ensures whole { F.IsFaithful → (log : LogOf) → Reads F.seen log self.old
+            → IfErr result (IsNoFault (length log.entries ≤ index)) }
+        ensures same { self.new ≡ record self.old { folder = self.new.folder } }
+        ensures read { F.IsFaithful
+            → IsRead F.seen F.may_leave F.moment F.left_since self.old.folder self.new.folder }
+        ensures cause { HasCauseOf (LogError.Folder FolderError.Failed) F.IsFaithful
+            (F.faults self.old.folder) (F.faults self.new.folder) result }
+    {
+        let length = self.text.checkpoint().length();
+        if index >= length {
+            return Err(LogError::OutOfRange { bound: length });
+        }
+        read_entry(self.alloc, &mut self.folder, index, length)
     }
 
     /// As [`LogFolder::inclusion_path`], of the checkpoint.

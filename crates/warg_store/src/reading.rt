@@ -11,7 +11,7 @@ ghost use Rattle.warg_tiles.specs.TileData.{digest_by};
 ghost use Rattle.warg_store.specs.Audited.{IsOfEntries};
 ghost use Rattle.warg_store.specs.Growing.{Has};
 ghost use Rattle.warg_store.specs.Log.{LogOf, AreShort, HasFiles};
-ghost use Rattle.warg_store.specs.Moments.{Within, IsRead, HasCauseOf};
+ghost use Rattle.warg_store.specs.Moments.{Within, Elapses, IsRead, HasCauseOf};
 ghost use Rattle.warg_store.specs.Private.Fetched.{AreOwn};
 ghost use Rattle.warg_store.specs.Reading.{checkpoint_said, AreOfLog, bundle_in, inclusion_in, consistency_in, LeadsTo, IsShown, IncludesBy, GrowsBy};
 ghost use Rattle.warg_store.specs.Refusals.{IsNoFault, IsNoFailure};
@@ -135,8 +135,8 @@ pub(crate) fn entry<F: Folder>(
     }
 }
 
-// An entry as its bundle has it.
-fn read_entry<F: Folder>(
+/// An entry as its bundle has it.
+pub(crate) fn read_entry<F: Folder>(
     alloc: Global,
     folder: &mut F,
     index: usize,
@@ -150,6 +150,7 @@ fn read_entry<F: Folder>(
         → AreShort log.entries → length log.entries ≡ log_length → IfErr result (IsNoFault ⊥) }
     ensures seen { F.IsFaithful → F.seen folder.new ≡ F.seen folder.old }
     ensures crash { F.IsFaithful → Within (F.may_leave folder.old) (F.may_leave folder.new) }
+    ensures time { F.IsFaithful → Elapses F.moment F.left_since F.may_leave folder.old folder.new }
     ensures cause { HasCauseOf (LogError.Folder FolderError.Failed) F.IsFaithful
         (F.faults folder.old) (F.faults folder.new) result }
 {

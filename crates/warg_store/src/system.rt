@@ -5,8 +5,10 @@ ghost use Rattle.warg_store.specs.Files.{Files};
 ghost use Rattle.warg_store.specs.System.{nothing, OnlyNothing, NothingSince, nothing_stays, nothing_counts, nothing_now};
 
 use crate::device::{Folder, FolderError};
+use crate::places::{STAGED_FOLDER, folder_of, joined, name_at, place_of};
 use std::alloc::{AllocError, Global};
 use std::cell::Cell;
+use std::collections::BTreeMap;
 use std::fs::{DirEntry, File};
 use std::io::{ErrorKind, Read, Write};
 use std::{fs, io};
@@ -21,15 +23,18 @@ pub struct Fault {
 }
 
 /// A folder of the system's files. Each file is forced to the disk as it is written, and `sync` forces each folder in which a
-/// name is new or gone; the first one forces what an earlier run may have left. No name is followed through a link, and a name
-/// that is no regular file is refused.
+/// name is new or gone; the first one forces what an earlier run may have left. What is staged stands in one folder, with no
+/// folder for the parts of its name (`places`), so that a commit makes and forces those alone in which its files are served.
+///
+/// No name is followed through a link, and a name that is no regular file is refused. Whoever writes looks at a folder once
+/// until the next `sync`, and relies on it meanwhile: nobody else is to change folders.
 #[derive(Drop)]
 pub struct SystemFolder<'a> {
-    rt: &'a HostRuntime,
+    pub(crate) rt: &'a HostRuntime,
     fault: &'a Cell<Option<Fault>>,
     root: String,
-    // Folders, below the root, in which a name is new or gone since the last sync.
-    changed: Vec<String>,
+    // Folders, below the root, that were seen to be there since the last sync, and whether a name in one is new or gone.
+    seen: BTreeMap<String, bool>,
     // What an earlier run left is forced.
     is_settled: bool,
     // A sync has failed: the system may have dropped what was written.
@@ -39,9 +44,7 @@ pub struct SystemFolder<'a> {
 // The name under which a file is written before it takes another one's place.
 const REPLACING: &str = ".log/replacing";
 
-// Where a commit's files stand before it does, and where it puts them.
-const STAGED: &str = ".log/staged";
-
+// Where a commit puts its files.
 const SERVED: [&str; 2] = ["tile", "map"];
 
 impl<'a> SystemFolder<'a> {
@@ -56,18 +59,20 @@ impl<'a> SystemFolder<'a> {
             rt,
             fault,
             root: String::from_str(alloc, path)?,
-            changed: Vec::new(alloc),
+            seen: BTreeMap::new(alloc),
             is_settled: false,
             is_lost: false,
         })
     }
 
-    // The path of a file of the folder.
-    fn path(&self, name: &str) -> Result<String, AllocError> {
-        let mut path = String::from_str(self.rt.alloc(), self.root.as_str())?;
-        path.push('/')?;
-        path.push_str(name)?;
-        Ok(path)
+    /// The path of a folder.
+    pub(crate) fn path(&self, name: &str) -> Result<String, AllocError> {
+        joined(self.rt.alloc(), self.root.as_str(), name)
+    }
+
+    /// The path of a file.
+    pub(crate) fn file_path(&self, name: &str) -> Result<String, AllocError> {
+        self.path(place_of(self.rt.alloc(), name)?.as_str())
     }
 
     // The refusal for a call that failed.
@@ -75,7 +80,7 @@ impl<'a> SystemFolder<'a> {
         if error.kind() == ErrorKind::OutOfMemory {
             return FolderError::Memory;
         }
-        match self.path(name) {
+        match self.file_path(name) {
             Ok(path) => {
                 self.fault.set(Some(Fault {
                     path,
@@ -88,33 +93,29 @@ impl<'a> SystemFolder<'a> {
         }
     }
 
-    // Notes that a name of a folder is new or gone.
+    // Notes that a name is new or gone in its folder, which is there.
     fn note(&mut self, name: &str) -> Result<(), AllocError> {
-        let above = match name.rsplit_once('/') {
-            Some((above, _)) => above,
-            None => "",
-        };
-        if self
-            .changed
-            .as_slice()
-            .iter()
-            .all(|noted| noted.as_str() != above)
-        {
-            let above = String::from_str(self.rt.alloc(), above)?;
-            self.changed.push(above)?;
+        let folder = folder_of(name);
+        match self.seen.get(folder) {
+            Some(true) => {}
+            _ => {
+                let folder = String::from_str(self.rt.alloc(), folder)?;
+                self.seen.insert(folder, true)?;
+            }
         }
         Ok(())
     }
 
     // Makes the folders above a name, and notes each that is new.
     fn make_above(&mut self, name: &str) -> io::Result<()> {
+        let folder = folder_of(name);
+        if folder.is_empty() || self.seen.contains_key(folder) {
+            return Ok(());
+        }
         let mut end = 0usize;
-        for part in name.split('/') {
+        for part in folder.split('/') {
             end = end.saturating_add(part.len());
-            if end >= name.len() {
-                break;
-            }
-            let Some(above) = name.get(..end) else {
+            let Some(above) = folder.get(..end) else {
                 break;
             };
             self.make_folder(above)?;
@@ -124,22 +125,29 @@ impl<'a> SystemFolder<'a> {
     }
 
     fn make_folder(&mut self, name: &str) -> io::Result<()> {
+        if self.seen.contains_key(name) {
+            return Ok(());
+        }
         let path = self.path(name)?;
         match fs::create_dir(self.rt, path.as_str()) {
-            Ok(()) => Ok(self.note(name)?),
+            Ok(()) => self.note(name)?,
             Err(error) if error.kind() == ErrorKind::AlreadyExists => {
-                if fs::symlink_metadata(self.rt, path.as_str())?.is_dir() {
-                    Ok(())
-                } else {
-                    Err(error)
+                if !fs::symlink_metadata(self.rt, path.as_str())?.is_dir() {
+                    return Err(error);
                 }
             }
-            Err(error) => Err(error),
+            Err(error) => return Err(error),
         }
+        self.seen
+            .insert(String::from_str(self.rt.alloc(), name)?, false)?;
+        Ok(())
     }
 
-    // Whether each folder on a path is there. Refuses a path on which anything but a folder stands.
-    fn has_folders(&self, folder: &str) -> io::Result<bool> {
+    /// Whether each folder on a path is there. Refuses a path on which anything but a folder stands.
+    pub(crate) fn has_folders(&self, folder: &str) -> io::Result<bool> {
+        if folder.is_empty() || self.seen.contains_key(folder) {
+            return Ok(true);
+        }
         let mut end = 0usize;
         for part in folder.split('/') {
             end = end.saturating_add(part.len());
@@ -159,12 +167,10 @@ impl<'a> SystemFolder<'a> {
 
     // Refuses a name that has anything but a regular file, and one behind a link. Returns whether it has a file.
     fn has_file(&self, name: &str) -> io::Result<bool> {
-        if let Some((above, _)) = name.rsplit_once('/') {
-            if !self.has_folders(above)? {
-                return Ok(false);
-            }
+        if !self.has_folders(folder_of(name))? {
+            return Ok(false);
         }
-        let path = self.path(name)?;
+        let path = self.file_path(name)?;
         match fs::symlink_metadata(self.rt, path.as_str()) {
             Ok(found) if found.is_file() => Ok(true),
             Ok(_) => Err(ErrorKind::Unsupported.into()),
@@ -177,7 +183,7 @@ impl<'a> SystemFolder<'a> {
         if !self.has_file(name)? {
             return Ok(None);
         }
-        let path = self.path(name)?;
+        let path = self.file_path(name)?;
         let mut bytes = Vec::new(self.rt.alloc());
         let file = File::open(self.rt, path.as_str())?;
         if !file.metadata()?.is_file() {
@@ -191,7 +197,7 @@ impl<'a> SystemFolder<'a> {
     // Makes a file anew, with these bytes, and forces it to the disk.
     fn make_file(&mut self, name: &str, bytes: &[u8]) -> io::Result<()> {
         self.make_above(name)?;
-        let path = self.path(name)?;
+        let path = self.file_path(name)?;
         if self.has_file(name)? {
             fs::remove_file(self.rt, path.as_str())?;
         }
@@ -208,11 +214,11 @@ impl<'a> SystemFolder<'a> {
         if !self.has_file(from)? {
             return Ok(());
         }
-        self.has_file(to)?;
         self.make_above(to)?;
+        self.has_file(to)?;
         self.note(from)?;
         self.note(to)?;
-        let (from, to) = (self.path(from)?, self.path(to)?);
+        let (from, to) = (self.file_path(from)?, self.file_path(to)?);
         fs::rename(self.rt, from.as_str(), to.as_str())
     }
 
@@ -221,7 +227,7 @@ impl<'a> SystemFolder<'a> {
             return Ok(());
         }
         self.note(name)?;
-        let path = self.path(name)?;
+        let path = self.file_path(name)?;
         fs::remove_file(self.rt, path.as_str())
     }
 
@@ -231,11 +237,15 @@ impl<'a> SystemFolder<'a> {
         File::open(self.rt, path.as_str())?.sync_all()
     }
 
+    // Forces the folders in which a name is new or gone, and forgets what was seen. The last in order is the first, so that a
+    // commit's files are forced where they are served before they are forced to be gone from the staged ones.
     fn force_all(&mut self) -> io::Result<()> {
-        for name in self.changed.as_slice() {
-            self.force(name.as_str())?;
+        for (name, is_changed) in self.seen.iter().rev() {
+            if *is_changed {
+                self.force(name.as_str())?;
+            }
         }
-        self.changed.clear();
+        self.seen.clear();
         Ok(())
     }
 
@@ -248,7 +258,8 @@ impl<'a> SystemFolder<'a> {
         if self.has_folders(".log")? {
             self.force(".log")?;
         }
-        if self.force_below(STAGED)? {
+        self.move_older()?;
+        if self.force_below(STAGED_FOLDER)? {
             for folder in SERVED {
                 self.force_below(folder)?;
             }
@@ -300,7 +311,8 @@ impl<'a> SystemFolder<'a> {
         Ok(())
     }
 
-    fn add_entries(
+    /// Adds the names of the files of a folder that begin with a prefix, and its folders.
+    pub(crate) fn add_entries(
         &self,
         names: &mut Vec<String>,
         folders: &mut Vec<String>,
@@ -327,16 +339,15 @@ impl<'a> SystemFolder<'a> {
         prefix: &str,
         entry: &DirEntry,
     ) -> io::Result<()> {
-        let mut name = String::from_str(self.rt.alloc(), folder)?;
-        if !name.is_empty() {
-            name.push('/')?;
-        }
-        name.push_str(entry.file_name())?;
+        let alloc = self.rt.alloc();
         let kind = entry.file_type()?;
         if kind.is_dir() {
-            folders.push(name)?;
-        } else if kind.is_file() && name.as_str().starts_with(prefix) {
-            names.push(name)?;
+            folders.push(joined(alloc, folder, entry.file_name())?)?;
+        } else if kind.is_file() {
+            let name = name_at(alloc, folder, entry.file_name())?;
+            if name.as_str().starts_with(prefix) {
+                names.push(name)?;
+            }
         }
         Ok(())
     }

@@ -5,7 +5,13 @@
 #[cfg(test)]
 mod claims;
 #[cfg(test)]
+mod crashes;
+#[cfg(test)]
 mod faults;
+#[cfg(test)]
+mod log_folder;
+#[cfg(test)]
+mod log_moments;
 #[cfg(test)]
 mod map;
 #[cfg(test)]
@@ -16,6 +22,8 @@ mod program;
 mod registry;
 #[cfg(test)]
 mod registry_folder;
+#[cfg(test)]
+mod registry_refused;
 #[cfg(test)]
 mod text;
 #[cfg(test)]

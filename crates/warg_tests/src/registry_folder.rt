@@ -1,11 +1,13 @@
 //! A registry in a folder: what is published is got, beside a map in memory, and at each moment of a run.
 
+use crate::crashes::crashed;
+use crate::log_folder::Steps;
 use std::alloc::Global;
 use std::test::Fail;
 use warg_crypto::Sha256;
 use warg_map::Map;
 use warg_registry::{KeyInRegistry, RegistryError, RegistryFolder, RegistryReader};
-use warg_store::{Call, Folder, LogError, LogFolder, LogReader, MemoryFolder, Progress};
+use warg_store::{Folder, LogError, LogFolder, LogReader, MemoryFolder};
 
 const FIRST: [(&[u8], &[u8]); 3] = [(b"a", b"one"), (b"b", b"two"), (b"a", b"three")];
 
@@ -66,21 +68,6 @@ fn a_log_is_no_registry(rt: HostRuntime) -> Result<(), Fail> {
     }
 }
 
-// The folder after these calls.
-fn after(alloc: Global, calls: &[Call]) -> Result<MemoryFolder, Fail> {
-    let mut folder = MemoryFolder::new(alloc);
-    for call in calls {
-        match call {
-            Call::Written(name, bytes) => folder.write(name.as_str(), bytes.as_slice())?,
-            Call::Renamed(from, to) => folder.rename(from.as_str(), to.as_str())?,
-            Call::Removed(name) => folder.remove(name.as_str())?,
-            Call::Synced => folder.sync()?,
-            Call::Replaced(name, bytes) => folder.replace(name.as_str(), bytes.as_slice())?,
-        }
-    }
-    Ok(folder)
-}
-
 // Whether a folder serves the first registry or the next one.
 fn serves_one(alloc: Global, folder: MemoryFolder) -> Result<bool, Fail> {
     let mut reader = RegistryReader::open(alloc, folder)?;
@@ -101,13 +88,18 @@ fn goes_on(alloc: Global, folder: MemoryFolder) -> Result<bool, Fail> {
     Ok(is_held(reader.get(b"a")?, 2, b"three") && matches!(found, KeyInRegistry::Held(..)))
 }
 
+// Of the changes that no sync has forced: all done, the first one lost or torn, and all of the first four lost or torn.
+const LEFT: [usize; 5] = [0, 1, 2, 40, 80];
+
 #[test]
 fn each_moment_serves_one_registry_or_the_next(rt: HostRuntime) -> Result<(), Fail> {
     let alloc = rt.alloc();
     let (folder, first) = published(alloc)?;
     for moment in first..folder.calls().len() + 1 {
-        let is_one = serves_one(alloc, after(alloc, &folder.calls()[..moment])?)?;
-        assert!(rt; is_one);
+        for choice in LEFT {
+            let is_one = serves_one(alloc, crashed(alloc, &folder.calls()[..moment], choice)?)?;
+            assert!(rt; is_one);
+        }
     }
     Ok(())
 }
@@ -117,20 +109,12 @@ fn a_registry_goes_on_at_each_moment(rt: HostRuntime) -> Result<(), Fail> {
     let alloc = rt.alloc();
     let (folder, first) = published(alloc)?;
     for moment in first..folder.calls().len() + 1 {
-        let does = goes_on(alloc, after(alloc, &folder.calls()[..moment])?)?;
-        assert!(rt; does);
+        for choice in [0, 40] {
+            let does = goes_on(alloc, crashed(alloc, &folder.calls()[..moment], choice)?)?;
+            assert!(rt; does);
+        }
     }
     Ok(())
-}
-
-// How many entries were read.
-#[derive(Drop)]
-struct Steps(usize);
-
-impl Progress for Steps {
-    fn step(&mut self) {
-        self.0 = self.0.saturating_add(1);
-    }
 }
 
 #[test]

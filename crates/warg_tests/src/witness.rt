@@ -162,7 +162,7 @@ fn are_not_met(none: &Refusing<Global>, data: &Nothing) -> bool {
     matches!(value, Ok(Finding::NotMet)) && matches!(hash, Ok(Finding::NotMet))
 }
 
-// Other counts of entries are looked at before anything grows.
+// Other counts of entries are looked at before allocating.
 #[test]
 fn other_counts_without_memory(rt: HostRuntime) -> Result<(), Fail> {
     let none = Refusing::after(rt.alloc(), 0);

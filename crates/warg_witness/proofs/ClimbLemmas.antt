@@ -1,7 +1,7 @@
 -- Where two evaluations part that go up side by side, and what that shows.
 use Rattle.std.proofs.Common.{◌≡◌, ℕ, Bool, true, false, List, length, Option, Some, ◌⊎◌, inl, inr, refl, sym, ap, ◌∙◌, arith, length-append}
 use Rattle.warg_crypto.proofs.ForCallers.{branch_parts, same_or_not}
-use Rattle.warg_crypto.specs.Tree.{input_beside}
+use Rattle.warg_crypto.specs.Tree.{branch_input, where_both, input_beside}
 use Rattle.warg_log.specs.Cut.{joined}
 use Rattle.warg_witness.specs.Private.Turns.{DivergesUp, IsUp}
 use Rattle.warg_witness.specs.Private.Divergence.{Parts, Shows, inputs_of}
@@ -69,8 +69,10 @@ up_parts P A up below here one = elim up.diverges [
   })
 ]
 
--- a branch that is there has both its parts
+-- a branch that is there has both its parts, which make its input and its digest
 pub both_there : (H : List ℕ → List ℕ) (left right : Option (List ℕ)) (d : List ℕ) → joined H left right ≡ Some d
     → (l : List ℕ) × (r : List ℕ) × (left ≡ Some l) × (right ≡ Some r)
-both_there H (Some l) (Some r) d is = (l, r, refl, refl)
+    × (where_both branch_input left right ≡ Some (branch_input l r)) × (H (branch_input l r) ≡ d)
+both_there H (Some l) (Some r) d is = let one : Some (H (branch_input l r)) ≡ Some d = is in
+    (l, r, refl, refl, refl, cc)
 both_there H _ _ d is = absurd (cc)

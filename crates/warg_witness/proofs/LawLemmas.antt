@@ -1,28 +1,24 @@
 -- What the laws state: a claim that is met and isn't true gives a collision.
-use Rattle.std.proofs.Common.{◌≡◌, ℕ, zero, suc, ◌+◌, ◌-◌, ◌<◌, ◌≤◌, ◌⊎◌, inl, inr, List, [], ◌∷◌, length, get_or, refl, sym, ap, ◌∙◌, arith, ◌^◌, Some, Bool, true, false, not, ◌++◌, Option, unwrap_or, append_assoc, length-append, reverse, subst}
-use Rattle.std.specs.Prelude.{Contains}
-use Rattle.std.proofs.lemmas.Bool.{cases_lt}
+use Rattle.std.proofs.Common.{◌≡◌, ℕ, zero, suc, ◌+◌, ◌<◌, ◌≤◌, ◌⊎◌, inl, inr, List, [], ◌∷◌, length, get_or, refl, sym, ap, ◌∙◌, arith, ◌^◌, Some, Bool, true, false, not, ◌++◌, Option, unwrap_or, append_assoc, length-append, reverse}
 use Rattle.warg_crypto.proofs.ForCallers.{same_or_not, HasSize, sizes, branch_parts}
-use Rattle.warg_log.specs.Tree.{front_of, leaves_of, root_of, root_over, own_digest}
+use Rattle.warg_log.specs.Tree.{leaves_of, root_of, root_over, own_digest}
 use Rattle.warg_log.specs.Cut.{Evaluation, with_target, cut_over}
 use Rattle.warg_witness.specs.Ranges.{IsAround}
-use Rattle.warg_witness.specs.Claims.{Begins, IsMet, IsEntry, IsRootBelow, IsAgreement, IsConsistencyMet}
+use Rattle.warg_witness.specs.Claims.{Begins, IsMet, IsEntry, IsRootBelow, IsAgreement}
 use Rattle.warg_crypto.specs.Collisions.{GivesHashes, SomeCollision}
-use Rattle.warg_witness.specs.Laws.{HoldsRoots}
 use Rattle.warg_log.specs.Ranges.{leaves_from, range_of, IsAligned}
-use Rattle.warg_witness.specs.Private.Ranges.{IsNodeRange, IsRootOf}
+use Rattle.warg_witness.specs.Private.Ranges.{IsNodeRange}
 use Rattle.warg_witness.specs.Private.Divergence.{HaveOneDigest, IsDivergence, Parts, Shows, inputs, IsRangeClimb}
 use Rattle.warg_witness.specs.declared.divergence.Divergence.{Divergence}
-use Rattle.warg_witness.proofs.RangeLemmas.{Digest, node_range, Data, more_than_one, node_some, wider, sides_aligned, side_around, leaf_node, node_aligned, whole_aligned, full_or_not, root_contained}
-use Rattle.warg_witness.specs.Private.Ranges.IsRootOf.{all_leaves, at_front, in_rest}
+use Rattle.warg_witness.proofs.RangeLemmas.{Digest, node_range, Data, node_some, wider, sides_aligned, side_around, whole_aligned}
 use Rattle.warg_witness.proofs.ClimbLemmas.{shown, up_somewhere}
-use Rattle.warg_witness.proofs.CutLemmas.{ranges_start, sides_there, ranges_up, leaves_count, have_root, have_range, plain_digest_is}
-use Rattle.warg_log.specs.Nodes.{height_of, start_of, balanced_roots, node_over}
-use Rattle.warg_witness.specs.Placed.{IsValuePlaced, IsHashPlaced, IsAgreementPlaced, IsConsistencyPlaced}
+use Rattle.warg_witness.proofs.CutLemmas.{ranges_start, sides_there, ranges_up, leaves_count, have_root, plain_digest_is}
+use Rattle.warg_log.specs.Nodes.{height_of, start_of}
+use Rattle.warg_witness.specs.Placed.{IsValuePlaced, IsHashPlaced, IsAgreementPlaced}
 use Rattle.warg_witness.specs.declared.divergence.Divergence.TheVariants.{Target, Branch}
-use Rattle.warg_witness.proofs.ShownLemmas.{entry_from, value_placed, value_meets, hash_placed, agreement_shown, root_leads, old_placed, new_placed, below_shown}
+use Rattle.warg_witness.proofs.ShownLemmas.{entry_from, value_placed, value_meets, hash_placed, agreement_shown}
 use Rattle.warg_log.specs.Claims.{InclusionClaim}
-use Rattle.warg_log.proofs.ForCallers.{front_is_greatest, inclusion_leads}
+use Rattle.warg_log.proofs.ForCallers.{inclusion_leads}
 use Rattle.std.specs.FinMap.{get, empty}
 use Rattle.std.specs.Option.{IfSome}
 use Rattle.warg_crypto.specs.EmptyTrees.{empty_root}
@@ -100,22 +96,6 @@ module _ (H : Digest) (F : Data) (x : List ℕ) (G : Data) (y : List ℕ) (s w :
       let climb = climbed n a n (omega arith) aligned around one.digest one.digest one.first one.second in
       (climb.2, climb.3.diverges (cc (climb.3.first_is, climb.3.second_is)))
 
--- the balanced root of a range around a place
-root_found : (place k a n : ℕ) → n ≤ k → IsAround place 1 a n → (s : ℕ) × (w : ℕ) × IsRootOf s w a n
-    × IsAround place 1 s w
-root_found place zero a n le around = absurd (omega arith)
-root_found place (suc k) a n le around = elim (full_or_not n (omega arith)) [
-  | inl is ↦ (a, n, all_leaves is, around)
-  | inr not_full ↦
-      let more = more_than_one n (omega arith) not_full in
-      let f = front_is_greatest n more in
-      elim (cases_lt place (a + front_of n)) [
-        | inl left ↦ (a, front_of n, at_front n more not_full refl, omega arith)
-        | inr right ↦ let at = root_found place k (a + front_of n) (n - front_of n) (omega arith) (omega arith) in
-            (at.0, at.1, in_rest a n more not_full at.2, at.3)
-      ]
-]
-
 -- what is shown is a collision
 pub shown_collides : {H : Digest} {P : List ℕ → List ℕ → Type 0} (pair : List ℕ × List ℕ) → Shows H P pair
     → SomeCollision H P
@@ -184,34 +164,6 @@ module _ (H : Digest) where
       (sizes digests (0 ∷ value) ∙ sym (sizes digests (0 ∷ other))) (node_range p.leaf.0)
       (whole_aligned n refl) (omega arith) (record { digest = met.root; first = first.1; second = second.1 }) in
       shown_collides _ (agreement_shown H F value G other p.leaf.0 n at untrue diverges)
-
-  -- the balanced root around a difference shows a collision
-  pub consistency_collides : (F : Data) (m n : ℕ) (old new : List (List ℕ)) → GivesHashes H → HoldsRoots F m
-      → IsConsistencyMet H F m n old new → (Begins old new → ⊥)
-      → SomeCollision H (IsConsistencyPlaced H F old new)
-  consistency_collides F m n old new digests holds met untrue =
-      let gives = sizes digests in
-      let ds = leaves_of H old in
-      let es = leaves_of H new in
-      let found = difference old new (omega arith) untrue in
-      let root = root_found found.0 (length ds) 0 (length ds) (omega arith) (omega (arith, leaves_count H old)) in
-      let leads = root_leads (rw (leaves_count H old, leaves_count H new, met.old_count, met.new_count) met.roots)
-      root.2 in
-      let at = leads.1 in
-      let place = found.0 in
-      let count = leaves_count H old ∙ met.old_count in
-      let is_root = subst (λ k. Contains (balanced_roots k) (node_over root.0 root.1)) count (root_contained root.2) in
-      let size = holds _ _ is_root at.held in
-      let from_old = from_tree old gives size at.node at.in_old at.to_old in
-      let from_new = from_tree new gives size at.node at.in_new at.to_new in
-      some_collision from_old.0 (old_placed refl refl at)
-      (λ in_old. some_collision from_new.0 (new_placed refl refl at)
-      (λ in_new.
-      let below = diverged _ _ _ _ _ _ _ gives (root_size old place 1 gives (omega arith) (omega arith)
-      ∙ sym (root_size new place 1 gives (omega arith) (omega arith))) (leaf_node refl)
-      (node_aligned at.node) root.3 (have_range H ds es place 1 (node_aligned at.node)
-      (node_some at.node) at.in_old at.in_new (sym in_old.same ∙ in_new.same)) in
-      shown_collides _ (below_shown refl refl at place in_new.part found.2 below.0 below.1)) from_new.1) from_old.1
 
 -- what is evaluated has 32 bytes
 value_len : (H : List ℕ → List ℕ) (P : List (Option (List ℕ))) (x : List ℕ) → HasSize H → length x ≡ 32

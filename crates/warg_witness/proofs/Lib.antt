@@ -6,12 +6,14 @@ pub mod GrowthLemmas
 pub mod ShownLemmas
 pub mod RecordLemmas
 pub mod LawLemmas
+pub mod ForkLemmas
 pub mod InsertionLemmas
 pub mod RangeLemmas
 pub mod KeyLemmas
 pub mod AgreementLemmas
 pub mod PathLawLemmas
 pub mod TreeLawLemmas
+pub mod ConsistencyLawLemmas
 pub mod MapLawLemmas
 pub mod ForCallers
 pub mod PremiseLemmas

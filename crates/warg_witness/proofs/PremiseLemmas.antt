@@ -15,7 +15,6 @@ use Rattle.warg_crypto.proofs.ForCallers.{same_or_not, zeros}
 use Rattle.warg_witness.specs.Claims.{IsMet, IsEntry, IsRootBelow, IsAgreement, IsConsistencyMet, Begins}
 use Rattle.warg_witness.specs.Placed.{IsValuePlaced, IsHashPlaced, IsAgreementPlaced, IsConsistencyPlaced}
 use Rattle.warg_log.specs.Consistency.{IsConsistent}
-use Rattle.warg_witness.specs.Laws.{HoldsRoots}
 use Rattle.std.specs.List.{Contains}
 use Rattle.std.proofs.lemmas.Nat.{pow_pos}
 use Rattle.warg_witness.specs.PathClaims.{IsRecord, IsRecordMet, IsRecordAgreement, IsTreeMet}
@@ -274,13 +273,11 @@ first_length [] = 0
 first_length (x ∷ xs) = length x
 
 pub consistency_hashes_are_needed : ¬
-    ((H : List ℕ → List ℕ) (F : ℕ → Option (List ℕ)) (m n : ℕ) (old new : List (List ℕ)) → HoldsRoots F m
+    ((H : List ℕ → List ℕ) (F : ℕ → Option (List ℕ)) (m n : ℕ) (old new : List (List ℕ))
     → IsConsistencyMet H F m n old new → ¬ (Begins old new) → SomeCollision H (IsConsistencyPlaced H F old new))
 unfolding way_within top_of height_of height_within place_of balanced_within root_within front_of front_within
     first_length
 consistency_hashes_are_needed law =
-    let holds : HoldsRoots zeros_everywhere 1 = λ node digest root is. let same : zeros ≡ digest = cc in
-    sym (ap length same) in
     let roots : IsConsistent own zeros_everywhere 1 2 zeros (1 ∷ zeros ++ zeros) =
     record {
       some = omega arith;
@@ -288,15 +285,15 @@ consistency_hashes_are_needed law =
       old_root_is = refl;
       new_root_is = ((zeros, refl, refl), tt);
     } in
-    none_collide _ (law own zeros_everywhere 1 2 (replicate 31 0 ∷ []) ([] ∷ replicate 62 0 ∷ []) holds
+    none_collide _ (law own zeros_everywhere 1 2 (replicate 31 0 ∷ []) ([] ∷ replicate 62 0 ∷ [])
     (record { old_count = refl; new_count = refl; roots = roots })
     (λ is. absurd (omega (arith, ap first_length is))))
 
 pub consistency_meeting_is_needed : (H : List ℕ → List ℕ)
-    → ¬ ((F : ℕ → Option (List ℕ)) (m n : ℕ) (old new : List (List ℕ)) → HoldsRoots F m → ¬ (Begins old new)
+    → ¬ ((F : ℕ → Option (List ℕ)) (m n : ℕ) (old new : List (List ℕ)) → ¬ (Begins old new)
     → SomeCollision H (IsConsistencyPlaced H F old new))
 consistency_meeting_is_needed H law =
-    let c = law nothing 1 0 ((0 ∷ []) ∷ []) [] (λ node digest root is. absurd cc) (λ is. absurd cc) in
+    let c = law nothing 1 0 ((0 ∷ []) ∷ []) [] (λ is. absurd cc) in
     elim c.placed [
       | inl old ↦ old.split (0, (part_of_one old.part).1)
       | inr (inl new) ↦ omega (arith, (part_in new.part).0, new.around.ends, pow_pos (height_of new.root))
@@ -304,14 +301,12 @@ consistency_meeting_is_needed H law =
     ]
 
 pub consistency_untruth_is_needed : (H : List ℕ → List ℕ) → GivesHashes H
-    → ¬ ((F : ℕ → Option (List ℕ)) (m n : ℕ) (old new : List (List ℕ)) → HoldsRoots F m
+    → ¬ ((F : ℕ → Option (List ℕ)) (m n : ℕ) (old new : List (List ℕ))
     → IsConsistencyMet H F m n old new → SomeCollision H (IsConsistencyPlaced H F old new))
 unfolding way_within top_of height_of height_within place_of balanced_within root_within
 consistency_untruth_is_needed H gives law =
     let leaf = H (0 ∷ []) in
     let held : ℕ → Option (List ℕ) = λ node. Some leaf in
-    let holds : HoldsRoots held 1 = λ node digest root is. let same : leaf ≡ digest = cc in sym (ap length same)
-    ∙ (gives (0 ∷ [])).has_32 in
     let roots : IsConsistent H held 1 1 leaf leaf =
     record {
       some = omega arith;
@@ -319,7 +314,7 @@ consistency_untruth_is_needed H gives law =
       old_root_is = refl;
       new_root_is = ((leaf, refl, refl), tt);
     } in
-    let c = law held 1 1 ([] ∷ []) ([] ∷ []) holds (record { old_count = refl; new_count = refl; roots = roots }) in
+    let c = law held 1 1 ([] ∷ []) ([] ∷ []) (record { old_count = refl; new_count = refl; roots = roots }) in
     elim c.placed [
       | inl old ↦ old.split (0, (part_of_one old.part).1)
       | inr (inl new) ↦

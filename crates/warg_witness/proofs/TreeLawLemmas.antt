@@ -5,7 +5,7 @@ use Rattle.std.proofs.Common.{◌≡◌, ℕ, ◌+◌, ◌-◌, ◌<◌, ◌≤�
 use Rattle.std.proofs.lemmas.Bool.{cases_lt, lt-leb, le-leb, ne_eqb}
 use Rattle.warg_crypto.specs.Collisions.{GivesHashes, SomeCollision}
 use Rattle.warg_crypto.specs.Tree.{branch_input, where_both}
-use Rattle.warg_crypto.proofs.ForCallers.{same_or_not, branch_parts, sizes as sizes_of}
+use Rattle.warg_crypto.proofs.ForCallers.{branch_parts, sizes as sizes_of}
 use Rattle.warg_log.specs.Tree.{front_of, leaves_of, root_of, root_over}
 use Rattle.warg_log.proofs.ForCallers.{front_is_greatest}
 use Rattle.warg_paths.specs.Paths.{roots_down, subproof_roots, grown, both_over}
@@ -13,17 +13,15 @@ use Rattle.warg_witness.specs.Ranges.{IsPart, IsAround}
 use Rattle.warg_witness.specs.Ranges.IsPart.{whole as part_whole, front as part_front, rest as part_rest}
 use Rattle.warg_witness.specs.Claims.{Begins}
 use Rattle.warg_witness.specs.PathClaims.{IsTreeMet}
-use Rattle.warg_witness.specs.Inputs.{plain_input}
 use Rattle.warg_paths.specs.Ways.{IsOnGrowth, old_turn_input, new_turn_input, old_of}
 use Rattle.warg_paths.specs.Ways.IsOnGrowth.{whole, front, rest}
 use Rattle.warg_witness.specs.TreePlaced.{IsTurn, IsTreePlaced}
 use Rattle.std.proofs.lemmas.Bool.Decides.{nat_tests}
 use Rattle.warg_witness.proofs.GrowthLemmas.{pair_parts, same_front, all_old, front_turn as roots_front, rest_turn as roots_rest}
 use Rattle.warg_witness.proofs.RecordLemmas.{plain_root}
-use Rattle.warg_witness.proofs.LawLemmas.{difference, diverged, shown_collides}
-use Rattle.warg_witness.proofs.ShownLemmas.{both_shown}
-use Rattle.warg_witness.proofs.CutLemmas.{plain_digest_is, leaves_count, have_range}
-use Rattle.warg_witness.proofs.RangeLemmas.{part_in, leaf_node}
+use Rattle.warg_witness.proofs.ForkLemmas.{over, branch_at, fork, both_collide}
+use Rattle.warg_witness.proofs.LawLemmas.{difference}
+use Rattle.warg_witness.proofs.RangeLemmas.{part_in}
 use Rattle.warg_witness.proofs.PathLawLemmas.{left_parts, over_size}
 
 -- where some aren't, no roots are there without digests, and else those of a part
@@ -74,32 +72,11 @@ leads_both : (H : List ℕ → List ℕ) (known : Option (List ℕ)) (m n : ℕ)
 leads_both H known m n path roots is = grind (arith, nat_tests)
 
 module _ (H : List ℕ → List ℕ) (gives : GivesHashes H) (path old new : List (List ℕ)) where
-  abbrev over : List (List ℕ) → ℕ → ℕ → List ℕ
-  over entries a n = root_over H (leaves_of H entries) a n
-
-  -- the branch over a range of a tree
-  abbrev branch_at : List (List ℕ) → ℕ → ℕ → List ℕ
-  branch_at entries a n = branch_input (over entries a (front_of n)) (over entries (a + front_of n) (n - front_of n))
-
-  is_plain : (entries : List (List ℕ)) (a n : ℕ) → 1 < n → branch_at entries a n ≡ plain_input H entries a n
-  is_plain entries a n more = rw (lt-leb n 1 more) refl
+  abbrev Placed : List ℕ → List ℕ → Type 0
+  Placed = IsTreePlaced H path old new
 
   abbrev Collide : Type 0
-  Collide = SomeCollision H (IsTreePlaced H path old new)
-
-  -- two trees of one root over a range in which the entries differ
-  both_collide : (place a n : ℕ) → IsAround place 1 a n → (slice_index_or old place [] ≡ slice_index_or new place []
-      → ⊥) → IsPart 0 (length old) a n → IsPart 0 (length new) a n → over old a n ≡ over new a n → Collide
-  both_collide place a n around differ old_part new_part same =
-      let in_old = part_in old_part in
-      let in_new = part_in new_part in
-      let sizes = over_size H gives old place 1 (omega arith) (omega arith)
-      ∙ sym (over_size H gives new place 1 (omega arith) (omega arith)) in
-      let (p, diverges) = diverged H _ _ _ _ place 1 (sizes_of gives) sizes (leaf_node refl) in_old.1 around
-      (have_range H (leaves_of H old) (leaves_of H new) place 1 in_old.1 (omega arith)
-      (omega (arith, leaves_count H old)) (omega (arith, leaves_count H new)) same) in
-      let pair = both_shown H old new place a n old_part new_part p diverges differ in
-      shown_collides _ (record { collides = pair.collides; placed = inr (inr pair.placed) })
+  Collide = SomeCollision H Placed
 
   abbrev OnWay : Option (List ℕ) → ℕ → ℕ → ℕ → List (List ℕ) → Type 0
   OnWay known m a n digests = IsOnGrowth (Some (root_of H (leaves_of H old))) (length old) (length new)
@@ -108,64 +85,41 @@ module _ (H : List ℕ → List ℕ) (gives : GivesHashes H) (path old new : Lis
   -- a branch of the evaluation is the tree's, or collides with it
   new_fork : (known : Option (List ℕ)) (m a n : ℕ) (top : List ℕ) (below : List (List ℕ)) (l r : List ℕ) → m < n → 1 < n
       → a + n ≤ length new → OnWay known m a n (top ∷ below)
-      → new_turn_input H known m n top below ≡ Some (branch_input l r) → H (branch_input l r) ≡ over new a n
-      → (branch_input l r ≡ branch_at new a n) ⊎ Collide
+      → new_turn_input H known m n top below ≡ Some (branch_input l r) → H (branch_input l r) ≡ over H new a n
+      → (branch_input l r ≡ branch_at H new a n) ⊎ Collide
   new_fork known m a n top below l r less more within way takes root =
-      elim (same_or_not (branch_input l r) (branch_at new a n)) [
-        | inl same ↦ inl same
-        | inr differ ↦ inr (record {
-          first = _;
-          second = _;
-          collide = record {
-            differ = differ;
-            same = root ∙ plain_digest_is H new a n (omega arith) within
-                ∙ ap H (sym (is_plain new a n more));
-          };
-          placed = let turn : IsTurn H path old new known m a n top below = record { on_way = way; more = less } in
-              let plain = is_plain new a n more in inr (inl (search (turn, takes, plain)));
-        })
-      ]
+      let turn : IsTurn H path old new known m a n top below = record { on_way = way; more = less } in
+      fork H Placed new a n l r more within root (inr (inl (search (turn, takes))))
 
   old_fork : (known : Option (List ℕ)) (m a n : ℕ) (top : List ℕ) (below : List (List ℕ)) (l r : List ℕ) → m < n → 1 < m
       → front_of n < m → a + m ≤ length old → OnWay known m a n (top ∷ below)
-      → old_turn_input H m n top below ≡ Some (branch_input l r) → H (branch_input l r) ≡ over old a m
-      → (branch_input l r ≡ branch_at old a m) ⊎ Collide
+      → old_turn_input H m n top below ≡ Some (branch_input l r) → H (branch_input l r) ≡ over H old a m
+      → (branch_input l r ≡ branch_at H old a m) ⊎ Collide
   old_fork known m a n top below l r less more turns within way takes root =
-      elim (same_or_not (branch_input l r) (branch_at old a m)) [
-        | inl same ↦ inl same
-        | inr differ ↦ inr (record {
-          first = _;
-          second = _;
-          collide = record {
-            differ = differ;
-            same = root ∙ plain_digest_is H old a m (omega arith) within
-                ∙ ap H (sym (is_plain old a m more));
-          };
-          placed = let turn : IsTurn H path old new known m a n top below = record { on_way = way; more = less } in
-              let plain = is_plain old a m more in inl (search (turn, turns, takes, plain));
-        })
-      ]
+      let turn : IsTurn H path old new known m a n top below = record { on_way = way; more = less } in
+      fork H Placed old a m l r more within root (inl (search (turn, turns, takes)))
 
   -- the new root of a part has 32 bytes: it is reckoned, or the old one where all leaves are old
   part_size : (digests : List (List ℕ)) (known : Option (List ℕ)) (m a n : ℕ) (x : List ℕ) → 0 < m → m ≤ n
-      → a + m ≤ length old → roots_down H known m n digests ≡ Some (over old a m, x) → length x ≡ 32
+      → a + m ≤ length old → roots_down H known m n digests ≡ Some (over H old a m, x) → length x ≡ 32
   part_size digests known m a n x some order within is = elim (cases_lt m n) [
-    | inl less ↦ new_size H gives known m n digests (over old a m) x less is
-    | inr all ↦ sym (ap length (all_old H known m n digests (over old a m) x (omega (arith, all, order)) is))
+    | inl less ↦ new_size H gives known m n digests (over H old a m) x less is
+    | inr all ↦ sym (ap length (all_old H known m n digests (over H old a m) x (omega (arith, all, order)) is))
         ∙ over_size H gives old a m some within
   ]
 
   module _ (place : ℕ) (differ : slice_index_or old place [] ≡ slice_index_or new place [] → ⊥) where
     level : (digests : List (List ℕ)) (known : Option (List ℕ)) (m a n : ℕ) → n ≡ m → IsAround place 1 a m
         → IsPart 0 (length old) a m → IsPart 0 (length new) a n → roots_down H known m n digests
-        ≡ Some (over old a m, over new a n) → Collide
+        ≡ Some (over H old a m, over H new a n) → Collide
     level digests known m a n equal around old_part new_part leads =
-        let one = all_old H known m n digests _ _ (sym equal) leads in both_collide place a m around differ old_part
-        (subst (λ k. IsPart 0 (length new) a k) equal new_part) (one ∙ ap (over new a) equal)
+        let one = all_old H known m n digests _ _ (sym equal) leads in
+        both_collide H Placed gives old new place a m (λ _ _ both. inr (inr both)) around differ old_part
+        (subst (λ k. IsPart 0 (length new) a k) equal new_part) (one ∙ ap (over H new a) equal)
 
     down : (digests : List (List ℕ)) (known : Option (List ℕ)) (m a n : ℕ) → m ≤ n → IsAround place 1 a m
         → IsPart 0 (length old) a m → IsPart 0 (length new) a n → OnWay known m a n digests
-        → roots_down H known m n digests ≡ Some (over old a m, over new a n) → Collide
+        → roots_down H known m n digests ≡ Some (over H old a m, over H new a n) → Collide
     down [] known m a n order around old_part new_part way leads = elim (cases_lt m n) [
       | inl less ↦ absurd (no_roots H known m n _ less leads)
       | inr same ↦ level [] known m a n (omega arith) around old_part new_part leads
@@ -190,7 +144,7 @@ module _ (H : List ℕ → List ℕ) (gives : GivesHashes H) (path old new : Lis
                       ∙ sym (over_size H gives new a (front_of n) (omega arith) (omega arith))) same in
                       down below known m a (front_of n) le around old_part (part_front a n new_part more)
                       (front known m a n top below way less le)
-                      (below_is ∙ ap (λ w. Some (over old a m, w)) parts.0)
+                      (below_is ∙ ap (λ w. Some (over H old a m, w)) parts.0)
                 ]
             | inl lt ↦
                 let fronts = same_front m n more lt order in
@@ -207,21 +161,22 @@ module _ (H : List ℕ → List ℕ) (gives : GivesHashes H) (path old new : Lis
                             let right = new_size H gives None (m - front_of n) (n - front_of n) below y x
                             (omega arith) below_is ∙ sym (over_size H gives new (a + front_of n) (n - front_of n)
                             (omega arith) (omega arith)) in
-                            let new_parts = left_parts top x (over new a (front_of n))
-                            (over new (a + front_of n) (n - front_of n)) right new_same in
+                            let new_parts = left_parts top x (over H new a (front_of n))
+                            (over H new (a + front_of n) (n - front_of n)) right new_same in
                             let left = ap length new_parts.0 ∙ over_size H gives new a (front_of n) (omega arith)
                             (omega arith) ∙ sym (over_size H gives old a (front_of n) (omega arith) (omega arith)) in
-                            let old_parts = branch_parts top y (over old a (front_of n))
-                            (over old (a + front_of n) (m - front_of n)) left (rw fronts at old_same) in
+                            let old_parts = branch_parts top y (over H old a (front_of n))
+                            (over H old (a + front_of n) (m - front_of n)) left (rw fronts at old_same) in
                             elim (cases_lt place (a + front_of n)) [
-                              | inl here ↦ both_collide place a (front_of n) (omega arith) differ
+                              | inl here ↦ both_collide H Placed gives old new place a (front_of n)
+                                  (λ _ _ both. inr (inr both)) (omega arith) differ
                                   (rw fronts at (part_front a m old_part (omega arith))) (part_front a n new_part more)
                                   (sym old_parts.0 ∙ new_parts.0)
                               | inr there ↦ down below None (m - front_of n) (a + front_of n) (n - front_of n) (omega arith)
                                   (omega arith) (rw fronts at (part_rest a m old_part (omega arith)))
                                   (part_rest a n new_part more)
                                   (rest known m a n top below way less lt) (below_is ∙ ap (λ z. Some (z, x)) old_parts.1
-                                  ∙ ap (λ z. Some (over old (a + front_of n) (m - front_of n), z)) new_parts.1)
+                                  ∙ ap (λ z. Some (over H old (a + front_of n) (m - front_of n), z)) new_parts.1)
                             ]
                       ]
                 ]

@@ -3,7 +3,6 @@ pub mod Inputs
 pub mod Claims
 pub mod Placed
 pub mod Collisions
-pub mod Laws
 pub mod Findings
 pub mod MapClaims
 pub mod MapInputs

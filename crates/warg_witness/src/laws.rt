@@ -2,8 +2,8 @@
 //!
 //! They are what the witnesses rest on, with no program in it: whenever the claim of a proof is met and isn't
 //! true, two byte strings that differ and have one digest stand in the evaluation and the trees over the
-//! entries or the insertions. They hold for every function from byte lists to 32 bytes, whatever digests a proof has; only
-//! of consistency are those of the old length's balanced roots asked to have 32 bytes, too.
+//! entries or the insertions. They hold for every function from byte lists to 32 bytes, whatever digests a proof has; that
+//! of two paths holds for every function, and asks 32 bytes of their digests.
 
 ghost use Rattle.std.specs.Prelude.{◌≡◌, ◌≢◌, ℕ, ◌↔◌, ◌⊎◌, IsTrue, List, [], length, Option, Some};
 ghost use Rattle.std.specs.FinMap.{empty};
@@ -23,7 +23,6 @@ ghost use Rattle.warg_witness.specs.MapPlaced.{IsPlacedAtPrefix, IsKeyPlaced, Is
 ghost use Rattle.warg_witness.specs.UpdateClaims.{IsUpdated, Step, insertions_of, LeadThrough, CollidesAtStep};
 ghost use Rattle.warg_crypto.specs.Collisions.{GivesHashes, AreHashes, SomeCollision};
 ghost use Rattle.warg_crypto.specs.Tree.{leaf_digest};
-ghost use Rattle.warg_witness.specs.Laws.{HoldsRoots};
 
 use crate::collision::Finding;
 use std::alloc::Allocator;
@@ -63,8 +62,7 @@ pub fn agreement_or_collision()
 /// A claim of consistency that is met and isn't true gives a collision.
 pub fn consistency_or_collision()
     ensures { (H : List ℕ → List ℕ) (F : ℕ → Option (List ℕ)) (m n : ℕ) (old new : List (List ℕ))
-        → GivesHashes H → HoldsRoots F m
-        → IsConsistencyMet H F m n old new → (Begins old new → ⊥)
+        → GivesHashes H → IsConsistencyMet H F m n old new → (Begins old new → ⊥)
         → SomeCollision H (IsConsistencyPlaced H F old new) }
 {}
 

@@ -1,6 +1,5 @@
 //! What the premises of the laws that end in a collision are for. Each function is of one law and has no effect, and says of
-//! each premise, in a clause of its name, that the law is false without it. That isn't shown of one: of consistency that the
-//! digests of the old length's balanced roots have 32 bytes.
+//! each premise, in a clause of its name, that the law is false without it.
 
 ghost use Rattle.std.specs.Prelude.{◌≡◌, ◌≢◌, ◌⊎◌, ℕ, List, [], length, Option};
 ghost use Rattle.warg_crypto.specs.Collisions.{GivesHashes, AreHashes, SomeCollision};
@@ -11,7 +10,6 @@ ghost use Rattle.warg_witness.specs.PathClaims.{IsRecord, IsRecordMet, IsRecordA
 ghost use Rattle.warg_witness.specs.PathPlaced.{IsRecordPlaced, IsRecordAgreementPlaced};
 ghost use Rattle.warg_witness.specs.TreePlaced.{IsTreePlaced};
 ghost use Rattle.warg_witness.specs.Placed.{IsValuePlaced, IsHashPlaced, IsAgreementPlaced, IsConsistencyPlaced};
-ghost use Rattle.warg_witness.specs.Laws.{HoldsRoots};
 ghost use Rattle.std.specs.FinMap.{empty};
 ghost use Rattle.warg_map.specs.Sparse.{sparse_root, map_of};
 ghost use Rattle.warg_witness.specs.MapClaims.{IsKeyMet, IsAbsenceMet, IsKeyAgreement, IsLastValue};
@@ -118,14 +116,14 @@ pub fn tree_premises_are_needed()
 #[tactic(auto, using(crate::proofs::PremiseLemmas::consistency_needs))]
 pub fn consistency_premises_are_needed()
     ensures hashes { ¬ ((H : List ℕ → List ℕ) (F : ℕ → Option (List ℕ)) (m n : ℕ)
-        (old new : List (List ℕ)) → HoldsRoots F m
+        (old new : List (List ℕ))
         → IsConsistencyMet H F m n old new → ¬ (Begins old new)
         → SomeCollision H (IsConsistencyPlaced H F old new)) }
     ensures meeting { (H : List ℕ → List ℕ) → ¬ ((F : ℕ → Option (List ℕ)) (m n : ℕ)
-        (old new : List (List ℕ)) → HoldsRoots F m → ¬ (Begins old new)
+        (old new : List (List ℕ)) → ¬ (Begins old new)
         → SomeCollision H (IsConsistencyPlaced H F old new)) }
     ensures untruth { (H : List ℕ → List ℕ) → GivesHashes H → ¬ ((F : ℕ → Option (List ℕ)) (m n : ℕ)
-        (old new : List (List ℕ)) → HoldsRoots F m → IsConsistencyMet H F m n old new
+        (old new : List (List ℕ)) → IsConsistencyMet H F m n old new
         → SomeCollision H (IsConsistencyPlaced H F old new)) }
 {}
 

@@ -13,7 +13,6 @@ returns c = λ H bytes place old new b m before after gives shown reads there fi
     let one : is.bundle ≡ b = (let both : Ok is.bundle ≡ Ok b = sym is.spelled ∙ reads in cc) in
     subst (λ (x : Bundle). SomeCollision H (IsConsistencyPlaced H (held_digest x.hashes) before after)) one
     (c.consistency_or_collision.ensures H (held_digest is.bundle.hashes) m b.log_length before after gives
-    (λ root digest balanced. is.hashes root digest)
     (record {
       old_count = sym first.length;
       new_count = sym second.length;

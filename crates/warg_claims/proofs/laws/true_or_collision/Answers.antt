@@ -47,7 +47,6 @@ returns c = λ H claim evidence. elim claim as (λ claim. Sound H claim evidence
         let shown = c.growth_is_shown.ensures H bytes place old.length old.root new.length new.root passed in
         subst (λ F. SomeCollision H (IsConsistencyPlaced H F entries.0 entries.1)) (sym (ap digests_in shown.spelled))
         (c.consistency_or_collision.ensures H _ old.length new.length entries.0 entries.1 gives
-        (λ root digest balanced. shown.hashes root digest)
         (record {
           old_count = sym roots.0.length;
           new_count = sym roots.1.length;

@@ -1,5 +1,11 @@
-use Rattle.warg_registry.specs.Pruning.{bytes_of, AreNone}
+use Rattle.std.proofs.Common.{◌++◌}
+use Rattle.std.specs.Vec.Iter.{into_iter_items}
+use Rattle.warg_registry.specs.Pruning.{bytes_of, AreNone, AreAmong}
 use Rattle.warg_registry.proofs.pruning.NeededPages.others.Given as goal
 
 abbrev pub invariant-names : goal.invariant-names
-invariant-names l = AreNone (bytes_of l.others.items) (bytes_of l.self.names.keys)
+invariant-names l = record {
+  none : AreNone (bytes_of l.others.items) (bytes_of l.self.names.keys);
+  all : AreAmong (bytes_of l.fn.names.items) (bytes_of (l.others.items ++ into_iter_items l.name-iterator))
+      (bytes_of l.self.names.keys);
+}

@@ -6,10 +6,11 @@ use Rattle.warg_log.specs.Claims.{RootAndLength}
 use Rattle.warg_tiles.specs.CheckpointText.{Said}
 use Rattle.warg_store.specs.Reading.{ServedIn}
 use Rattle.warg_store.proofs.ForCallers.{read_is, reads_read}
-use Rattle.warg_registry.specs.Folder.{registry_of, page_found}
+use Rattle.warg_registry.specs.Folder.{registry_of, page_read}
 use Rattle.warg_registry.specs.Insertions.{entry_of}
 use Rattle.warg_registry.specs.Reading.{RegistryRead, ReadsRegistry}
-use Rattle.warg_registry.proofs.RegistryPages.{own_files}
+use Rattle.warg_registry.proofs.Refused.{not_of_pages}
+use Rattle.warg_registry.proofs.RegistryPages.{read_files}
 use Rattle.warg_registry.proofs.reader.RegistryReader.prove.Goals.{in-Ok, in-Err}
 use Rattle.warg_registry.proofs.reader.RegistryReader.prove.Goals as goal
 
@@ -23,15 +24,37 @@ returns-clause-own g c = λ faithful. elim c.match-prove_by_pages.branch [
       let said : c.length-version.result ≡ length insertions = c.length-version.ensures
       ∙ ap (λ (k : RootAndLength). k.length) c.checkpoint.ensures ∙ ap (λ (t : Said). t.length) has.reads.text
       ∙ length-map insertions entry_of in
-      let own : IsOwnSource sha256 (page_found (dev.seen log.folder)) c.self.inside.root c.length-version.result
+      let own : IsOwnSource sha256 (page_read (dev.seen log.folder)) c.self.inside.root c.length-version.result
       insertions = record {
-        pages = own_files origin insertions (dev.seen log.folder) inside.reads.files;
+        pages = read_files origin insertions (dev.seen log.folder) inside.reads.files;
         all = sym said;
         is_root = inside.is_root;
       } in
       w.in-Ok.ensures.own (log, true) insertions
       (refl, λ e. (faithful, read_is dev.seen dev.may_leave dev.moment dev.left_since log.folder)) own)
   | in-Err w ↦ rw w.result-is tt
+]
+
+pub returns-clause-whole : goal.returns-clause-whole
+returns-clause-whole g c = λ faithful. elim c.match-prove_by_pages.branch [
+  | in-Ok w ↦ rw w.result-is (λ origin insertions has. tt)
+  | in-Err w ↦ rw w.result-is (λ origin insertions has.
+      let dev = g.F.Folder in
+      let log = c.self.inside.pages.log in
+      let inside = subst (λ (r : RegistryRead g.row.F.Denot). ReadsRegistry dev.seen origin insertions r)
+      (sym c.self.view_is) has in
+      let said : c.length-version.result ≡ length insertions = c.length-version.ensures
+      ∙ ap (λ (k : RootAndLength). k.length) c.checkpoint.ensures ∙ ap (λ (t : Said). t.length) has.reads.text
+      ∙ length-map insertions entry_of in
+      let own : IsOwnSource sha256 (page_read (dev.seen log.folder)) c.self.inside.root c.length-version.result
+      insertions = record {
+        pages = read_files origin insertions (dev.seen log.folder) inside.reads.files;
+        all = sym said;
+        is_root = inside.is_root;
+      } in
+      w.refusal.ensures (not_of_pages _ w.in-Err.error (λ refused. refused (log, true) insertions
+      (refl, λ e. (faithful, read_is dev.seen dev.may_leave dev.moment dev.left_since log.folder)) own)
+      w.in-Err.ensures.refused))
 ]
 
 pub returns-clause-same : goal.returns-clause-same

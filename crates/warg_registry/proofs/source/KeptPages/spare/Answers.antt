@@ -1,20 +1,19 @@
-use Rattle.std.proofs.Common.{[], ◌++◌, List, ℕ, subst, sym}
-use Rattle.std.proofs.lemmas.List.Elements.{Contains-append_left}
-use Rattle.warg_registry.specs.Pruning.{bytes_of, ArePathsOf}
-use Rattle.warg_registry.proofs.Pruned.{none_of, no_paths}
+use Rattle.std.proofs.Common.{⊎_elim, inl, inr}
+use Rattle.warg_registry.specs.Pruning.{bytes_of}
+use Rattle.warg_registry.proofs.Pruned.{none_of}
 use Rattle.warg_registry.proofs.source.KeptPages.spare.Goals as goal
 
 pub returns-clause-spare : goal.returns-clause-spare
 returns-clause-spare g c = λ faithful known origin served kept read serves own.
-    let names = bytes_of c.add-2.new.self.names.keys in
-    let first = c.in_ok-add.ensures.added [] (no_paths _) in
-    let second = c.in_ok-add-2.ensures.added first.0 first.1 in
-    let read_one = c.in_ok-add.ensures.read faithful known read in
-    let read_two = c.in_ok-served.ensures.read faithful known read_one in
-    let kept_there = first.2 faithful known kept read own names
-    (λ p there. second.1 p (Contains-append_left first.0 second.0 p there)) in
-    let served_there = second.2 faithful known served read_two
-    (c.in_ok-served.ensures.served faithful known origin served read_one serves) names second.1 in (
-      none_of names _ served c.in_ok-others.ensures served_there,
-      none_of names _ kept c.in_ok-others.ensures kept_there,
+    let needed = c.in_ok-needed.ensures.needed faithful known origin served kept read serves own in
+    let names = bytes_of c.in_ok-needed.needed.names.keys in (
+      none_of names _ served c.in_ok-others.ensures.none needed.all_served,
+      none_of names _ kept c.in_ok-others.ensures.none needed.all_kept,
     )
+
+pub returns-clause-all : goal.returns-clause-all
+returns-clause-all g c = λ faithful known origin served kept read serves own n page there.
+    let needed = c.in_ok-needed.ensures.needed faithful known origin served kept read serves own in
+    let listed = c.in_ok-names.ensures.all faithful known (c.in_ok-needed.ensures.read faithful known read) n page there in
+    ⊎_elim (λ spare. inl spare) (λ key. ⊎_elim (λ these. inr (inl these)) (λ those. inr (inr those)) (needed.only n key))
+    (c.in_ok-others.ensures.all n listed)

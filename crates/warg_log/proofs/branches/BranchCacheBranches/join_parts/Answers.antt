@@ -1,7 +1,7 @@
 use Rattle.std.proofs.Common.{◌≡◌}
 use Rattle.warg_crypto.specs.Tree.{branch}
 use Rattle.warg_protobuf.proofs.ForCallers.{all_push}
-use Rattle.warg_log.proofs.branches.BranchCache.join.Goals as goal
+use Rattle.warg_log.proofs.branches.BranchCacheBranches.join_parts.Goals as goal
 
 pub invariant_of-self : goal.invariant_of-self
 invariant_of-self g c =

@@ -1,33 +1,38 @@
-//! Every moment of small runs, and everything that a crash may leave there; and calls on folders that are damaged.
+//! A log in a folder in memory: what was pushed is read, beside a log of the same entries in memory, and a folder that is
+//! damaged is refused by name.
 
 ghost use Rattle.std.specs.Prelude.{IfOk};
 ghost use Rattle.warg_store.specs.Growing.{IsReady};
 
-use crate::{
-    Call, CreateError, Folder, FolderError, LogError, LogFolder, LogReader, MemoryFolder, Progress,
-    PushError, SignError, rebuild, recover,
-};
 use std::alloc::Global;
 use std::process::Abort;
 use std::test::Fail;
 use warg_crypto::Sha256;
 use warg_log::{Checkpoint, LogBuilder, VecLog};
+use warg_store::{
+    CreateError, Folder, LogError, LogFolder, LogReader, MemoryFolder, Progress, PushError,
+    SignError, rebuild,
+};
 
-impl Progress for usize {
+// How many entries were read.
+#[derive(Drop)]
+pub(crate) struct Steps(pub(crate) usize);
+
+impl Progress for Steps {
     fn step(&mut self) {
-        *self = self.saturating_add(1);
+        self.0 = self.0.saturating_add(1);
     }
 }
 
 // A log of no entries.
-fn new_log(alloc: Global) -> Result<LogFolder<MemoryFolder>, Fail>
+pub(crate) fn new_log(alloc: Global) -> Result<LogFolder<MemoryFolder>, Fail>
     ensures { IfOk result (IsReady ⟦<MemoryFolder as Folder>⟧.seen ⟦<MemoryFolder as Folder>⟧.may_leave) }
 {
     Ok(LogFolder::create(alloc, MemoryFolder::new(alloc), b"example.com/log")?)
 }
 
 // Pushes entries of two bytes, those from one number up to another.
-fn push_some<F: Folder + Drop>(
+pub(crate) fn push_some<F: Folder + Drop>(
     log: &mut LogFolder<F>,
     from: usize,
     to: usize,
@@ -42,7 +47,7 @@ fn push_some<F: Folder + Drop>(
 }
 
 // The checkpoint of the first entries.
-fn checkpoint_of(alloc: Global, count: usize) -> Result<Checkpoint<Sha256>, Fail> {
+pub(crate) fn checkpoint_of(alloc: Global, count: usize) -> Result<Checkpoint<Sha256>, Fail> {
     let mut log: VecLog<Sha256, [u8; 2]> = VecLog::default(alloc);
     for number in 0..count {
         log.append(&[(number / 256 % 256) as u8, (number % 256) as u8])?;
@@ -51,7 +56,11 @@ fn checkpoint_of(alloc: Global, count: usize) -> Result<Checkpoint<Sha256>, Fail
 }
 
 // A folder whose log had a commit of some entries, the number of calls up to its end, and then another one.
-fn two_commits(alloc: Global, first: usize, next: usize) -> Result<(MemoryFolder, usize), Fail> {
+pub(crate) fn two_commits(
+    alloc: Global,
+    first: usize,
+    next: usize,
+) -> Result<(MemoryFolder, usize), Fail> {
     let mut log = new_log(alloc)?;
     push_some(&mut log, 0, first)?;
     log.commit()?;
@@ -63,114 +72,13 @@ fn two_commits(alloc: Global, first: usize, next: usize) -> Result<(MemoryFolder
     Ok((log.into_folder(), calls))
 }
 
-// How many of the calls are behind none of whose changes was forced.
-fn unforced(calls: &[Call]) -> usize {
-    calls
-        .iter()
-        .rev()
-        .take_while(|call| !matches!(call, Call::Synced))
-        .count()
-}
-
-// How many choices a crash after these calls has, of those for the first four changes that weren't forced.
-fn choices(calls: &[Call]) -> usize {
-    let mut choices = 1usize;
-    for _ in 0..unforced(calls).min(4) {
-        choices = choices.saturating_mul(3);
-    }
-    choices
-}
-
-// What a crash after these calls leaves, where the choice says of each change that wasn't forced whether it is done, lost
-// or torn: its digits to the base 3, the first change's first.
-fn crashed(alloc: Global, calls: &[Call], choice: usize) -> Result<MemoryFolder, FolderError> {
-    let mut folder = MemoryFolder::new(alloc);
-    let mut rest = choice;
-    let forced = calls.len().saturating_sub(unforced(calls));
-    for (index, call) in calls.iter().enumerate() {
-        if index < forced {
-            leave(&mut folder, call, 0)?;
-        } else {
-            leave(&mut folder, call, rest % 3)?;
-            rest /= 3;
-        }
-    }
-    folder.sync()?;
-    Ok(folder)
-}
-
-// Does to a folder what a crash leaves of a call: all of it, nothing, or a part.
-fn leave(folder: &mut MemoryFolder, call: &Call, outcome: usize) -> Result<(), FolderError> {
-    match call {
-        Call::Written(name, bytes) => match outcome {
-            0 => folder.replace(name.as_str(), bytes.as_slice()),
-            1 => Ok(()),
-            _ => folder.replace(name.as_str(), &bytes.as_slice()[..bytes.len() / 2]),
-        },
-        Call::Renamed(from, to) if outcome == 0 => folder.rename(from.as_str(), to.as_str()),
-        Call::Removed(name) if outcome == 0 => folder.remove(name.as_str()),
-        Call::Replaced(name, bytes) => folder.replace(name.as_str(), bytes.as_slice()),
-        _ => Ok(()),
-    }
-}
-
-// Asserts that a reader finds one of two logs whole, and so does who opens the folder, which then has no staged file.
-fn assert_one_of(
-    rt: &impl Abort,
-    alloc: Global,
-    left: MemoryFolder,
-    logs: &[Checkpoint<Sha256>; 2],
-) -> Result<MemoryFolder, Fail> {
-    let mut reader = LogReader::open(alloc, left)?;
-    let found = reader.audit(&mut 0)?;
-    assert!(rt; found == logs[0] || found == logs[1]);
-    let mut log = LogFolder::open(alloc, reader.into_folder())?;
-    let found = log.audit(&mut 0)?;
-    assert!(rt; found == logs[0] || found == logs[1]);
-    let mut folder = log.into_folder();
-    assert!(rt; folder.list(alloc, ".log/staged/")?.is_empty());
-    Ok(folder)
-}
-
-#[test]
-fn each_crash_leaves_one_log_or_the_next(rt: HostRuntime) -> Result<(), Fail> {
-    let alloc = rt.alloc();
-    let (folder, first) = two_commits(alloc, 2, 4)?;
-    let logs = [checkpoint_of(alloc, 2)?, checkpoint_of(alloc, 4)?];
-    for moment in first..folder.calls().len() + 1 {
-        let calls = &folder.calls()[..moment];
-        for choice in 0..choices(calls) {
-            let left = crashed(alloc, calls, choice)?;
-            let _ = assert_one_of(&rt, alloc, left, &logs)?;
-        }
-    }
-    Ok(())
-}
-
-#[test]
-fn each_crash_of_an_opening_leaves_one_log_or_the_next(rt: HostRuntime) -> Result<(), Fail> {
-    let alloc = rt.alloc();
-    let (folder, first) = two_commits(alloc, 1, 2)?;
-    let logs = [checkpoint_of(alloc, 1)?, checkpoint_of(alloc, 2)?];
-    for moment in first..folder.calls().len() + 1 {
-        let mut left = crashed(alloc, &folder.calls()[..moment], 0)?;
-        let before = left.calls().len();
-        recover(alloc, &mut left)?;
-        for later in before..left.calls().len() + 1 {
-            let again = crashed(alloc, &left.calls()[..later], 1)?;
-            let _ = assert_one_of(&rt, alloc, again, &logs)?;
-        }
-    }
-    Ok(())
-}
-
 #[test]
 fn a_commit_fills_tiles_and_keeps_those_before(rt: HostRuntime) -> Result<(), Fail> {
     let alloc = rt.alloc();
     let (folder, _) = two_commits(alloc, 3, 259)?;
     let mut log = LogFolder::open(alloc, folder)?;
     assert!(rt; log.checkpoint() == checkpoint_of(alloc, 259)?);
-    assert!(rt; log.audit(&mut 0)? == log.checkpoint());
+    assert!(rt; log.audit(&mut Steps(0))? == log.checkpoint());
     assert_eq!(rt; log.length(), 259);
     assert_eq!(rt; log.origin(), b"example.com/log".as_slice());
     assert_eq!(rt; log.entry(258)?.as_slice(), [1, 2].as_slice());
@@ -178,7 +86,7 @@ fn a_commit_fills_tiles_and_keeps_those_before(rt: HostRuntime) -> Result<(), Fa
     assert_eq!(rt; log.consistency_path(3, 259)?.len(), 10);
     assert!(rt; log.entry(259) == Err(LogError::OutOfRange { bound: 259 }));
     assert_eq!(rt; log.prune()?, 2);
-    assert!(rt; log.audit(&mut 0)? == log.checkpoint());
+    assert!(rt; log.audit(&mut Steps(0))? == log.checkpoint());
     let before = log.into_folder().calls().len();
     assert!(rt; before > 0);
     Ok(())
@@ -204,7 +112,7 @@ fn a_page_and_a_line_are_kept(rt: HostRuntime) -> Result<(), Fail> {
     assert!(rt; text.as_slice().ends_with(b"\nfurther\n"));
     let mut log = LogFolder::open(alloc, folder)?;
     assert!(rt; log.checkpoint() == checkpoint_of(alloc, 5)?);
-    assert!(rt; log.audit(&mut 0)? == log.checkpoint());
+    assert!(rt; log.audit(&mut Steps(0))? == log.checkpoint());
     Ok(())
 }
 
@@ -303,7 +211,7 @@ fn pages_are_listed_and_removed(rt: HostRuntime) -> Result<(), Fail> {
     let left = log.pages()?;
     assert_eq!(rt; left.len(), 1);
     assert_eq!(rt; left[0].as_str(), "map/b/1");
-    assert!(rt; log.audit(&mut 0)? == checkpoint_of(alloc, 3)?);
+    assert!(rt; log.audit(&mut Steps(0))? == checkpoint_of(alloc, 3)?);
     Ok(())
 }
 
@@ -427,11 +335,11 @@ fn tiles_are_made_again_from_bundles(rt: HostRuntime) -> Result<(), Fail> {
     let (mut folder, _) = two_commits(alloc, 3, 259)?;
     folder.remove("tile/0/000")?;
     folder.replace("tile/1/000.p/1", b"not it")?;
-    let mut read = 0;
+    let mut read = Steps(0);
     assert!(rt; rebuild(alloc, &mut folder, &mut read)? == checkpoint_of(alloc, 259)?);
-    assert_eq!(rt; read, 259);
+    assert_eq!(rt; read.0, 259);
     let mut log = LogFolder::open(alloc, folder)?;
-    assert!(rt; log.audit(&mut 0)? == log.checkpoint());
+    assert!(rt; log.audit(&mut Steps(0))? == log.checkpoint());
     Ok(())
 }
 
@@ -483,90 +391,5 @@ fn a_read_gives_no_more_than_it_is_told(rt: HostRuntime) -> Result<(), Fail> {
     assert!(rt; folder.read(alloc, "a", 9)?.is_none());
     let front = folder.read(alloc, "b", 1)?.ok_or("no file")?;
     assert_eq!(rt; front.as_slice(), b"ab".as_slice());
-    Ok(())
-}
-
-// So many random runs are tried.
-const RUNS: u32 = 400;
-
-// Numbers that look random, the same ones in each run.
-#[derive(Drop)]
-struct Random {
-    state: u64,
-}
-
-impl Random {
-    // A number below a bound.
-    fn below(&mut self, bound: usize) -> usize {
-        self.state = self
-            .state
-            .wrapping_mul(6364136223846793005)
-            .wrapping_add(1442695040888963407);
-        (self.state >> 33) as usize % bound.max(1)
-    }
-}
-
-// Asserts that each tile and bundle of a folder is the one that a mirror has fetched before, and lets it fetch the new ones.
-fn mirrored(
-    rt: &impl Abort,
-    alloc: Global,
-    folder: &mut MemoryFolder,
-    mirror: &mut MemoryFolder,
-) -> Result<(), Fail> {
-    let names = folder.list(alloc, "tile/")?;
-    for name in names.as_slice() {
-        let bytes = folder.read(alloc, name.as_str(), 1 << 20)?;
-        let fetched = mirror.read(alloc, name.as_str(), 1 << 20)?;
-        assert!(rt; fetched.is_none() || fetched == bytes);
-        if let (None, Some(bytes)) = (fetched, bytes) {
-            mirror.replace(name.as_str(), bytes.as_slice())?;
-        }
-    }
-    Ok(())
-}
-
-// Adds up to three entries to a folder's log, and leaves what a crash at some moment may.
-fn crashed_batch(
-    rt: &impl Abort,
-    alloc: Global,
-    random: &mut Random,
-    folder: MemoryFolder,
-    mirror: &mut MemoryFolder,
-) -> Result<MemoryFolder, Fail> {
-    let reader = LogReader::open(alloc, folder)?;
-    let length = reader.checkpoint().length();
-    let folder = reader.into_folder();
-    let next = length.saturating_add(random.below(4));
-    let before = folder.calls().len();
-    let mut log = LogFolder::open(alloc, folder)?;
-    push_some(&mut log, length, next)?;
-    log.commit()?;
-    let folder = log.into_folder();
-    let moment = random.below(
-        folder
-            .calls()
-            .len()
-            .saturating_sub(before)
-            .saturating_add(1),
-    );
-    let calls = &folder.calls()[..before.saturating_add(moment).min(folder.calls().len())];
-    mirrored(rt, alloc, &mut crashed(alloc, calls, 0)?, mirror)?;
-    let mut left = crashed(alloc, calls, random.below(choices(calls)))?;
-    mirrored(rt, alloc, &mut left, mirror)?;
-    let logs = [checkpoint_of(alloc, length)?, checkpoint_of(alloc, next)?];
-    assert_one_of(rt, alloc, left, &logs)
-}
-
-#[test]
-fn random_runs_go_on_behind_each_crash(rt: HostRuntime) -> Result<(), Fail> {
-    let alloc = rt.alloc();
-    let mut random = Random { state: 1 };
-    for _ in 0..RUNS {
-        let mut folder = new_log(alloc)?.into_folder();
-        let mut mirror = MemoryFolder::new(alloc);
-        for _ in 0..3 {
-            folder = crashed_batch(&rt, alloc, &mut random, folder, &mut mirror)?;
-        }
-    }
     Ok(())
 }

@@ -1,0 +1,44 @@
+-- The pages that pruning leaves.
+use Rattle.std.proofs.Common.{◌≡◌, ⊎_elim, ◌⊎◌, ℕ, ◌<◌, Bool, true, false, ◌||◌, List, length, map, None, refl, sym, ap, subst, ◌∙◌, string_bytes}
+use Rattle.std.specs.Prelude.{IsSome}
+use Rattle.std.specs.List.{All, Contains}
+use Rattle.std.specs.declared.alloc.Global.{Global}
+use Rattle.std.specs.declared.string.String.{String}
+use Rattle.warg_store.specs.Files.{Files}
+use Rattle.warg_store.specs.Names.{is_tile, is_page, is_served}
+use Rattle.warg_store.specs.Pruned.{IsPruned, IsWithoutPages}
+use Rattle.warg_registry.specs.Pruning.{bytes_of}
+use Rattle.warg_registry.proofs.Listed.{of_mapped}
+
+or_second : (a b : Bool) → b ≡ true → (a || b) ≡ true
+or_second true b e = refl
+or_second false b e = e
+
+-- a page that was removed is gone
+gone : (new : Files) (names : List (String Global)) (n : List ℕ)
+    → All (λ name. is_page (string_bytes name) ≡ true → new (string_bytes name) ≡ None) names → is_page n ≡ true
+    → Contains (bytes_of names) n → new n ≡ None
+gone new names n removed page there =
+    let found = of_mapped (λ (k : String Global). string_bytes k) names n there in
+    let Gone : String Global → Type 0 = λ k. is_page (string_bytes k) ≡ true → new (string_bytes k) ≡ None in
+    let at = subst Gone found.1.2 (removed found.1.0 found.0 found.1.1) in
+    let Q : List ℕ → Type 0 = λ m. new m ≡ None in
+    subst Q found.2 (at (ap is_page found.2 ∙ page))
+
+-- of a folder in which files are pruned and pages are removed, each page that is left was there, and wasn't to be removed
+pub left : (before mid pruned new : Files) (names : List (String Global)) (kept served : ℕ) (P : List ℕ → Type 0)
+    → mid ≡ before → IsPruned kept served mid pruned → IsWithoutPages (bytes_of names) pruned new
+    → All (λ name. is_page (string_bytes name) ≡ true → new (string_bytes name) ≡ None) names
+    → ((n : List ℕ) → is_page n ≡ true → IsSome (before n) → Contains (bytes_of names) n ⊎ P n)
+    → (n : List ℕ) → is_page n ≡ true → IsSome (new n) → P n
+left before mid pruned new names kept served P same prunes without removed spare n page there =
+    ⊎_elim (λ stays. ⊎_elim (λ unchanged. was_there (stays ∙ unchanged ∙ ap (λ (s : Files). s n) same))
+    (λ away. absurd (none (stays ∙ away.0))) (prunes n (or_second (is_tile n) (is_page n) page)))
+    (λ away. absurd (none away.0)) (without n)
+  where
+    none : new n ≡ None → ⊥
+    none e = let is : true ≡ false = sym (subst IsSome e there) in cc
+
+    was_there : new n ≡ before n → P n
+    was_there e = ⊎_elim (λ named. absurd (none (gone new names n removed page named))) (λ needed. needed)
+        (spare n page (subst IsSome e there))

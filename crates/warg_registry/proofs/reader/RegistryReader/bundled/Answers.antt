@@ -1,0 +1,89 @@
+use Rattle.std.proofs.Common.{◌≡◌, ℕ, ◌<◌, ◌≤◌, ◌^◌, List, length, Some, sym, ap, subst, ◌∙◌, arith}
+use Rattle.std.specs.Prelude.{slice_get}
+use Rattle.warg_crypto.specs.Digests.{sha256}
+use Rattle.warg_store.specs.Reading.{Reads}
+use Rattle.warg_store.specs.Refusals.{IsNoFault}
+use Rattle.warg_store.specs.declared.error.LogError.TheVariants as LogError
+use Rattle.warg_store.proofs.ForCallers.{reads_read}
+use Rattle.warg_registry.specs.Folder.{registry_of}
+use Rattle.warg_registry.specs.Insertions.{entries_of}
+use Rattle.warg_registry.specs.Reading.{RegistryRead, ReadsRegistry, IsOfEntry, IsKeyShown, IsKeyIn}
+use Rattle.warg_registry.proofs.FoundKeys as found
+use Rattle.warg_registry.proofs.HeldEntries.{entry_of_key, held_within}
+use Rattle.warg_registry.proofs.Refused.{ok_then, not_beyond, told_as}
+use Rattle.warg_registry.proofs.reader.RegistryReader.bundled.Goals as goal
+
+pub returns-clause-shown : goal.returns-clause-shown
+returns-clause-shown g c =
+    let key = c.args.key.now in
+    let entry = c.as_slice.result.now in
+    let peers = c.args.peers.items in
+    let root = c.args.self.now.root in
+    ok_then (IsOfEntry key c.args.index c.args.leaf.now entry peers) _ c.held.result
+    (λ at is leads. found.shown key c.args.leaf.now entry c.args.index peers root at leads is) c.held.ensures.of_entry
+
+pub returns-clause-own : goal.returns-clause-own
+returns-clause-own g c = λ faithful.
+    let key = c.args.key.now in
+    let entry = c.as_slice.result.now in
+    let peers = c.args.peers.items in
+    ok_then (IsOfEntry key c.args.index c.args.leaf.now entry peers) _ c.held.result (λ at is origin insertions has held.
+    let reads = subst (λ (r : RegistryRead g.row.F.Denot). Reads g.F.Folder.seen (registry_of origin insertions) r.log)
+    (sym c.self.view_is) has.reads in
+    let there : slice_get (entries_of insertions) c.args.index ≡ Some entry =
+    c.in_ok-entry.ensures.own faithful (registry_of origin insertions) reads
+    ∙ ap (λ (e : List ℕ). Some e) (sym c.as_slice.ensures.value) in
+    let small : length entry < 2 ^ 64 = omega (
+      arith,
+      ap (λ (e : List ℕ). length e) c.as_slice.ensures.value,
+      c.in_ok-entry.entry.small,
+    ) in
+    found.own key c.args.leaf.now entry c.args.index peers insertions at small there held is) c.held.ensures.of_entry
+
+pub returns-clause-whole : goal.returns-clause-whole
+returns-clause-whole g c = λ faithful origin insertions has own held.
+    let key = c.args.key.now in
+    let entry = c.as_slice.result.now in
+    let reads = subst (λ (r : RegistryRead g.row.F.Denot). Reads g.F.Folder.seen (registry_of origin insertions) r.log)
+    (sym c.self.view_is) has.reads in
+    let there : slice_get (entries_of insertions) c.args.index ≡ Some entry =
+    c.in_ok-entry.ensures.own faithful (registry_of origin insertions) reads
+    ∙ ap (λ (e : List ℕ). Some e) (sym c.as_slice.ensures.value) in
+    let small : length entry < 2 ^ 64 = omega (
+      arith,
+      ap (λ (e : List ℕ). length e) c.as_slice.ensures.value,
+      c.in_ok-entry.entry.small,
+    ) in
+    let is = entry_of_key sha256 insertions key entry c.args.leaf.now c.args.index small there held.place held.held own in
+    c.held.ensures.whole is.0 is.1 is.2 is.3
+
+pub returns-in_err-entry-clause-whole : goal.returns-in_err-entry-clause-whole
+returns-in_err-entry-clause-whole g c = λ faithful origin insertions has own held.
+    let reads = subst (λ (r : RegistryRead g.row.F.Denot). Reads g.F.Folder.seen (registry_of origin insertions) r.log)
+    (sym c.self.view_is) has.reads in
+    let within = held_within sha256 insertions c.args.key.now c.args.leaf.now c.args.index held.place held.held in
+    told_as (IsNoFault ⊥) c.in_err-entry.field-0.0 c.from_residual.result c.from_residual.ensures.1
+    (not_beyond (length (entries_of insertions) ≤ c.args.index) c.in_err-entry.field-0.0 (λ past. omega arith)
+    (c.in_err-entry.ensures.whole faithful (registry_of origin insertions) reads))
+
+pub returns-clause-reads : goal.returns-clause-reads
+returns-clause-reads g c = λ faithful origin insertions has.
+    let dev = g.F.Folder in
+    let inside = subst (λ (r : RegistryRead g.row.F.Denot). ReadsRegistry dev.seen origin insertions r)
+    (sym c.self.view_is) has in record {
+      reads = reads_read dev.seen dev.may_leave dev.moment dev.left_since (registry_of origin insertions)
+          c.self.inside.pages.log c.bundle_entry.new.self c.bundle_entry.ensures.same
+          (c.bundle_entry.ensures.read faithful) inside.reads;
+      is_root = inside.is_root;
+    }
+
+pub returns-in_err-entry-clause-reads : goal.returns-in_err-entry-clause-reads
+returns-in_err-entry-clause-reads g c = λ faithful origin insertions has.
+    let dev = g.F.Folder in
+    let inside = subst (λ (r : RegistryRead g.row.F.Denot). ReadsRegistry dev.seen origin insertions r)
+    (sym c.self.view_is) has in record {
+      reads = reads_read dev.seen dev.may_leave dev.moment dev.left_since (registry_of origin insertions)
+          c.self.inside.pages.log c.bundle_entry.new.self c.bundle_entry.ensures.same
+          (c.bundle_entry.ensures.read faithful) inside.reads;
+      is_root = inside.is_root;
+    }
