@@ -106,7 +106,7 @@ waits() {
     warg_tlog append "$1" < in > /dev/null &
     exec 9> in
     cat >&9
-    until ls -d "$1"/.log/staged/tile > /dev/null 2>&1; do sleep .01; done
+    until ls "$1"/.log/staged/tile* > /dev/null 2>&1; do sleep .01; done
 }
 
 # Fetches what a folder serves as a mirror does, which never fetches a name below tile/ or map/ twice: no file is empty, each name
