@@ -12,7 +12,7 @@ use Rattle.warg_pages.specs.Prefixes.{bits_of_bytes}
 use Rattle.warg_pages.specs.Slots.{IsSlot, IsPage}
 use Rattle.warg_pages.specs.Pages.{digest_at, page_digest}
 use Rattle.warg_pages.specs.ChangedPages.{ChangedPageAt}
-use Rattle.warg_pages.specs.Visits.{held_by, IsLoneBelow, AreOfSlots, AreFrom, AreAllPages, IsAnyPage}
+use Rattle.warg_pages.specs.Visits.{held_by, IsLoneBelow, AreOfSlots, AreFromWhere, AreAllPages, IsAnyPage}
 use Rattle.warg_pages.proofs.PremiseLemmas.{empty_zeros, first_ones, first_zeros, empty_digest, lone_key, lone_bits, lone_slot, left_root, lone_here}
 
 -- two lists are not one
@@ -69,5 +69,5 @@ is_page = record {
 }
 
 pub visited : AreAllPages marked IsAnyPage ones 1 one_page
-unfolding AreFrom AreOfSlots
+unfolding AreFromWhere AreOfSlots
 visited = (lone_slot ones ∷ [], [], refl, is_page, tt, page_ones, ([], [], refl, (refl, lone_below), refl))

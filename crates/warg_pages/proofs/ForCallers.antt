@@ -24,7 +24,7 @@ use Rattle.warg_pages.specs.PageBytes.{slot_bytes, lone_bytes, page_bytes}
 use Rattle.warg_pages.specs.PagePaths.{byte_path, page_path}
 use Rattle.warg_pages.specs.OwnPages.{stands, stands_over}
 use Rattle.warg_pages.specs.ChangedPages.{ChangedPageAt, page_at}
-use Rattle.warg_pages.specs.Visits.{AreAllPages, IsAnyPage, IsAllowed, held_by, lone_slots, lone_keys}
+use Rattle.warg_pages.specs.Visits.{AreAllPagesWhere, AreAllPages, IsAnyPage, IsAllowed, held_by, lone_slots, lone_keys}
 use Rattle.warg_pages.specs.Audits.{IsInPages, AreInPages, count_last}
 use Rattle.warg_pages.proofs.PageFormat.{same_parts}
 use Rattle.warg_pages.proofs.KeyPrefixes.{length-bits_from}
@@ -195,18 +195,20 @@ pub any_pages : (H : List ℕ → List ℕ) (IsThere : List ℕ → ℕ → List
     (all : List ChangedPageAt) → AreAllPages H IsThere root version all → AreAllPages H IsAnyPage root version all
 any_pages = visited.any_pages
 
--- A visit of the pages of insertions finds each of them.
-pub own_visit : (H : List ℕ → List ℕ) (bytes_at : List ℕ → ℕ → Option (List ℕ)) (tells_all : Type 0) (root : List ℕ)
+-- A visit of the pages of insertions finds each of them, whatever it shows of lone keys.
+pub own_visit : (H : List ℕ → List ℕ) (IsLone : List ℕ → SlotAt → List ℕ × List ℕ → Type 0)
+    (bytes_at : List ℕ → ℕ → Option (List ℕ)) (tells_all : Type 0) (root : List ℕ)
     (count : ℕ) (insertions : List (List ℕ × List ℕ)) (pages : List ChangedPageAt) (prefix : List ℕ) → GivesHashes H
     → count < 2 ^ 64 → IsOwnSource H bytes_at root count insertions
-    → AreAllPages H (IsAllowed bytes_at tells_all) root count pages → All IsByte prefix → length prefix < 32
+    → AreAllPagesWhere H IsLone (IsAllowed bytes_at tells_all) root count pages → All IsByte prefix → length prefix < 32
     → stands H insertions (bits_of_bytes prefix) ≡ true → Contains pages (page_at H insertions prefix)
 own_visit = visits.own_visit
 
 -- And no others: at the prefix of each that it finds a page of the insertions stands, and it is of that version.
-pub visit_own : (H : List ℕ → List ℕ) (bytes_at : List ℕ → ℕ → Option (List ℕ)) (tells_all : Type 0) (root : List ℕ)
+pub visit_own : (H : List ℕ → List ℕ) (IsLone : List ℕ → SlotAt → List ℕ × List ℕ → Type 0)
+    (bytes_at : List ℕ → ℕ → Option (List ℕ)) (tells_all : Type 0) (root : List ℕ)
     (count : ℕ) (insertions : List (List ℕ × List ℕ)) (pages : List ChangedPageAt) → GivesHashes H → count < 2 ^ 64
-    → IsOwnSource H bytes_at root count insertions → AreAllPages H (IsAllowed bytes_at tells_all) root count pages
+    → IsOwnSource H bytes_at root count insertions → AreAllPagesWhere H IsLone (IsAllowed bytes_at tells_all) root count pages
     → (p : ChangedPageAt) → Contains pages p → (stands H insertions (bits_of_bytes p.prefix) ≡ true)
     × (p.version ≡ version H insertions (bits_of_bytes p.prefix))
 visit_own = visits.visit_own

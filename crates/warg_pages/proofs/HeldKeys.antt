@@ -12,7 +12,7 @@ use Rattle.warg_pages.specs.PageBytes.{page_bytes}
 use Rattle.warg_pages.specs.Slots.{SlotAt, IsSlot, IsPage, Ascends}
 use Rattle.warg_pages.specs.Pages.{slot_at}
 use Rattle.warg_pages.specs.ChangedPages.{ChangedPageAt}
-use Rattle.warg_pages.specs.Visits.{AreOfSlot, AreOfSlots, AreFrom, IsAllowed, lone_slots}
+use Rattle.warg_pages.specs.Visits.{IsLoneBelow, AreOfSlot, AreOfSlots, AreFromWhere, AreFrom, IsAllowed, lone_slots}
 use Rattle.warg_pages.specs.Audits.{IsHeldIn}
 use Rattle.warg_pages.proofs.Members.{among, first_among, later_among, only_one}
 use Rattle.warg_pages.proofs.PageFormat.{one_page}
@@ -67,11 +67,11 @@ record IsPart (H : List ℕ → List ℕ) (AreFrom : List ℕ → ℕ → List �
     (slots : List SlotAt) (pages : List ChangedPageAt) (x : SlotAt) : Type 0 where
   pub first : List ChangedPageAt
   pub is_slot : Contains slots x
-  pub are_of : AreOfSlot H AreFrom prefix x x.lone first
+  pub are_of : AreOfSlot (IsLoneBelow H) AreFrom prefix x x.lone first
   pub among : (y : SlotAt) → Contains (lone_slots first) y → Contains (lone_slots pages) y
 
 part_of : (H : List ℕ → List ℕ) (AreFrom : List ℕ → ℕ → List ℕ → List ChangedPageAt → Type 0) (prefix : List ℕ)
-    (slots : List SlotAt) (pages : List ChangedPageAt) → AreOfSlots H AreFrom prefix slots pages → (x : SlotAt)
+    (slots : List SlotAt) (pages : List ChangedPageAt) → AreOfSlots (IsLoneBelow H) AreFrom prefix slots pages → (x : SlotAt)
     → Contains slots x → IsPart H AreFrom prefix slots pages x
 unfolding AreOfSlots
 part_of H AreFrom prefix [] pages h x c = absurd (let lt = c.1 in omega arith)
@@ -97,7 +97,7 @@ record IsOwned (H : List ℕ → List ℕ) (AreFrom : List ℕ → ℕ → List 
   pub owner : SlotAt
   pub first : List ChangedPageAt
   pub is_slot : Contains slots owner
-  pub are_of : AreOfSlot H AreFrom prefix owner owner.lone first
+  pub are_of : AreOfSlot (IsLoneBelow H) AreFrom prefix owner owner.lone first
   pub within : Contains (owner ∷ lone_slots first) y
 
 later_owned : (H : List ℕ → List ℕ) (AreFrom : List ℕ → ℕ → List ℕ → List ChangedPageAt → Type 0) (prefix : List ℕ)
@@ -112,7 +112,7 @@ later_owned H AreFrom prefix x slots y owned = record {
 }
 
 owner_of : (H : List ℕ → List ℕ) (AreFrom : List ℕ → ℕ → List ℕ → List ChangedPageAt → Type 0) (prefix : List ℕ)
-    (slots : List SlotAt) (pages : List ChangedPageAt) → AreOfSlots H AreFrom prefix slots pages → (y : SlotAt)
+    (slots : List SlotAt) (pages : List ChangedPageAt) → AreOfSlots (IsLoneBelow H) AreFrom prefix slots pages → (y : SlotAt)
     → Contains (slots ++ lone_slots pages) y → IsOwned H AreFrom prefix slots y
 unfolding AreOfSlots
 owner_of H AreFrom prefix [] pages h y c = absurd (let none : Contains (lone_slots []) y = rw h at c in
@@ -146,7 +146,7 @@ record IsOnWay (H : List ℕ → List ℕ) (IsThere : List ℕ → ℕ → List 
   pub owner : SlotAt
   pub first : List ChangedPageAt
   pub found : slot_at page s ≡ Some owner
-  pub are_of : AreOfSlot H (AreFrom H IsThere n) prefix owner owner.lone first
+  pub are_of : AreOfSlot (IsLoneBelow H) (AreFrom H IsThere n) prefix owner owner.lone first
   pub within : Contains (owner ∷ lone_slots first) y
 
 on_way : (H : List ℕ → List ℕ) (IsThere : List ℕ → ℕ → List SlotAt
@@ -155,7 +155,7 @@ on_way : (H : List ℕ → List ℕ) (IsThere : List ℕ → ℕ → List SlotAt
     → take (length prefix + 1) key ≡ prefix ++ s ∷ [] → IsThePage IsThere prefix version page
     → AreFrom H IsThere (suc n) prefix version digest all → (y : SlotAt) (leaf : List ℕ) → Contains (lone_slots all) y
     → y.lone ≡ Some (key, leaf) → IsOnWay H IsThere n prefix s page y
-unfolding AreFrom
+unfolding AreFromWhere
 on_way H IsThere n prefix key s version digest all page size begins the h y leaf c is =
     let visited : IsPage h.0 = h.3 in
     let owned = owner_of H (AreFrom H IsThere n) prefix h.0 h.1 h.6 y (in_page h.0 (lone_slots h.1) y (rw h.2 at c)) in
@@ -178,14 +178,14 @@ on_way H IsThere n prefix key s version digest all page size begins the h y leaf
 -- what is below the same slot
 same_slot : (H : List ℕ → List ℕ) (AreFrom : List ℕ → ℕ → List ℕ → List ChangedPageAt → Type 0) (prefix : List ℕ)
     (owner x : SlotAt) (o : Option (List ℕ × List ℕ)) (first : List ChangedPageAt) → owner ≡ x → x.lone ≡ o
-    → AreOfSlot H AreFrom prefix owner owner.lone first → AreOfSlot H AreFrom prefix x o first
+    → AreOfSlot (IsLoneBelow H) AreFrom prefix owner owner.lone first → AreOfSlot (IsLoneBelow H) AreFrom prefix x o first
 same_slot H AreFrom prefix owner x o first same lone are =
-    let P : SlotAt → Type 0 = λ z. AreOfSlot H AreFrom prefix z z.lone first in
-    let Q : Option (List ℕ × List ℕ) → Type 0 = λ l. AreOfSlot H AreFrom prefix x l first in
+    let P : SlotAt → Type 0 = λ z. AreOfSlot (IsLoneBelow H) AreFrom prefix z z.lone first in
+    let Q : Option (List ℕ × List ℕ) → Type 0 = λ l. AreOfSlot (IsLoneBelow H) AreFrom prefix x l first in
     subst Q lone (subst P same are)
 
 at_byte : (H : List ℕ → List ℕ) (AreFrom : List ℕ → ℕ → List ℕ → List ChangedPageAt → Type 0) (prefix : List ℕ)
-    (x : SlotAt) (s : ℕ) (first : List ChangedPageAt) → x.byte ≡ s → AreOfSlot H AreFrom prefix x None first
+    (x : SlotAt) (s : ℕ) (first : List ChangedPageAt) → x.byte ≡ s → AreOfSlot (IsLoneBelow H) AreFrom prefix x None first
     → AreFrom (prefix ++ s ∷ []) x.version x.digest first
 at_byte H AreFrom prefix x s first byte are =
     let P : ℕ → Type 0 = λ b. AreFrom (prefix ++ b ∷ []) x.version x.digest first in
@@ -225,7 +225,7 @@ this_held : (H : List ℕ → List ℕ) (IsThere : List ℕ → ℕ → List Slo
     (s version : ℕ) (digest : List ℕ) (all : List ChangedPageAt) (page : List SlotAt) (x : SlotAt) (l : List ℕ × List ℕ)
     → IsThePage IsThere prefix version page → slot_at page s ≡ Some x → x.lone ≡ Some l → l.0 ≡ key
     → AreFrom H IsThere (suc n) prefix version digest all → IsHeldIn all key (Some (x.version, l.1))
-unfolding AreFrom
+unfolding AreFromWhere
 this_held H IsThere n prefix key s version digest all page x l the found lone same h = record {
   slot = x;
   there = rw h.2 (Contains-append_left (filter (λ x. is_some x.lone) h.0) (lone_slots h.1) x (kept_in h.0 x
@@ -245,7 +245,7 @@ next_from : (H : List ℕ → List ℕ) (IsThere : List ℕ → ℕ → List Slo
     (s version : ℕ) (digest : List ℕ) (all : List ChangedPageAt) (page : List SlotAt) (x : SlotAt)
     → IsThePage IsThere prefix version page → slot_at page s ≡ Some x → x.lone ≡ None
     → AreFrom H IsThere (suc n) prefix version digest all → IsBelow H IsThere n prefix s x all
-unfolding AreFrom
+unfolding AreFromWhere
 next_from H IsThere n prefix s version digest all page x the found lone h =
     let there = slot_there h.0 s x (ap (λ p. slot_at p s) (the h.0 h.3 h.4) ∙ found) in
     let part = part_of H (AreFrom H IsThere n) prefix h.0 h.1 h.6 x there.0 in
@@ -303,7 +303,7 @@ next_held H IsThere n prefix key s version digest all page x (Some v) size begin
 pub no_page : (H : List ℕ → List ℕ) (IsThere : List ℕ → ℕ → List SlotAt → Type 0) (depth : ℕ) (prefix : List ℕ)
     (version : ℕ) (digest : List ℕ) (all : List ChangedPageAt) → depth ≡ 32
     → AreFrom H IsThere (32 - depth) prefix version digest all → ⊥
-unfolding AreFrom
+unfolding AreFromWhere
 no_page H IsThere depth prefix version digest all e h =
     let none : 32 - depth ≡ 0 = omega arith in
     rw none at h
@@ -346,7 +346,7 @@ pub page_there : (H : List ℕ → List ℕ) (bytes_at : List ℕ → ℕ → Op
     (depth version : ℕ) (digest : List ℕ) (all : List ChangedPageAt) → depth < 32
     → ((slots : List SlotAt) → IsPage slots → bytes_at (take depth key) version ≢ Some (page_bytes slots)) → tells_all
     → IsFrom H bytes_at tells_all key depth version digest all → ⊥
-unfolding AreFrom
+unfolding AreFromWhere
 page_there H bytes_at tells_all key depth version digest all lt none tells h =
     let levels : 32 - depth ≡ suc (31 - depth) = omega arith in
     let from = rw levels at h in

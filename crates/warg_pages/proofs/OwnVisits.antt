@@ -17,7 +17,7 @@ use Rattle.warg_pages.specs.Pages.{slot_at}
 use Rattle.warg_pages.specs.ChangedPages.{ChangedPageAt, page_at}
 use Rattle.warg_pages.specs.OwnPages.{stands, stands_over}
 use Rattle.warg_pages.specs.ProvedKeys.{IsOwnSource}
-use Rattle.warg_pages.specs.Visits.{AreOfSlot, AreOfSlots, AreFrom, AreAllPages, IsAllowed}
+use Rattle.warg_pages.specs.Visits.{AreOfSlot, AreOfSlots, AreFromWhere, AreAllPagesWhere, IsAllowed}
 use Rattle.warg_pages.specs.Private.Visited.{IsOwnFrom, IsOwnSlot}
 use Rattle.warg_pages.proofs.KeyPrefixes.{length-bits_from}
 use Rattle.warg_pages.proofs.LoneSlots.{some_same}
@@ -29,27 +29,27 @@ use Rattle.warg_pages.proofs.SlotsAfter.{no_page_lone}
 use Rattle.warg_pages.proofs.VisitedPages.{own_root, own_page, own_slot, own_below}
 
 -- pages of a slot among those of all
-record AreAmong (H : List ℕ → List ℕ) (From : List ℕ → ℕ → List ℕ → List ChangedPageAt → Type 0) (prefix : List ℕ)
+record AreAmong (IsLone : List ℕ → SlotAt → List ℕ × List ℕ → Type 0) (From : List ℕ → ℕ → List ℕ → List ChangedPageAt → Type 0) (prefix : List ℕ)
     (x : SlotAt) (pages : List ChangedPageAt) : Type 0 where
   before : List ChangedPageAt
   these : List ChangedPageAt
   after : List ChangedPageAt
   parts : pages ≡ before ++ (these ++ after)
-  of_slot : AreOfSlot H From prefix x x.lone these
+  of_slot : AreOfSlot IsLone From prefix x x.lone these
 
 -- the pages below the slot of a byte are among those below slots
-of_byte : (H : List ℕ → List ℕ) (From : List ℕ → ℕ → List ℕ → List ChangedPageAt → Type 0) (prefix : List ℕ) (s : ℕ)
+of_byte : (IsLone : List ℕ → SlotAt → List ℕ × List ℕ → Type 0) (From : List ℕ → ℕ → List ℕ → List ChangedPageAt → Type 0) (prefix : List ℕ) (s : ℕ)
     (x : SlotAt) (slots : List SlotAt) (pages : List ChangedPageAt) → slot_at slots s ≡ Some x
-    → AreOfSlots H From prefix slots pages → AreAmong H From prefix x pages
+    → AreOfSlots IsLone From prefix slots pages → AreAmong IsLone From prefix x pages
 unfolding AreOfSlots
-of_byte H From prefix s x [] pages e all = absurd (cc)
-of_byte H From prefix s x (y ∷ ys) pages e all = by_test (eqb y.byte s) refl (λ h. of_byte H From prefix s x ys all.1 h all.4)
+of_byte IsLone From prefix s x [] pages e all = absurd (cc)
+of_byte IsLone From prefix s x (y ∷ ys) pages e all = by_test (eqb y.byte s) refl (λ h. of_byte IsLone From prefix s x ys all.1 h all.4)
   where
-    by_test : (b : Bool) → eqb y.byte s ≡ b → (slot_at ys s ≡ Some x → AreAmong H From prefix x all.1)
-        → AreAmong H From prefix x pages
+    by_test : (b : Bool) → eqb y.byte s ≡ b → (slot_at ys s ≡ Some x → AreAmong IsLone From prefix x all.1)
+        → AreAmong IsLone From prefix x pages
     by_test true t rest =
         let same : y ≡ x = some_same (rw t at e) in
-        let P : SlotAt → Type 0 = λ z. AreOfSlot H From prefix z z.lone all.0 in
+        let P : SlotAt → Type 0 = λ z. AreOfSlot IsLone From prefix z z.lone all.0 in
         record { before = []; these = all.0; after = all.1; parts = all.2; of_slot = subst P same all.3 }
     by_test false t rest =
         let found = rest (rw t at e) in record {
@@ -113,14 +113,15 @@ slot_above H es prefix s rest there = by_last (last_with (is_below H p) es) refl
     by_last (Some e) l = by_lone e l (is_lone H es p e) refl
 
 -- each page is among those of a visit from a prefix on
-own_among : (H : List ℕ → List ℕ) → GivesHashes H → (bytes_at : List ℕ → ℕ → Option (List ℕ)) (tells_all : Type 0)
+own_among : (H : List ℕ → List ℕ) → GivesHashes H → (IsLone : List ℕ → SlotAt → List ℕ × List ℕ → Type 0)
+    → (bytes_at : List ℕ → ℕ → Option (List ℕ)) (tells_all : Type 0)
     (es : List (List ℕ × List ℕ)) (n : ℕ) (prefix digest : List ℕ) (number : ℕ) (pages : List ChangedPageAt)
-    (rest : List ℕ) → AreFrom H (IsAllowed bytes_at tells_all) n prefix number digest pages
+    (rest : List ℕ) → AreFromWhere H IsLone (IsAllowed bytes_at tells_all) n prefix number digest pages
     → IsOwnFrom H bytes_at prefix number digest es → All IsByte (prefix ++ rest) → length (prefix ++ rest) < 32
     → stands H es (bits_of_bytes (prefix ++ rest)) ≡ true → Contains pages (page_at H es (prefix ++ rest))
-unfolding AreFrom
-own_among H gives f T es zero prefix digest number pages rest from own are_bytes short there = absurd from
-own_among H gives f T es (suc n) prefix digest number pages [] from own are_bytes short there =
+unfolding AreFromWhere
+own_among H gives IsLone f T es zero prefix digest number pages rest from own are_bytes short there = absurd from
+own_among H gives IsLone f T es (suc n) prefix digest number pages [] from own are_bytes short there =
     let lt : length prefix < 32 = (let k = length-append prefix [] in omega arith) in
     let page = own_page H gives f prefix digest number from.0 es lt from.3 from.4.allowed own in
     let first : ChangedPageAt = record { prefix = prefix; version = number; page = from.0 } in
@@ -128,8 +129,8 @@ own_among H gives f T es (suc n) prefix digest number pages [] from own are_byte
     let P : List ChangedPageAt → Type 0 = λ ps. Contains ps (page_at H es prefix) in
     let Q : List ℕ → Type 0 = λ q. Contains pages (page_at H es q) in
     subst Q (sym (append-nil prefix)) (subst P (sym from.2) (0, omega arith, same))
-own_among H gives f T es (suc n) prefix digest number pages (s ∷ rest) from own are_bytes short there =
-    let From : List ℕ → ℕ → List ℕ → List ChangedPageAt → Type 0 = AreFrom H (IsAllowed f T) n in
+own_among H gives IsLone f T es (suc n) prefix digest number pages (s ∷ rest) from own are_bytes short there =
+    let From : List ℕ → ℕ → List ℕ → List ChangedPageAt → Type 0 = AreFromWhere H IsLone (IsAllowed f T) n in
     let lt : length prefix < 32 = (let k = length-append prefix (s ∷ rest) in omega arith) in
     let page = own_page H gives f prefix digest number from.0 es lt from.3 from.4.allowed own in
     let byte : s < 256 = subst IsByte (get_or-append_seam prefix s rest 0)
@@ -138,8 +139,8 @@ own_among H gives f T es (suc n) prefix digest number pages (s ∷ rest) from ow
     let x = above.slot in
     let at : slot_at from.0 s ≡ Some x = ap (λ xs. slot_at xs s) page ∙ own_slot_at H es (bits_of_bytes prefix) s byte
     ∙ above.is_slot in
-    let found = of_byte H From prefix s x from.0 from.1 at from.6 in
-    let P : Option (List ℕ × List ℕ) → Type 0 = λ o. AreOfSlot H From prefix x o found.these in
+    let found = of_byte IsLone From prefix s x from.0 from.1 at from.6 in
+    let P : Option (List ℕ × List ℕ) → Type 0 = λ o. AreOfSlot IsLone From prefix x o found.these in
     let below_slot = subst P above.no_lone found.of_slot in
     let own_slot : IsOwnSlot H f prefix x es = record {
       pages = own.pages;
@@ -152,7 +153,7 @@ own_among H gives f T es (suc n) prefix digest number pages (s ∷ rest) from ow
     let whole : longer ++ rest ≡ prefix ++ s ∷ rest = append_assoc prefix (x.byte ∷ []) rest
     ∙ ap (λ b. prefix ++ b ∷ rest) above.is_byte in
     let Bytes : List ℕ → Type 0 = λ q. All IsByte q in
-    let there_below = own_among H gives f T es n longer x.digest x.version found.these rest below_slot
+    let there_below = own_among H gives IsLone f T es n longer x.digest x.version found.these rest below_slot
     (own_below H f prefix longer x es refl above.no_lone own_slot) (subst Bytes (sym whole) are_bytes)
     (let k = ap length whole in omega arith) (ap (λ q. stands H es (bits_of_bytes q)) whole ∙ there) in
     let target : ChangedPageAt = page_at H es (prefix ++ s ∷ rest) in
@@ -164,20 +165,21 @@ own_among H gives f T es (suc n) prefix digest number pages (s ∷ rest) from ow
     (Contains-append_right found.before (found.these ++ found.after) target
     (Contains-append_left found.these found.after target (subst Q whole there_below))))
 
-pub own_visit : (H : List ℕ → List ℕ) (bytes_at : List ℕ → ℕ → Option (List ℕ)) (tells_all : Type 0) (root : List ℕ)
+pub own_visit : (H : List ℕ → List ℕ) (IsLone : List ℕ → SlotAt → List ℕ × List ℕ → Type 0)
+    (bytes_at : List ℕ → ℕ → Option (List ℕ)) (tells_all : Type 0) (root : List ℕ)
     (count : ℕ) (es : List (List ℕ × List ℕ)) (pages : List ChangedPageAt) (prefix : List ℕ) → GivesHashes H
     → count < 2 ^ 64 → IsOwnSource H bytes_at root count es
-    → AreAllPages H (IsAllowed bytes_at tells_all) root count pages → All IsByte prefix → length prefix < 32
+    → AreAllPagesWhere H IsLone (IsAllowed bytes_at tells_all) root count pages → All IsByte prefix → length prefix < 32
     → stands H es (bits_of_bytes prefix) ≡ true → Contains pages (page_at H es prefix)
 unfolding last_with
-own_visit H f T root zero es pages prefix gives fits own all are_bytes short there = none es own.all there
+own_visit H IsLone f T root zero es pages prefix gives fits own all are_bytes short there = none es own.all there
   where
     none : (es : List (List ℕ × List ℕ)) → length es ≡ 0 → stands H es (bits_of_bytes prefix) ≡ true
         → Contains pages (page_at H es prefix)
     none [] e is = absurd (let no : true ≡ false = sym is in cc)
     none (x ∷ es) e is = absurd (omega arith)
-own_visit H f T root (suc n) es pages prefix gives fits own all are_bytes short there =
-    own_among H gives f T es 32 [] root (suc n) pages prefix all (own_root H f root (suc n) es fits (λ z. omega arith) own)
+own_visit H IsLone f T root (suc n) es pages prefix gives fits own all are_bytes short there =
+    own_among H gives IsLone f T es 32 [] root (suc n) pages prefix all (own_root H f root (suc n) es fits (λ z. omega arith) own)
     are_bytes short there
 
 -- a page is one of those of insertions
@@ -185,44 +187,45 @@ abbrev pub IsOwnAt : (List ℕ → List ℕ) → List (List ℕ × List ℕ) →
 IsOwnAt H es p = (stands H es (bits_of_bytes p.prefix) ≡ true) × (p.version ≡ version H es (bits_of_bytes p.prefix))
 
 -- what holds of the pages below each slot holds of those below all
-of_slots : (H : List ℕ → List ℕ) (From : List ℕ → ℕ → List ℕ → List ChangedPageAt → Type 0) (prefix : List ℕ)
+of_slots : (IsLone : List ℕ → SlotAt → List ℕ × List ℕ → Type 0) (From : List ℕ → ℕ → List ℕ → List ChangedPageAt → Type 0) (prefix : List ℕ)
     (P : ChangedPageAt → Type 0) (slots : List SlotAt) (pages : List ChangedPageAt)
-    → ((x : SlotAt) (these : List ChangedPageAt) → Contains slots x → AreOfSlot H From prefix x x.lone these
+    → ((x : SlotAt) (these : List ChangedPageAt) → Contains slots x → AreOfSlot IsLone From prefix x x.lone these
     → (p : ChangedPageAt) → Contains these p → P p)
-    → AreOfSlots H From prefix slots pages → (p : ChangedPageAt) → Contains pages p → P p
+    → AreOfSlots IsLone From prefix slots pages → (p : ChangedPageAt) → Contains pages p → P p
 unfolding AreOfSlots
-of_slots H From prefix P [] pages each all p there =
+of_slots IsLone From prefix P [] pages each all p there =
     let Q : List ChangedPageAt → Type 0 = λ ps. Contains ps p in
     let lt = (subst Q all there).1 in absurd (omega arith)
-of_slots H From prefix P (x ∷ xs) pages each all p there =
+of_slots IsLone From prefix P (x ∷ xs) pages each all p there =
     let Q : List ChangedPageAt → Type 0 = λ ps. Contains ps p in
     ⊎_elim (λ first. each x all.0 (first_among x xs) all.3 p first)
-    (λ rest. of_slots H From prefix P xs all.1 (λ y these in_rest. each y these (later_among x xs y in_rest)) all.4 p rest)
+    (λ rest. of_slots IsLone From prefix P xs all.1 (λ y these in_rest. each y these (later_among x xs y in_rest)) all.4 p rest)
     (Contains-append_cases all.0 all.1 p (subst Q all.2 there))
 
 -- each page of a visit from a prefix on is one of the insertions'
-own_from : (H : List ℕ → List ℕ) → GivesHashes H → (bytes_at : List ℕ → ℕ → Option (List ℕ)) (tells_all : Type 0)
+own_from : (H : List ℕ → List ℕ) → GivesHashes H → (IsLone : List ℕ → SlotAt → List ℕ × List ℕ → Type 0)
+    → (bytes_at : List ℕ → ℕ → Option (List ℕ)) (tells_all : Type 0)
     (es : List (List ℕ × List ℕ)) (n : ℕ) (prefix digest : List ℕ) (number : ℕ) (pages : List ChangedPageAt)
-    → length prefix + n ≡ 32 → AreFrom H (IsAllowed bytes_at tells_all) n prefix number digest pages
+    → length prefix + n ≡ 32 → AreFromWhere H IsLone (IsAllowed bytes_at tells_all) n prefix number digest pages
     → IsOwnFrom H bytes_at prefix number digest es → (p : ChangedPageAt) → Contains pages p → IsOwnAt H es p
-unfolding AreFrom
-own_from H gives f T es zero prefix digest number pages depth from own p there = absurd from
-own_from H gives f T es (suc n) prefix digest number pages depth from own p there =
+unfolding AreFromWhere
+own_from H gives IsLone f T es zero prefix digest number pages depth from own p there = absurd from
+own_from H gives IsLone f T es (suc n) prefix digest number pages depth from own p there =
     let Q : List ChangedPageAt → Type 0 = λ ps. Contains ps p in
     let first : ChangedPageAt = record { prefix = prefix; version = number; page = from.0 } in
     ⊎_elim (λ same. subst (IsOwnAt H es) same (own.is_there, own.is_version))
-    (λ more. of_slots H From prefix (IsOwnAt H es) from.0 from.1
-    (λ x these in_page of_slot. by_lone x these in_page (own_from H gives f T es n) x.lone refl of_slot) from.6 p more)
+    (λ more. of_slots IsLone From prefix (IsOwnAt H es) from.0 from.1
+    (λ x these in_page of_slot. by_lone x these in_page (own_from H gives IsLone f T es n) x.lone refl of_slot) from.6 p more)
     (among first from.1 p (subst Q from.2 there))
   where
     From : List ℕ → ℕ → List ℕ → List ChangedPageAt → Type 0
-    From = AreFrom H (IsAllowed f T) n
+    From = AreFromWhere H IsLone (IsAllowed f T) n
 
     by_lone : (x : SlotAt) (these : List ChangedPageAt) → Contains from.0 x
         → ((longer lower : List ℕ) (later : ℕ) (ps : List ChangedPageAt) → length longer + n ≡ 32
         → From longer later lower ps → IsOwnFrom H f longer later lower es → (q : ChangedPageAt) → Contains ps q
         → IsOwnAt H es q)
-        → (lone : Option (List ℕ × List ℕ)) → x.lone ≡ lone → AreOfSlot H From prefix x lone these
+        → (lone : Option (List ℕ × List ℕ)) → x.lone ≡ lone → AreOfSlot IsLone From prefix x lone these
         → (q : ChangedPageAt) → Contains these q → IsOwnAt H es q
     by_lone x these in_page rest (Some lone) is of_slot q in_these =
         let R : List ChangedPageAt → Type 0 = λ ps. Contains ps q in
@@ -236,12 +239,13 @@ own_from H gives f T es (suc n) prefix digest number pages depth from own p ther
         (let k = length-append prefix (x.byte ∷ []) in omega (arith, depth)) of_slot
         (own_below H f prefix longer x es refl is at) q in_these
 
-pub visit_own : (H : List ℕ → List ℕ) (bytes_at : List ℕ → ℕ → Option (List ℕ)) (tells_all : Type 0) (root : List ℕ)
+pub visit_own : (H : List ℕ → List ℕ) (IsLone : List ℕ → SlotAt → List ℕ × List ℕ → Type 0)
+    (bytes_at : List ℕ → ℕ → Option (List ℕ)) (tells_all : Type 0) (root : List ℕ)
     (count : ℕ) (es : List (List ℕ × List ℕ)) (pages : List ChangedPageAt) → GivesHashes H → count < 2 ^ 64
-    → IsOwnSource H bytes_at root count es → AreAllPages H (IsAllowed bytes_at tells_all) root count pages
+    → IsOwnSource H bytes_at root count es → AreAllPagesWhere H IsLone (IsAllowed bytes_at tells_all) root count pages
     → (p : ChangedPageAt) → Contains pages p → IsOwnAt H es p
-visit_own H f T root zero es pages gives fits own all p there =
+visit_own H IsLone f T root zero es pages gives fits own all p there =
     let Q : List ChangedPageAt → Type 0 = λ ps. Contains ps p in
     let lt = (subst Q all.0 there).1 in absurd (omega arith)
-visit_own H f T root (suc n) es pages gives fits own all p there =
-    own_from H gives f T es 32 [] root (suc n) pages refl all (own_root H f root (suc n) es fits (λ z. omega arith) own) p there
+visit_own H IsLone f T root (suc n) es pages gives fits own all p there =
+    own_from H gives IsLone f T es 32 [] root (suc n) pages refl all (own_root H f root (suc n) es fits (λ z. omega arith) own) p there

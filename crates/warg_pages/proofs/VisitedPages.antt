@@ -19,7 +19,7 @@ use Rattle.warg_pages.specs.PageBytes.{page_bytes}
 use Rattle.warg_pages.specs.ChangedPages.{ChangedPageAt}
 use Rattle.warg_pages.specs.OwnPages.{stands}
 use Rattle.warg_pages.specs.ProvedKeys.{IsOwnSource}
-use Rattle.warg_pages.specs.Visits.{held_by, IsLoneBelow, AreOfSlot, AreOfSlots, AreFrom, AreAllPages}
+use Rattle.warg_pages.specs.Visits.{held_by, IsLoneBelow, AreOfSlot, AreOfSlots, AreFromWhere, AreAllPagesWhere}
 use Rattle.warg_pages.specs.Private.Visited.{IsOwnFrom, IsOwnSlot}
 use Rattle.warg_pages.proofs.BitParts.{key_at}
 use Rattle.warg_pages.proofs.FinalPeers.{own_at_root}
@@ -34,46 +34,49 @@ use Rattle.warg_pages.proofs.PagesBelow.{page_at_bytes}
 use Rattle.warg_pages.proofs.PrefixBytes.{length-bits, bits-more, same_bytes}
 
 -- slot after slot
-pub slots_more : (H : List ℕ → List ℕ) (From : List ℕ → ℕ → List ℕ → List ChangedPageAt → Type 0) (prefix : List ℕ)
+pub slots_more : (IsLone : List ℕ → SlotAt → List ℕ × List ℕ → Type 0) (From : List ℕ → ℕ → List ℕ → List ChangedPageAt → Type 0) (prefix : List ℕ)
     (items : List SlotAt) (x : SlotAt) (rest : List SlotAt) (these more : List ChangedPageAt) → items ≡ x ∷ rest
-    → AreOfSlot H From prefix x x.lone these → AreOfSlots H From prefix rest more
-    → AreOfSlots H From prefix items (these ++ more)
+    → AreOfSlot IsLone From prefix x x.lone these → AreOfSlots IsLone From prefix rest more
+    → AreOfSlots IsLone From prefix items (these ++ more)
 unfolding AreOfSlots
-slots_more H From prefix items x rest these more e first others =
-    let P : List SlotAt → Type 0 = λ xs. AreOfSlots H From prefix xs (these ++ more) in
+slots_more IsLone From prefix items x rest these more e first others =
+    let P : List SlotAt → Type 0 = λ xs. AreOfSlots IsLone From prefix xs (these ++ more) in
     subst P (sym e) (these, more, refl, first, others)
 
-pub no_slots : (H : List ℕ → List ℕ) (From : List ℕ → ℕ → List ℕ → List ChangedPageAt → Type 0) (prefix : List ℕ)
-    (items : List SlotAt) → items ≡ [] → AreOfSlots H From prefix items []
+pub no_slots : (IsLone : List ℕ → SlotAt → List ℕ × List ℕ → Type 0) (From : List ℕ → ℕ → List ℕ → List ChangedPageAt → Type 0) (prefix : List ℕ)
+    (items : List SlotAt) → items ≡ [] → AreOfSlots IsLone From prefix items []
 unfolding AreOfSlots
-no_slots H From prefix items e =
-    let P : List SlotAt → Type 0 = λ xs. AreOfSlots H From prefix xs [] in subst P (sym e) refl
+no_slots IsLone From prefix items e =
+    let P : List SlotAt → Type 0 = λ xs. AreOfSlots IsLone From prefix xs [] in subst P (sym e) refl
 
 -- a page and those below it
-pub page_from : (H : List ℕ → List ℕ) (IsThere : List ℕ → ℕ → List SlotAt → Type 0) (prefix digest : List ℕ)
+pub page_from : (H : List ℕ → List ℕ) (IsLone : List ℕ → SlotAt → List ℕ × List ℕ → Type 0)
+    (IsThere : List ℕ → ℕ → List SlotAt → Type 0) (prefix digest : List ℕ)
     (version : ℕ) (slots : List SlotAt) (more : List ChangedPageAt) → length prefix < 32 → IsPage slots
     → IsThere prefix version slots → page_digest H (length prefix) slots ≡ digest
-    → AreOfSlots H (AreFrom H IsThere (31 - length prefix)) prefix slots more
-    → AreFrom H IsThere (32 - length prefix) prefix version digest
+    → AreOfSlots IsLone (AreFromWhere H IsLone IsThere (31 - length prefix)) prefix slots more
+    → AreFromWhere H IsLone IsThere (32 - length prefix) prefix version digest
     (record { prefix = prefix; version = version; page = slots } ∷ more)
-unfolding AreFrom
-page_from H IsThere prefix digest version slots more lt is there same others =
+unfolding AreFromWhere
+page_from H IsLone IsThere prefix digest version slots more lt is there same others =
     let n : suc (31 - length prefix) ≡ 32 - length prefix = omega arith in
     let all : List ChangedPageAt = record { prefix = prefix; version = version; page = slots } ∷ more in
-    let P : ℕ → Type 0 = λ k. AreFrom H IsThere k prefix version digest all in
+    let P : ℕ → Type 0 = λ k. AreFromWhere H IsLone IsThere k prefix version digest all in
     subst P n (slots, more, refl, is, there, same, others)
 
 -- all pages of a root
-pub all_from : (H : List ℕ → List ℕ) (IsThere : List ℕ → ℕ → List SlotAt → Type 0) (root : List ℕ) (version : ℕ)
-    (pages : List ChangedPageAt) → ¬ (version ≡ 0) → AreFrom H IsThere 32 [] version root pages
-    → AreAllPages H IsThere root version pages
-all_from H IsThere root zero pages some from = absurd (some refl)
-all_from H IsThere root (suc n) pages some from = from
+pub all_from : (H : List ℕ → List ℕ) (IsLone : List ℕ → SlotAt → List ℕ × List ℕ → Type 0)
+    (IsThere : List ℕ → ℕ → List SlotAt → Type 0) (root : List ℕ) (version : ℕ)
+    (pages : List ChangedPageAt) → ¬ (version ≡ 0) → AreFromWhere H IsLone IsThere 32 [] version root pages
+    → AreAllPagesWhere H IsLone IsThere root version pages
+all_from H IsLone IsThere root zero pages some from = absurd (some refl)
+all_from H IsLone IsThere root (suc n) pages some from = from
 
-pub all_of_none : (H : List ℕ → List ℕ) (IsThere : List ℕ → ℕ → List SlotAt → Type 0) (root : List ℕ) (version : ℕ)
-    → version ≡ 0 → root ≡ empty_root H 256 → AreAllPages H IsThere root version []
-all_of_none H IsThere root version none empty =
-    let P : ℕ → Type 0 = λ n. AreAllPages H IsThere root n [] in subst P (sym none) (refl, empty)
+pub all_of_none : (H : List ℕ → List ℕ) (IsLone : List ℕ → SlotAt → List ℕ × List ℕ → Type 0)
+    (IsThere : List ℕ → ℕ → List SlotAt → Type 0) (root : List ℕ) (version : ℕ)
+    → version ≡ 0 → root ≡ empty_root H 256 → AreAllPagesWhere H IsLone IsThere root version []
+all_of_none H IsLone IsThere root version none empty =
+    let P : ℕ → Type 0 = λ n. AreAllPagesWhere H IsLone IsThere root n [] in subst P (sym none) (refl, empty)
 
 -- where the pages are those of insertions
 pub own_root : (H : List ℕ → List ℕ) (bytes_at : List ℕ → ℕ → Option (List ℕ)) (root : List ℕ) (count : ℕ)

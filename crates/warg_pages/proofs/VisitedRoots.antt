@@ -19,7 +19,7 @@ use Rattle.warg_pages.specs.Prefixes.{bits_of_bytes, byte_bits}
 use Rattle.warg_pages.specs.Slots.{SlotAt, IsSlot, IsPage, Ascends}
 use Rattle.warg_pages.specs.Pages.{digest_at, slot_height, page_digest}
 use Rattle.warg_pages.specs.ChangedPages.{ChangedPageAt}
-use Rattle.warg_pages.specs.Visits.{held_by, IsLoneBelow, AreOfSlot, AreOfSlots, AreFrom, AreAllPages, IsAnyPage, lone_slots, lone_keys}
+use Rattle.warg_pages.specs.Visits.{held_by, IsLoneBelow, AreOfSlot, AreOfSlots, AreFromWhere, AreFrom, AreAllPages, IsAnyPage, lone_slots, lone_keys}
 use Rattle.warg_pages.proofs.Members.{among, first_among, later_among, only_one}
 use Rattle.warg_pages.proofs.ByteNumbers.{number, number_below, byte_bits-number, number-byte_bits}
 use Rattle.warg_pages.proofs.PageRoots.{root_over-below, root-same, root-nothing}
@@ -189,7 +189,7 @@ pub slot_held : (H : List ℕ → List ℕ) (AreFrom : List ℕ → ℕ → List
     → ((version : ℕ) (digest : List ℕ) (pages : List ChangedPageAt)
     → AreFrom (prefix ++ x.byte ∷ []) version digest pages
     → IsHeldBelow H (prefix ++ x.byte ∷ []) digest (slot_height (length prefix)) (lone_slots pages))
-    → AreOfSlot H AreFrom prefix x o pages
+    → AreOfSlot (IsLoneBelow H) AreFrom prefix x o pages
     → IsHeldBelow H (prefix ++ x.byte ∷ []) x.digest (slot_height (length prefix)) (x ∷ lone_slots pages)
 slot_held H AreFrom prefix x None pages e is below h = page_below H (prefix ++ x.byte ∷ []) (slot_height
     (length prefix)) x
@@ -299,7 +299,7 @@ slots_held : (H : List ℕ → List ℕ) (AreFrom : List ℕ → ℕ → List �
     → ((byte version : ℕ) (digest : List ℕ) (pages : List ChangedPageAt)
     → AreFrom (prefix ++ byte ∷ []) version digest pages
     → IsHeldBelow H (prefix ++ byte ∷ []) digest (slot_height (length prefix)) (lone_slots pages))
-    → AreOfSlots H AreFrom prefix slots pages → AreHeldFrom H prefix n slots (slots ++ lone_slots pages)
+    → AreOfSlots (IsLoneBelow H) AreFrom prefix slots pages → AreHeldFrom H prefix n slots (slots ++ lone_slots pages)
 unfolding AreOfSlots digest_at
 slots_held H AreFrom prefix n [] pages short ascend are low below h = rw h record {
   begin = λ y l c e. absurd (let lt = c.1 in omega arith);
@@ -391,7 +391,7 @@ longer_held H IsThere n prefix size held byte version digest pages from =
     rw height at (held (prefix ++ byte ∷ []) version digest pages (omega arith) from)
 
 pub pages_held : (H : List ℕ → List ℕ) (IsThere : List ℕ → ℕ → List SlotAt → Type 0) (n : ℕ) → AreHeldAfter H IsThere n
-unfolding AreFrom
+unfolding AreFromWhere
 pages_held H IsThere zero = λ prefix version digest pages size h. absurd h
 pages_held H IsThere (suc n) = λ prefix version digest pages size h.
     let page : IsPage h.0 = h.3 in
@@ -430,14 +430,14 @@ lone_apart H IsThere root (suc last) all h = (pages_held H IsThere 32 [] (suc la
 any_slot : (H : List ℕ → List ℕ) (Given Any : List ℕ → ℕ → List ℕ → List ChangedPageAt → Type 0) (prefix : List ℕ)
     (x : SlotAt) (o : Option (List ℕ × List ℕ)) (pages : List ChangedPageAt)
     → ((prefix : List ℕ) (version : ℕ) (digest : List ℕ) (pages : List ChangedPageAt)
-    → Given prefix version digest pages → Any prefix version digest pages) → AreOfSlot H Given prefix x o pages → AreOfSlot H Any prefix x o pages
+    → Given prefix version digest pages → Any prefix version digest pages) → AreOfSlot (IsLoneBelow H) Given prefix x o pages → AreOfSlot (IsLoneBelow H) Any prefix x o pages
 any_slot H Given Any prefix x None pages any h = any (prefix ++ x.byte ∷ []) x.version x.digest pages h
 any_slot H Given Any prefix x (Some l) pages any h = h
 
 any_slots : (H : List ℕ → List ℕ) (Given Any : List ℕ → ℕ → List ℕ → List ChangedPageAt → Type 0) (prefix : List ℕ)
     (slots : List SlotAt) (pages : List ChangedPageAt)
     → ((prefix : List ℕ) (version : ℕ) (digest : List ℕ) (pages : List ChangedPageAt)
-    → Given prefix version digest pages → Any prefix version digest pages) → AreOfSlots H Given prefix slots pages → AreOfSlots H Any prefix slots pages
+    → Given prefix version digest pages → Any prefix version digest pages) → AreOfSlots (IsLoneBelow H) Given prefix slots pages → AreOfSlots (IsLoneBelow H) Any prefix slots pages
 unfolding AreOfSlots
 any_slots H Given Any prefix [] pages any h = h
 any_slots H Given Any prefix (x ∷ slots) pages any h =
@@ -446,7 +446,7 @@ any_slots H Given Any prefix (x ∷ slots) pages any h =
 any_from : (H : List ℕ → List ℕ) (IsThere : List ℕ → ℕ → List SlotAt → Type 0) (n : ℕ) (prefix : List ℕ) (version : ℕ)
     (digest : List ℕ) (pages : List ChangedPageAt) → AreFrom H IsThere n prefix version digest pages
     → AreFrom H IsAnyPage n prefix version digest pages
-unfolding AreFrom
+unfolding AreFromWhere
 any_from H IsThere zero = λ prefix version digest pages h. h
 any_from H IsThere (suc n) = λ prefix version digest pages h. (
   h.0,

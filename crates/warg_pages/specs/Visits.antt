@@ -11,6 +11,8 @@ use Rattle.warg_pages.specs.Slots.{SlotAt, IsPage}
 use Rattle.warg_pages.specs.Pages.{page_digest, slot_height}
 use Rattle.warg_pages.specs.PageBytes.{page_bytes}
 use Rattle.warg_pages.specs.ChangedPages.{ChangedPageAt}
+use Rattle.warg_pages.specs.declared.visit.LoneKeyCheck.{LoneKeyCheck}
+use Rattle.warg_pages.specs.declared.visit.LoneKeyCheck.TheVariants.{Hashed, Skipped}
 
 -- What lone keys hold under bits: the leaf digest of the first of them whose digest has these bits.
 abbrev pub held_by : List (List ℕ × List ℕ) → List Bool → Option (List ℕ)
@@ -22,32 +24,48 @@ pub record IsLoneBelow (H : List ℕ → List ℕ) (prefix : List ℕ) (x : Slot
   pub digest : x.digest ≡ root_of_levels H (slot_height (length prefix))
       (λ bits. held_by (lone ∷ []) (bits_of_bytes (prefix ++ x.byte ∷ []) ++ bits))
 
--- The pages below a slot of a page at a prefix: none below a lone key, and else those of the longer prefix.
-abbrev pub AreOfSlot : (List ℕ → List ℕ) → (List ℕ → ℕ → List ℕ → List ChangedPageAt → Type 0) → List ℕ → SlotAt
+-- What a visit shows of a slot's lone key.
+abbrev pub IsLoneShown : (List ℕ → List ℕ) → LoneKeyCheck → List ℕ → SlotAt → List ℕ × List ℕ → Type 0
+IsLoneShown H Hashed = IsLoneBelow H
+IsLoneShown H Skipped = λ prefix x lone. Unit {0}
+
+-- The pages below a slot of a page at a prefix: none below a lone key, of which this is so, and else those of the longer prefix.
+abbrev pub AreOfSlot : (List ℕ → SlotAt → List ℕ × List ℕ → Type 0)
+    → (List ℕ → ℕ → List ℕ → List ChangedPageAt → Type 0) → List ℕ → SlotAt
     → Option (List ℕ × List ℕ) → List ChangedPageAt → Type 0
-AreOfSlot H AreFrom prefix x None pages = AreFrom (prefix ++ x.byte ∷ []) x.version x.digest pages
-AreOfSlot H AreFrom prefix x (Some lone) pages = (pages ≡ []) × IsLoneBelow H prefix x lone
+AreOfSlot IsLone AreFrom prefix x None pages = AreFrom (prefix ++ x.byte ∷ []) x.version x.digest pages
+AreOfSlot IsLone AreFrom prefix x (Some lone) pages = (pages ≡ []) × IsLone prefix x lone
 
 -- Those below slots, one slot after the other.
-unfoldable pub AreOfSlots : (List ℕ → List ℕ) → (List ℕ → ℕ → List ℕ → List ChangedPageAt → Type 0) → List ℕ → List SlotAt
-    → List ChangedPageAt → Type 0
-AreOfSlots H AreFrom prefix [] pages = pages ≡ []
-AreOfSlots H AreFrom prefix (x ∷ xs) pages = (first rest : List ChangedPageAt) × (pages ≡ first ++ rest)
-    × AreOfSlot H AreFrom prefix x x.lone first × AreOfSlots H AreFrom prefix xs rest
+unfoldable pub AreOfSlots : (List ℕ → SlotAt → List ℕ × List ℕ → Type 0)
+    → (List ℕ → ℕ → List ℕ → List ChangedPageAt → Type 0) → List ℕ → List SlotAt → List ChangedPageAt → Type 0
+AreOfSlots IsLone AreFrom prefix [] pages = pages ≡ []
+AreOfSlots IsLone AreFrom prefix (x ∷ xs) pages = (first rest : List ChangedPageAt) × (pages ≡ first ++ rest)
+    × AreOfSlot IsLone AreFrom prefix x x.lone first × AreOfSlots IsLone AreFrom prefix xs rest
 
 -- The pages from a prefix, a version and a digest on, over at most so many more bytes: the one there, and those below it.
-unfoldable pub AreFrom : (List ℕ → List ℕ) → (List ℕ → ℕ → List SlotAt → Type 0) → ℕ → List ℕ → ℕ → List ℕ
-    → List ChangedPageAt → Type 0
-AreFrom H IsThere zero prefix version digest pages = ⊥
-AreFrom H IsThere (suc n) prefix version digest pages = (slots : List SlotAt) × (below : List ChangedPageAt)
+unfoldable pub AreFromWhere : (List ℕ → List ℕ) → (List ℕ → SlotAt → List ℕ × List ℕ → Type 0)
+    → (List ℕ → ℕ → List SlotAt → Type 0) → ℕ → List ℕ → ℕ → List ℕ → List ChangedPageAt → Type 0
+AreFromWhere H IsLone IsThere zero prefix version digest pages = ⊥
+AreFromWhere H IsLone IsThere (suc n) prefix version digest pages = (slots : List SlotAt) × (below : List ChangedPageAt)
     × (pages ≡ record { prefix = prefix; version = version; page = slots } ∷ below) × IsPage slots
     × IsThere prefix version slots × (page_digest H (length prefix) slots ≡ digest)
-    × AreOfSlots H (AreFrom H IsThere n) prefix slots below
+    × AreOfSlots IsLone (AreFromWhere H IsLone IsThere n) prefix slots below
 
 -- All pages that a root leads to, from the first one on: none of a map without insertions.
+abbrev pub AreAllPagesWhere : (List ℕ → List ℕ) → (List ℕ → SlotAt → List ℕ × List ℕ → Type 0)
+    → (List ℕ → ℕ → List SlotAt → Type 0) → List ℕ → ℕ → List ChangedPageAt → Type 0
+AreAllPagesWhere H IsLone IsThere root zero pages = (pages ≡ []) × (root ≡ empty_root H 256)
+AreAllPagesWhere H IsLone IsThere root (suc last) pages = AreFromWhere H IsLone IsThere 32 [] (suc last) root pages
+
+-- The pages from a prefix on, where each lone key stands below its slot.
+abbrev pub AreFrom : (List ℕ → List ℕ) → (List ℕ → ℕ → List SlotAt → Type 0) → ℕ → List ℕ → ℕ → List ℕ
+    → List ChangedPageAt → Type 0
+AreFrom H IsThere = AreFromWhere H (IsLoneBelow H) IsThere
+
+-- All pages that a root leads to, where each lone key stands below its slot.
 abbrev pub AreAllPages : (List ℕ → List ℕ) → (List ℕ → ℕ → List SlotAt → Type 0) → List ℕ → ℕ → List ChangedPageAt → Type 0
-AreAllPages H IsThere root zero pages = (pages ≡ []) × (root ≡ empty_root H 256)
-AreAllPages H IsThere root (suc last) pages = AreFrom H IsThere 32 [] (suc last) root pages
+AreAllPages H IsThere = AreAllPagesWhere H (IsLoneBelow H) IsThere
 
 -- A page is one that a source has: what is known of its bytes allows the page, and says it where it tells of every page.
 pub record IsAllowed (bytes_at : List ℕ → ℕ → Option (List ℕ)) (tells_all : Type 0) (prefix : List ℕ) (version : ℕ)

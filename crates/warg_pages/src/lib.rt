@@ -44,4 +44,4 @@ pub use path::page_path;
 pub use prove::{KeyInPages, prove_by_pages};
 pub use slot::{LoneKey, Slot};
 pub use source::Pages;
-pub use visit::{PageVisitor, visit_pages};
+pub use visit::{LoneKeyCheck, PageVisitor, visit_pages};

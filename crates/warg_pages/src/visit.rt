@@ -3,7 +3,7 @@
 ghost use Rattle.std.specs.Prelude.{◌≡◌, ◌++◌, ◌-◌, ◌≤◌, ◌<◌, [], ◌∷◌, ℕ, List, length, IfOk, IfErr, OnOk};
 ghost use Rattle.warg_pages.specs.ChangedPages.{ChangedPageAt};
 ghost use Rattle.warg_pages.specs.ProvedKeys.{IsOwnSource};
-ghost use Rattle.warg_pages.specs.Visits.{AreAllPages, AreFrom, AreOfSlot, IsAllowed, IsLoneBelow};
+ghost use Rattle.warg_pages.specs.Visits.{AreAllPagesWhere, AreFromWhere, AreOfSlot, IsAllowed, IsLoneBelow, IsLoneShown};
 ghost use Rattle.warg_pages.specs.Private.Visited.{IsOwnFrom, IsOwnSlot};
 ghost use Rattle.warg_pages.specs.Refusals.{IsMemoryUnless, IsOfSourceUnless};
 
@@ -28,31 +28,42 @@ pub trait PageVisitor<D, A: Allocator> {
             → HasSeen self.new (pages ++ record { prefix = prefix.now; version = version; page = page.now } ∷ [])) };
 }
 
+/// How a visit looks at the keys that stand alone in slots.
+#[derive(Clone, Copy, Debug, PartialEq, Eq)]
+pub enum LoneKeyCheck {
+    /// It hashes the way down of each, some 250 branches, which has to lead to the digest of its slot.
+    Hashed,
+    /// It doesn't look at them: nothing is shown of what the pages hold, but which pages there are.
+    Skipped,
+}
+
 /// Visits all pages that a root leads to, from the first one on, of `version`: the number of the map's insertions. Each one
 /// comes before those below it, and has the digest of the slot that names it.
 ///
 /// The refusals: `Pages` where the source has no page; `BadPage`, `WrongDigest` and `WrongLoneKey` only where its pages aren't
 /// those of insertions with this root; or memory. What is known of the source stays true.
 ///
-/// It reads each page once, and hashes its branches and the way down of each lone key once. It keeps one page for each byte of
-/// the longest prefix.
+/// It reads each page once, and hashes its branches once, and lone keys as `lone_keys` says. It keeps one page for each byte
+/// of the longest prefix.
 pub fn visit_pages<D: SupportedDigest, P: Pages<A>, V: PageVisitor<D, A>, A: Allocator + Copy>(
     alloc: A,
     pages: &mut P,
     root: &Hash<D>,
     version: u64,
+    lone_keys: LoneKeyCheck,
     visitor: &mut V,
 ) -> Result<(), ProveError<P::Error>>
     ensures seen { OnOk result ((before : List ChangedPageAt) → V.HasSeen visitor.old before → (all : List ChangedPageAt)
         × V.HasSeen visitor.new (before ++ all)
         × ((known : P.Known) → P.IsKnown pages.old known
-        → AreAllPages D.digest (IsAllowed (P.bytes_at known) (P.tells_all known)) root.now version all)) }
+        → AreAllPagesWhere D.digest (IsLoneShown D.digest lone_keys) (IsAllowed (P.bytes_at known) (P.tells_all known))
+        root.now version all)) }
     ensures refused { IfErr result (IsOfSourceUnless ((known : P.Known) (insertions : List (List ℕ × List ℕ))
         → P.IsKnown pages.old known → IsOwnSource D.digest (P.bytes_at known) root.now version insertions → ⊥)) }
     ensures known { (known : P.Known) → P.IsKnown pages.old known → P.IsKnown pages.new known }
 {
     if version != 0 {
-        return visit_from(alloc, pages, &[], root, version, visitor);
+        return visit_from(alloc, pages, &[], root, version, lone_keys, visitor);
     }
     if *root != D::empty_tree(256) {
         return Err(ProveError::Way(WayError::WrongDigest));
@@ -68,14 +79,15 @@ fn visit_from<D: SupportedDigest, P: Pages<A>, V: PageVisitor<D, A>, A: Allocato
     prefix: &[u8],
     digest: &Hash<D>,
     version: u64,
+    lone_keys: LoneKeyCheck,
     visitor: &mut V,
 ) -> Result<(), ProveError<P::Error>>
     requires { length prefix.now ≤ 32 }
     ensures seen { OnOk result ((before : List ChangedPageAt) → V.HasSeen visitor.old before → (all : List ChangedPageAt)
         × V.HasSeen visitor.new (before ++ all)
         × ((known : P.Known) → P.IsKnown pages.old known
-        → AreFrom D.digest (IsAllowed (P.bytes_at known) (P.tells_all known)) (32 - length prefix.now) prefix.now
-        version digest.now all)) }
+        → AreFromWhere D.digest (IsLoneShown D.digest lone_keys) (IsAllowed (P.bytes_at known) (P.tells_all known))
+        (32 - length prefix.now) prefix.now version digest.now all)) }
     ensures refused { IfErr result (IsOfSourceUnless ((known : P.Known) (insertions : List (List ℕ × List ℕ))
         → P.IsKnown pages.old known
         → IsOwnFrom D.digest (P.bytes_at known) prefix.now version digest.now insertions → ⊥)) }
@@ -90,7 +102,7 @@ fn visit_from<D: SupportedDigest, P: Pages<A>, V: PageVisitor<D, A>, A: Allocato
     }
     see(visitor, prefix, version, &page)?;
     'slots: for slot in page.slots() {
-        visit_slot(alloc, pages, prefix, slot, visitor)?;
+        visit_slot(alloc, pages, prefix, slot, lone_keys, visitor)?;
     }
     Ok(())
 }
@@ -102,13 +114,15 @@ fn visit_slot<D: SupportedDigest, P: Pages<A>, V: PageVisitor<D, A>, A: Allocato
     pages: &mut P,
     prefix: &[u8],
     slot: &Slot<D>,
+    lone_keys: LoneKeyCheck,
     visitor: &mut V,
 ) -> Result<(), ProveError<P::Error>>
     requires { length prefix.now < 32 }
     ensures seen { OnOk result ((before : List ChangedPageAt) → V.HasSeen visitor.old before → (all : List ChangedPageAt)
         × V.HasSeen visitor.new (before ++ all)
         × ((known : P.Known) → P.IsKnown pages.old known
-        → AreOfSlot D.digest (AreFrom D.digest (IsAllowed (P.bytes_at known) (P.tells_all known)) (31 - length prefix.now))
+        → AreOfSlot (IsLoneShown D.digest lone_keys) (AreFromWhere D.digest (IsLoneShown D.digest lone_keys)
+        (IsAllowed (P.bytes_at known) (P.tells_all known)) (31 - length prefix.now))
         prefix.now slot.now slot.now.lone all)) }
     ensures refused { IfErr result (IsOfSourceUnless ((known : P.Known) (insertions : List (List ℕ × List ℕ))
         → P.IsKnown pages.old known
@@ -116,7 +130,7 @@ fn visit_slot<D: SupportedDigest, P: Pages<A>, V: PageVisitor<D, A>, A: Allocato
     ensures known { (known : P.Known) → P.IsKnown pages.old known → P.IsKnown pages.new known }
 {
     match &slot.lone {
-        Some(lone) => Ok(check_lone(prefix, slot, lone)?),
+        Some(lone) => Ok(check_lone(prefix, slot, lone, lone_keys)?),
         None => {
             let below = longer(alloc, prefix, slot.byte)?;
             visit_from(
@@ -125,6 +139,7 @@ fn visit_slot<D: SupportedDigest, P: Pages<A>, V: PageVisitor<D, A>, A: Allocato
                 below.as_slice(),
                 &slot.digest,
                 slot.version,
+                lone_keys,
                 visitor,
             )
         }
@@ -145,8 +160,25 @@ fn see<D, V: PageVisitor<D, A>, A: Allocator>(
     Ok(visitor.visit(prefix, version, page)?)
 }
 
-// Checks that a lone key stands alone below its slot.
+// Checks that a lone key stands alone below its slot, or doesn't look.
 fn check_lone<D: SupportedDigest>(
+    prefix: &[u8],
+    slot: &Slot<D>,
+    lone: &LoneKey<D>,
+    lone_keys: LoneKeyCheck,
+) -> Result<(), WayError>
+    requires { length prefix.now < 32 }
+    ensures ok { OnOk result (IsLoneShown D.digest lone_keys prefix.now slot.now lone.now) }
+    ensures err { IfErr result (IsMemoryUnless (IsLoneBelow D.digest prefix.now slot.now lone.now → ⊥)) }
+{
+    match lone_keys {
+        LoneKeyCheck::Hashed => hash_lone(prefix, slot, lone),
+        LoneKeyCheck::Skipped => Ok(()),
+    }
+}
+
+// Checks that a lone key stands alone below its slot.
+fn hash_lone<D: SupportedDigest>(
     prefix: &[u8],
     slot: &Slot<D>,
     lone: &LoneKey<D>,

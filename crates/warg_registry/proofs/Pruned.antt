@@ -21,7 +21,8 @@ use Rattle.warg_map.specs.Sparse.{map_of, sparse_root}
 use Rattle.warg_pages.specs.ChangedPages.{ChangedPageAt, page_at}
 use Rattle.warg_pages.specs.PagePaths.{page_path}
 use Rattle.warg_pages.specs.ProvedKeys.{IsOwnSource}
-use Rattle.warg_pages.specs.Visits.{AreAllPages, IsAllowed}
+use Rattle.warg_pages.specs.Slots.{SlotAt}
+use Rattle.warg_pages.specs.Visits.{AreAllPagesWhere, IsAllowed}
 use Rattle.warg_pages.proofs.ForCallers.{own_visit, visit_own}
 use Rattle.warg_tiles.specs.CheckpointText.{Said}
 use Rattle.warg_store.specs.Files.{File, Files}
@@ -153,24 +154,26 @@ pushed_none names others after s e none new = λ n is there.
     (Contains-append_cases (bytes_of others) (string_bytes s ∷ []) n all)
 
 -- the pages of insertions are among those that were visited
-pub all_named : (seen : Files) (tells_all : Type 0) (root : List ℕ) (count : ℕ) (es : List (List ℕ × List ℕ))
+pub all_named : (IsLone : List ℕ → SlotAt → List ℕ × List ℕ → Type 0)
+    (seen : Files) (tells_all : Type 0) (root : List ℕ) (count : ℕ) (es : List (List ℕ × List ℕ))
     (pages : List ChangedPageAt) (names : List (List ℕ)) → count < 2 ^ 64
     → IsOwnSource sha256 (page_found seen) root count es
-    → AreAllPages sha256 (IsAllowed (page_found seen) tells_all) root count pages → ArePathsOf names pages
+    → AreAllPagesWhere sha256 IsLone (IsAllowed (page_found seen) tells_all) root count pages → ArePathsOf names pages
     → HaveAllPages names es
-all_named seen T root count es pages names fits own all named = λ f there.
+all_named IsLone seen T root count es pages names fits own all named = λ f there.
     let found = page_of_list es f there in
-    let at = own_visit sha256 (page_found seen) T root count es pages found.0 IsDigest-sha256 fits own all
+    let at = own_visit sha256 IsLone (page_found seen) T root count es pages found.0 IsDigest-sha256 fits own all
     found.1.are_bytes found.1.short found.1.is_there in
     subst (λ (g : File). Contains names (page_name g.0)) found.2 (named (page_at sha256 es found.0) at)
 
 -- and what was visited is one of them
-pub own_named : (seen : Files) (tells_all : Type 0) (root : List ℕ) (count : ℕ) (es : List (List ℕ × List ℕ))
+pub own_named : (IsLone : List ℕ → SlotAt → List ℕ × List ℕ → Type 0)
+    (seen : Files) (tells_all : Type 0) (root : List ℕ) (count : ℕ) (es : List (List ℕ × List ℕ))
     (pages : List ChangedPageAt) → count < 2 ^ 64 → IsOwnSource sha256 (page_found seen) root count es
-    → AreAllPages sha256 (IsAllowed (page_found seen) tells_all) root count pages → (p : ChangedPageAt)
+    → AreAllPagesWhere sha256 IsLone (IsAllowed (page_found seen) tells_all) root count pages → (p : ChangedPageAt)
     → Contains pages p → IsPageOf es (page_path p.prefix p.version)
-own_named seen T root count es pages fits own all p there =
-    let at = visit_own sha256 (page_found seen) T root count es pages IsDigest-sha256 fits own all p there in
+own_named IsLone seen T root count es pages fits own all p there =
+    let at = visit_own sha256 IsLone (page_found seen) T root count es pages IsDigest-sha256 fits own all p there in
     (p.prefix, at.0, ap (page_path p.prefix) (sym at.1))
 
 -- names of visited pages, one list after the other, are those of needed ones

@@ -18,7 +18,7 @@ use crate::reader::RegistryReader;
 use std::alloc::{AllocError, Global};
 use warg_crypto::{Hash, Sha256, hash_leaf};
 use warg_log::{Checkpoint, GREATEST_LENGTH, LogBuilder, StackLog};
-use warg_pages::{HeldInPages, MapPage, PageVisitor, held_in_pages, visit_pages};
+use warg_pages::{HeldInPages, LoneKeyCheck, MapPage, PageVisitor, held_in_pages, visit_pages};
 use warg_store::{Folder, LogError, Progress};
 use warg_tiles::Tile;
 
@@ -103,7 +103,14 @@ impl<F: Folder + Drop> RegistryReader<F> {
     {
         let version = self.checkpoint().length() as u64;
         let mut lones = LoneKeys { count: 0 };
-        match visit_pages(self.alloc, &mut self.pages, &self.root, version, &mut lones) {
+        match visit_pages(
+            self.alloc,
+            &mut self.pages,
+            &self.root,
+            version,
+            LoneKeyCheck::Hashed,
+            &mut lones,
+        ) {
             Ok(()) => Ok(lones.count),
             Err(error) => Err(self.pages.refusal(error)),
         }

@@ -183,10 +183,11 @@ impl<F: Folder + Drop> RegistryFolder<F> {
     }
 
     /// Removes what neither the newest state nor the served checkpoint needs: pages of older versions, and of the log what
-    /// [`LogFolder::prune`] removes. First it visits all pages of both, each by its digest: where one is missing or corrupt,
+    /// [`LogFolder::prune`] removes. First it visits all pages of both: where one is missing, or hasn't the digest that names it,
     /// `Damaged` names it, and nothing is removed. Returns how many files it removed. After an error, open the folder again.
     ///
-    /// It reads each page that is needed once, or twice where two states have it, and keeps the names of all.
+    /// It reads each page that is needed once, or twice where two states have it, hashes its branches but no lone key's way
+    /// down, and keeps the names of all.
     pub fn prune(&mut self) -> Result<usize, LogError>
         ensures pruned { F.IsFaithful → OnOk result ((origin : List ℕ) (served kept : List (List ℕ × List ℕ))
             → HasRegistry F.seen F.may_leave origin served kept self.old

@@ -1,6 +1,6 @@
 //! The pages that a registry needs, and those that it doesn't.
 
-ghost use Rattle.std.specs.Prelude.{◌≡◌, ◌⊎◌, ◌++◌, ℕ, true, List, [], IfOk, OnOk, IsSome};
+ghost use Rattle.std.specs.Prelude.{◌≡◌, ◌⊎◌, ◌++◌, ℕ, true, List, [], IfOk, OnOk, IsSome, IsTrue};
 ghost use Rattle.std.specs.List.{Contains};
 ghost use Rattle.warg_crypto.specs.Digests.{sha256};
 ghost use Rattle.warg_pages.specs.ChangedPages.{ChangedPageAt};
@@ -19,7 +19,7 @@ use crate::source::KeptPages;
 use std::alloc::{AllocError, Global};
 use std::collections::BTreeSet;
 use warg_crypto::{Hash, Sha256};
-use warg_pages::{MapPage, PageVisitor, PagedMap, page_path, visit_pages};
+use warg_pages::{LoneKeyCheck, MapPage, PageVisitor, PagedMap, page_path, visit_pages};
 use warg_store::{Folder, LogError};
 
 /// The names of pages that are needed.
@@ -77,7 +77,14 @@ impl NeededPages {
             → IsLogRead F.seen F.may_leave F.moment F.left_since known pages.old.log
             → IsLogRead F.seen F.may_leave F.moment F.left_since known pages.new.log }
     {
-        match visit_pages(self.alloc, pages, root, version, self) {
+        match visit_pages(
+            self.alloc,
+            pages,
+            root,
+            version,
+            LoneKeyCheck::Skipped,
+            self,
+        ) {
             Ok(()) => Ok(()),
             Err(error) => Err(of_way(self.alloc, pages.last.as_str(), error)),
         }
@@ -143,7 +150,7 @@ impl<F: Folder + Drop> KeptPages<F> {
         let mut needed = NeededPages::new(self.alloc);
         needed.add(self, root, version)?;
         let served = self.served()?;
-        if served.root == *root && served.version == version {
+        if is_map(&served, root, version) {
             return Ok(needed);
         }
         needed.add(self, &served.root, served.version)?;
@@ -181,4 +188,11 @@ impl<F: Folder + Drop> KeptPages<F> {
     {
         Ok(self.log.pages()?)
     }
+}
+
+// Whether a map has this root and so many insertions.
+fn is_map(map: &PagedMap<Sha256>, root: &Hash<Sha256>, version: u64) -> bool
+    ensures { IsTrue result → (map.now.root ≡ root.now) × (map.now.version ≡ version) }
+{
+    map.root == *root && map.version == version
 }

@@ -1,17 +1,17 @@
 //! A registry as a folder serves it, as whoever reads it holds it.
 
-ghost use Rattle.std.specs.Prelude.{◌≡◌, ◌+◌, ℕ, List, IfOk, IfErr};
+ghost use Rattle.std.specs.Prelude.{◌≡◌, ◌+◌, ◌≤◌, ℕ, List, length, slice_get, Some, IfOk, IfErr};
 ghost use Rattle.warg_crypto.specs.Digests.{sha256};
 ghost use Rattle.warg_crypto.specs.Tree.{leaf_digest};
 ghost use Rattle.warg_map.specs.Bits.{key_bits};
 ghost use Rattle.warg_map.specs.ProofValue.{proof_value};
 ghost use Rattle.warg_pages.specs.ProvedKeys.{LeadsTo, IsProved};
 ghost use Rattle.warg_store.specs.Log.{HasLog, Serves};
-ghost use Rattle.warg_store.specs.Reading.{checkpoint_said};
+ghost use Rattle.warg_store.specs.Reading.{IsShown, checkpoint_said};
 ghost use Rattle.warg_store.specs.Refusals.{IsNoFault as IsNoLogFault};
 ghost use Rattle.warg_registry.specs.Folder.{registry_of, IsNoFault};
 ghost use Rattle.warg_registry.specs.Reading.{ReadsRegistry, IsKeyShown, IsLogged, IsOfEntry, IsOwnKey, IsHeldAt, IsKeyIn};
-ghost use Rattle.warg_registry.specs.Insertions.{entry_of, IsInsertion};
+ghost use Rattle.warg_registry.specs.Insertions.{entry_of, entries_of, IsInsertion};
 
 use crate::error::{RegistryError, damaged};
 use crate::folder::root_said;
@@ -31,6 +31,15 @@ pub enum KeyInRegistry {
     Held(usize, Vec<u8>, Vec<Option<Hash<Sha256>>>),
     /// Nothing: the peers of `Map::prove_absence`.
     Absent(Vec<Option<Hash<Sha256>>>),
+}
+
+// Where an entry is read.
+#[derive(Clone, Copy)]
+enum EntryFrom {
+    // In its bundle alone.
+    Bundle,
+    // In its bundle, once its inclusion path leads to the checkpoint's root.
+    Log,
 }
 
 /// A registry as a folder serves it, for those who read: no call changes the folder, and none needs a lock.
@@ -109,10 +118,7 @@ impl<F: Folder + Drop> RegistryReader<F> {
         ensures reads { F.IsFaithful → (origin : List ℕ) (insertions : List (List ℕ × List ℕ))
             → ReadsRegistry F.seen origin insertions self.old → ReadsRegistry F.seen origin insertions self.new }
     {
-        match self.prove(key)? {
-            KeyInPages::Held(index, leaf, peers) => self.bundled(key, index, &leaf, peers),
-            KeyInPages::Absent(peers) => Ok(KeyInRegistry::Absent(peers)),
-        }
+        self.found(key, EntryFrom::Bundle)
     }
 
     /// As [`get`](RegistryReader::get), once the entry's inclusion path leads to the checkpoint's root. `Damaged` names a tile,
@@ -128,9 +134,24 @@ impl<F: Folder + Drop> RegistryReader<F> {
         ensures reads { F.IsFaithful → (origin : List ℕ) (insertions : List (List ℕ × List ℕ))
             → ReadsRegistry F.seen origin insertions self.old → ReadsRegistry F.seen origin insertions self.new }
     {
+        self.found(key, EntryFrom::Log)
+    }
+
+    // What the registry has under a key, once a held one's entry is read so.
+    fn found(&mut self, key: &[u8], from: EntryFrom) -> Result<KeyInRegistry, LogError>
+        ensures shown { IfOk result (IsKeyShown self.old.root key.now) }
+        ensures logged { from ≡ EntryFrom.Log → IfOk result (IsLogged (checkpoint_said self.old.log.text) key.now) }
+        ensures own { F.IsFaithful → IfOk result (λ found. (origin : List ℕ) (insertions : List (List ℕ × List ℕ))
+            → ReadsRegistry F.seen origin insertions self.old → IsKeyIn insertions key.now found) }
+        ensures whole { F.IsFaithful → (origin : List ℕ) (insertions : List (List ℕ × List ℕ))
+            → ReadsRegistry F.seen origin insertions self.old → IsOwnKey insertions key.now
+            → IfErr result (IsNoLogFault ⊥) }
+        ensures reads { F.IsFaithful → (origin : List ℕ) (insertions : List (List ℕ × List ℕ))
+            → ReadsRegistry F.seen origin insertions self.old → ReadsRegistry F.seen origin insertions self.new }
+    {
         match self.prove(key)? {
-            KeyInPages::Held(index, leaf, peers) => self.logged(key, index, &leaf, peers),
-            KeyInPages::Absent(beside) => Ok(KeyInRegistry::Absent(beside)),
+            KeyInPages::Held(index, leaf, peers) => self.value(key, index, &leaf, peers, from),
+            KeyInPages::Absent(peers) => Ok(KeyInRegistry::Absent(peers)),
         }
     }
 
@@ -152,16 +173,18 @@ impl<F: Folder + Drop> RegistryReader<F> {
         }
     }
 
-    // The value that a held key's entry has, as its bundle has it.
-    fn bundled(
+    // The value that a held key's entry has, once it is read so.
+    fn value(
         &mut self,
         key: &[u8],
         index: u64,
         leaf: &Hash<Sha256>,
         peers: Vec<Option<Hash<Sha256>>>,
+        from: EntryFrom,
     ) -> Result<KeyInRegistry, LogError>
         ensures shown { IfOk result (λ found. proof_value sha256 peers.items leaf.now (key_bits sha256 key.now)
             ≡ self.old.root → IsKeyShown self.old.root key.now found) }
+        ensures logged { from ≡ EntryFrom.Log → IfOk result (IsLogged (checkpoint_said self.old.log.text) key.now) }
         ensures own { F.IsFaithful → IfOk result (λ found. (origin : List ℕ) (insertions : List (List ℕ × List ℕ))
             → ReadsRegistry F.seen origin insertions self.old
             → IsHeldAt insertions (key_bits sha256 key.now) index leaf.now peers.items
@@ -173,34 +196,28 @@ impl<F: Folder + Drop> RegistryReader<F> {
         ensures reads { F.IsFaithful → (origin : List ℕ) (insertions : List (List ℕ × List ℕ))
             → ReadsRegistry F.seen origin insertions self.old → ReadsRegistry F.seen origin insertions self.new }
     {
-        let entry = self.pages.log.bundle_entry(index as usize)?;
+        let entry = self.entry(index as usize, from)?;
         self.held(key, index, leaf, entry.as_slice(), peers)
     }
 
-    // The same, once the entry's inclusion path leads to the checkpoint's root.
-    fn logged(
-        &mut self,
-        key: &[u8],
-        index: u64,
-        leaf: &Hash<Sha256>,
-        peers: Vec<Option<Hash<Sha256>>>,
-    ) -> Result<KeyInRegistry, LogError>
-        ensures shown { IfOk result (λ found. proof_value sha256 peers.items leaf.now (key_bits sha256 key.now)
-            ≡ self.old.root → IsKeyShown self.old.root key.now found) }
-        ensures logged { IfOk result (IsLogged (checkpoint_said self.old.log.text) key.now) }
-        ensures own { F.IsFaithful → IfOk result (λ found. (origin : List ℕ) (insertions : List (List ℕ × List ℕ))
+    // The entry at an index.
+    fn entry(&mut self, index: usize, from: EntryFrom) -> Result<Vec<u8>, LogError>
+        ensures shown { from ≡ EntryFrom.Log
+            → IfOk result (λ entry. IsShown (checkpoint_said self.old.log.text) index entry.items) }
+        ensures own { F.IsFaithful → IfOk result (λ entry. (origin : List ℕ) (insertions : List (List ℕ × List ℕ))
             → ReadsRegistry F.seen origin insertions self.old
-            → IsHeldAt insertions (key_bits sha256 key.now) index leaf.now peers.items
-            → IsKeyIn insertions key.now found) }
+            → slice_get (entries_of insertions) index ≡ Some entry.items) }
         ensures whole { F.IsFaithful → (origin : List ℕ) (insertions : List (List ℕ × List ℕ))
-            → ReadsRegistry F.seen origin insertions self.old → IsOwnKey insertions key.now
-            → IsHeldAt insertions (key_bits sha256 key.now) index leaf.now peers.items
-            → IfErr result (IsNoLogFault ⊥) }
+            → ReadsRegistry F.seen origin insertions self.old
+            → IfErr result (IsNoLogFault (length (entries_of insertions) ≤ index)) }
+        ensures root { self.new.root ≡ self.old.root }
         ensures reads { F.IsFaithful → (origin : List ℕ) (insertions : List (List ℕ × List ℕ))
             → ReadsRegistry F.seen origin insertions self.old → ReadsRegistry F.seen origin insertions self.new }
     {
-        let entry = self.pages.log.entry(index as usize)?;
-        self.held(key, index, leaf, entry.as_slice(), peers)
+        match from {
+            EntryFrom::Bundle => self.pages.log.bundle_entry(index),
+            EntryFrom::Log => self.pages.log.entry(index),
+        }
     }
 
     // The value that a held key's entry has.

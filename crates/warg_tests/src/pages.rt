@@ -5,7 +5,7 @@ use std::collections::HashMap;
 use std::test::Fail;
 use warg_crypto::{Hash, Sha256, hash_leaf};
 use warg_map::Map;
-use warg_pages::{MapPage, PageVisitor, PagedMap, Pages, held_in_pages, visit_pages};
+use warg_pages::{LoneKeyCheck, MapPage, PageVisitor, PagedMap, Pages, held_in_pages, visit_pages};
 
 const PAIRS: [(&[u8], &[u8]); 4] = [
     (b"a", b"one"),
@@ -104,6 +104,50 @@ fn is_held(pages: &mut Newest, key: &[u8], version: u64, value: &[u8]) -> Result
     }
 }
 
+// Changes the last byte of each page, which is of a lone key's leaf digest here.
+fn spoil(pages: &mut Newest) {
+    for bytes in pages.bytes.values_mut() {
+        if let Some(last) = bytes.last_mut() {
+            *last ^= 1;
+        }
+    }
+}
+
+#[test]
+fn lone_keys_are_hashed_or_skipped(rt: HostRuntime) -> Result<(), Fail> {
+    let alloc = rt.alloc();
+    let (mut pages, map) = pages_of(alloc)?;
+    let mut seen = Seen { keys: 0, pages: 0 };
+    let skipped = visit_pages(
+        alloc,
+        &mut pages,
+        &map.root,
+        4,
+        LoneKeyCheck::Skipped,
+        &mut seen,
+    );
+    assert!(rt; skipped.is_ok() && seen.pages == pages.bytes.len());
+    spoil(&mut pages);
+    let skipped = visit_pages(
+        alloc,
+        &mut pages,
+        &map.root,
+        4,
+        LoneKeyCheck::Skipped,
+        &mut seen,
+    );
+    let hashed = visit_pages(
+        alloc,
+        &mut pages,
+        &map.root,
+        4,
+        LoneKeyCheck::Hashed,
+        &mut seen,
+    );
+    assert!(rt; skipped.is_ok() && hashed.is_err());
+    Ok(())
+}
+
 #[test]
 fn pages_hold_what_the_map_does(rt: HostRuntime) -> Result<(), Fail> {
     let alloc = rt.alloc();
@@ -111,7 +155,14 @@ fn pages_hold_what_the_map_does(rt: HostRuntime) -> Result<(), Fail> {
     let map = Map::<Sha256, &[u8], &[u8]>::default(alloc).extend(PAIRS.iter().copied())?;
     assert!(rt; paged.root == *map.root());
     let mut seen = Seen { keys: 0, pages: 0 };
-    let visited = visit_pages(alloc, &mut pages, map.root(), 4, &mut seen);
+    let visited = visit_pages(
+        alloc,
+        &mut pages,
+        map.root(),
+        4,
+        LoneKeyCheck::Hashed,
+        &mut seen,
+    );
     assert!(rt; visited.is_ok() && seen.keys == map.len() && seen.pages == pages.bytes.len());
     let is_a = is_held(&mut pages, b"a", 3, b"three")?;
     let is_c = is_held(&mut pages, b"c", 4, b"")?;

@@ -6,7 +6,7 @@ use Rattle.std.proofs.Math.Seq.{drop-cons}
 use Rattle.warg_pages.specs.Slots.{SlotAt, page_of}
 use Rattle.warg_pages.specs.Prefixes.{bits_of_bytes}
 use Rattle.warg_pages.specs.ChangedPages.{ChangedPageAt}
-use Rattle.warg_pages.specs.Visits.{AreFrom, AreOfSlot, AreOfSlots, IsAllowed}
+use Rattle.warg_pages.specs.Visits.{AreFromWhere, AreOfSlot, AreOfSlots, IsAllowed, IsLoneShown}
 use Rattle.warg_pages.proofs.HashEquality.{same_hashes, other_hashes}
 use Rattle.warg_pages.proofs.Refused.{way_refused, source_refused, of_source, if_err}
 use Rattle.warg_pages.proofs.VisitedPages.{slots_more, no_slots, page_from, own_refused, own_page, own_digest, own_end, own_slot, own_below, own_lone}
@@ -75,11 +75,11 @@ visit_from-slots-preserved g t c = record {
         done ++ at.0,
         subst P (append_assoc before done at.0) at.1,
         λ known rest is others.
-            let From : List ℕ → ℕ → List ℕ → List ChangedPageAt → Type 0 = AreFrom H
+            let From : List ℕ → ℕ → List ℕ → List ChangedPageAt → Type 0 = AreFromWhere H (IsLoneShown H c.args.lone_keys)
             (IsAllowed (g.P.Pages.bytes_at known) (g.P.Pages.tells_all known)) (31 - length prefix) in
-            let Q : List ChangedPageAt → Type 0 = λ pages. AreOfSlots H From prefix items pages in
+            let Q : List ChangedPageAt → Type 0 = λ pages. AreOfSlots (IsLoneShown H c.args.lone_keys) From prefix items pages in
             subst Q (sym (append_assoc done at.0 rest)) (before_slot.2 known (at.0 ++ rest) is
-            (slots_more H From prefix (drop c.slots.slot-index items) x (drop (c.slots.slot-index + 1) items) at.0 rest
+            (slots_more (IsLoneShown H c.args.lone_keys) From prefix (drop c.slots.slot-index items) x (drop (c.slots.slot-index + 1) items) at.0 rest
             cut (at.2 known (c.slots.invariant.known known is)) others)),
       );
 }
@@ -98,11 +98,11 @@ visit_from-returns-clause-seen g t c = λ before has.
       subst P (append_assoc before (page ∷ []) all.0) all.1,
       λ known is.
           let IsThere : List ℕ → ℕ → List SlotAt → Type 0 = IsAllowed (g.P.Pages.bytes_at known) (g.P.Pages.tells_all known) in
-          let From : List ℕ → ℕ → List ℕ → List ChangedPageAt → Type 0 = AreFrom H IsThere (31 - length prefix) in
-          let others : AreOfSlots H From prefix items (all.0 ++ []) = all.2 known [] is
-          (no_slots H From prefix (drop c.slots.slot-index items) (drop_of_length-le items c.slots-test.false)) in
-          let Q : List SlotAt → List ChangedPageAt → Type 0 = λ slots pages. AreOfSlots H From prefix slots pages in
-          page_from H IsThere prefix c.args.digest.now c.args.version c.in_ok-page.page all.0 lt
+          let From : List ℕ → ℕ → List ℕ → List ChangedPageAt → Type 0 = AreFromWhere H (IsLoneShown H c.args.lone_keys) IsThere (31 - length prefix) in
+          let others : AreOfSlots (IsLoneShown H c.args.lone_keys) From prefix items (all.0 ++ []) = all.2 known [] is
+          (no_slots (IsLoneShown H c.args.lone_keys) From prefix (drop c.slots.slot-index items) (drop_of_length-le items c.slots-test.false)) in
+          let Q : List SlotAt → List ChangedPageAt → Type 0 = λ slots pages. AreOfSlots (IsLoneShown H c.args.lone_keys) From prefix slots pages in
+          page_from H (IsLoneShown H c.args.lone_keys) IsThere prefix c.args.digest.now c.args.version c.in_ok-page.page all.0 lt
           c.in_ok-page.ensures.page record {
             allowed = c.in_ok-page.ensures.ok known is;
             told = c.in_ok-page.ensures.told known is;
@@ -161,7 +161,7 @@ visit_slot-returns-in_ok-below-in-None-clause-seen g t c =
       at.1,
       λ known is.
           let IsThere : List ℕ → ℕ → List SlotAt → Type 0 = IsAllowed (g.P.Pages.bytes_at known) (g.P.Pages.tells_all known) in
-          let P : ℕ → List ℕ → Type 0 = λ n longer. AreFrom H IsThere n longer x.version x.digest at.0 in
+          let P : ℕ → List ℕ → Type 0 = λ n longer. AreFromWhere H (IsLoneShown H c.args.lone_keys) IsThere n longer x.version x.digest at.0 in
           let from = rw (digest, version) at (at.2 known is) in
           rw none (let Q : ℕ → Type 0 = λ n. P n (prefix ++ x.byte ∷ []) in subst Q left
           (let R : List ℕ → Type 0 = λ longer. P (32 - length c.as_slice.result.now) longer in subst R below from)),

@@ -1,5 +1,5 @@
 use Rattle.std.proofs.Common.{◌≡◌, ℕ, ◌+◌, ◌-◌, ◌*◌, ◌++◌, List, length, drop}
-use Rattle.warg_pages.specs.Visits.{AreOfSlots, AreFrom, IsAllowed}
+use Rattle.warg_pages.specs.Visits.{AreOfSlots, AreFromWhere, IsAllowed, IsLoneShown}
 use Rattle.warg_pages.specs.ChangedPages.{ChangedPageAt}
 use Rattle.warg_pages.proofs.visit.+visit.Given as goal
 
@@ -15,10 +15,12 @@ invariant-visit_from-slots g l = record {
   seen : (before : List ChangedPageAt) → g.V.PageVisitor.HasSeen l.initial.visitor before → (done : List ChangedPageAt)
       × g.V.PageVisitor.HasSeen l.visitor (before ++ done)
       × ((known : g.P.Pages.Known) (rest : List ChangedPageAt) → g.P.Pages.IsKnown l.fn.pages known
-      → AreOfSlots g.D.SupportedDigest.digest (AreFrom g.D.SupportedDigest.digest
+      → AreOfSlots (IsLoneShown g.D.SupportedDigest.digest l.lone_keys)
+      (AreFromWhere g.D.SupportedDigest.digest (IsLoneShown g.D.SupportedDigest.digest l.lone_keys)
       (IsAllowed (g.P.Pages.bytes_at known) (g.P.Pages.tells_all known)) (31 - length l.prefix)) l.prefix
       (drop l.slot-index l.slot-items) rest
-      → AreOfSlots g.D.SupportedDigest.digest (AreFrom g.D.SupportedDigest.digest
+      → AreOfSlots (IsLoneShown g.D.SupportedDigest.digest l.lone_keys)
+      (AreFromWhere g.D.SupportedDigest.digest (IsLoneShown g.D.SupportedDigest.digest l.lone_keys)
       (IsAllowed (g.P.Pages.bytes_at known) (g.P.Pages.tells_all known)) (31 - length l.prefix)) l.prefix
       l.slot-items (done ++ rest));
 }

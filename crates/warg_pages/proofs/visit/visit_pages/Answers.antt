@@ -30,7 +30,7 @@ returns-then-version-ne0-clause-seen g c =
     let at = seen before has in (
       at.0,
       at.1,
-      λ known is. all_from g.D.SupportedDigest.digest _ c.args.root.now c.args.version at.0 some (at.2 known is),
+      λ known is. all_from g.D.SupportedDigest.digest _ _ c.args.root.now c.args.version at.0 some (at.2 known is),
     )) c.visit_from.ensures.seen
 
 pub returns-clause-seen : goal.returns-clause-seen
@@ -39,6 +39,6 @@ returns-clause-seen g c = λ before has.
     let P : List ChangedPageAt → Type 0 = λ pages. g.V.PageVisitor.HasSeen c.args.visitor.now pages in (
       [],
       subst P (sym (append-nil before)) has,
-      λ known is. all_of_none g.D.SupportedDigest.digest _ c.args.root.now c.args.version none
+      λ known is. all_of_none g.D.SupportedDigest.digest _ _ c.args.root.now c.args.version none
           (same_hashes _ _ _ c.ne.ensures c.if-ne.false ∙ c.empty_tree.ensures),
     )

@@ -9,10 +9,10 @@ returns-in-Ok-clause-added g c = λ before named only.
       seen.1.0,
       seen.1.1,
       λ faithful known es read own. (
-        λ names have. all_named (g.F.Folder.seen known.folder) (Unit {0}) c.args.root.now c.args.version es seen.0 names
+        λ names have. all_named _ (g.F.Folder.seen known.folder) (Unit {0}) c.args.root.now c.args.version es seen.0 names
             c.ranges.version.fits own (seen.2 known (faithful, read))
             (λ p there. have p (Contains-append_right before seen.0 p there)),
-        own_named (g.F.Folder.seen known.folder) (Unit {0}) c.args.root.now c.args.version es seen.0
+        own_named _ (g.F.Folder.seen known.folder) (Unit {0}) c.args.root.now c.args.version es seen.0
             c.ranges.version.fits own (seen.2 known (faithful, read)),
       ),
     )

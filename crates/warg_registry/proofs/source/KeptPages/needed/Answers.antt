@@ -4,7 +4,7 @@ use Rattle.warg_crypto.specs.Digests.{sha256}
 use Rattle.warg_pages.specs.ProvedKeys.{IsOwnSource}
 use Rattle.warg_registry.specs.Folder.{page_found}
 use Rattle.warg_registry.specs.Pruning.{bytes_of, IsPageOf}
-use Rattle.warg_registry.proofs.Pruned.{no_paths, none_named, same_hashes, of_visits}
+use Rattle.warg_registry.proofs.Pruned.{no_paths, none_named, of_visits}
 use Rattle.warg_registry.proofs.source.KeptPages.needed.Goals as goal
 
 pub returns-clause-needed : goal.returns-clause-needed
@@ -23,18 +23,18 @@ returns-clause-needed g c = λ faithful known origin served kept read serves own
       only = of_visits names first.0 second.0 served kept second.2 of_kept.1 of_served.1;
     }
 
-pub returns-then-served-version-clause-needed : goal.returns-then-served-version-clause-needed
-returns-then-served-version-clause-needed g c = λ faithful known origin served kept read serves own.
+pub returns-then-is_map-clause-needed : goal.returns-then-is_map-clause-needed
+returns-then-is_map-clause-needed g c = λ faithful known origin served kept read serves own.
     let names = bytes_of c.add.new.self.names.keys in
     let first = c.in_ok-add.ensures.added [] (no_paths _) (none_named _ c.new-needed.ensures) in
     let read_one = c.in_ok-add.ensures.read faithful known read in
     let pages = page_found (g.F.Folder.seen known.folder) in
     let given = c.in_ok-served.ensures.served faithful known origin served read_one serves in
-    let same_root = same_hashes c.in_ok-served.served.root c.args.root.now (sym c.eq.ensures ∙ c.if-eq.true) in
+    let is = c.is_map.ensures c.if-is_map.true in
     let same : IsOwnSource sha256 pages c.args.root.now c.args.version served = record {
       pages = given.pages;
-      all = given.all ∙ c.if-served-version.true;
-      is_root = sym same_root ∙ given.is_root;
+      all = given.all ∙ is.1;
+      is_root = sym is.0 ∙ given.is_root;
     } in
     let of_kept = first.3 faithful known kept read own in
     let of_served = first.3 faithful known served read same in

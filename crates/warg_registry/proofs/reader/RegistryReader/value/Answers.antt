@@ -1,16 +1,15 @@
 use Rattle.std.proofs.Common.{◌≡◌, ℕ, ◌<◌, ◌≤◌, ◌^◌, List, length, Some, sym, ap, subst, ◌∙◌, arith}
 use Rattle.std.specs.Prelude.{slice_get}
 use Rattle.warg_crypto.specs.Digests.{sha256}
-use Rattle.warg_store.specs.Reading.{Reads, IsShown, checkpoint_said}
+use Rattle.warg_store.specs.Reading.{IsShown, checkpoint_said}
 use Rattle.warg_store.specs.Refusals.{IsNoFault}
 use Rattle.warg_store.specs.declared.error.LogError.TheVariants as LogError
-use Rattle.warg_registry.specs.Folder.{registry_of}
 use Rattle.warg_registry.specs.Insertions.{entries_of}
-use Rattle.warg_registry.specs.Reading.{RegistryRead, IsOfEntry, IsLogged, IsKeyShown, IsKeyIn}
+use Rattle.warg_registry.specs.Reading.{IsOfEntry, IsLogged, IsKeyShown, IsKeyIn}
 use Rattle.warg_registry.proofs.FoundKeys as found
 use Rattle.warg_registry.proofs.HeldEntries.{entry_of_key, held_within}
 use Rattle.warg_registry.proofs.Refused.{ok_then, not_beyond, told_as}
-use Rattle.warg_registry.proofs.reader.RegistryReader.logged.Goals as goal
+use Rattle.warg_registry.proofs.reader.RegistryReader.value.Goals as goal
 
 pub returns-clause-shown : goal.returns-clause-shown
 returns-clause-shown g c =
@@ -27,10 +26,8 @@ returns-clause-own g c = λ faithful.
     let entry = c.as_slice.result.now in
     let peers = c.args.peers.items in
     ok_then (IsOfEntry key c.args.index c.args.leaf.now entry peers) _ c.held.result (λ at is origin insertions has held.
-    let reads = subst (λ (r : RegistryRead g.row.F.Denot). Reads g.F.Folder.seen (registry_of origin insertions) r.log)
-    (sym c.self.view_is) has.reads in
     let there : slice_get (entries_of insertions) c.args.index ≡ Some entry =
-    c.in_ok-entry.ensures.own faithful (registry_of origin insertions) reads
+    c.in_ok-entry.ensures.own faithful origin insertions has
     ∙ ap (λ (e : List ℕ). Some e) (sym c.as_slice.ensures.value) in
     let small : length entry < 2 ^ 64 = omega (
       arith,
@@ -43,10 +40,8 @@ pub returns-clause-whole : goal.returns-clause-whole
 returns-clause-whole g c = λ faithful origin insertions has own held.
     let key = c.args.key.now in
     let entry = c.as_slice.result.now in
-    let reads = subst (λ (r : RegistryRead g.row.F.Denot). Reads g.F.Folder.seen (registry_of origin insertions) r.log)
-    (sym c.self.view_is) has.reads in
     let there : slice_get (entries_of insertions) c.args.index ≡ Some entry =
-    c.in_ok-entry.ensures.own faithful (registry_of origin insertions) reads
+    c.in_ok-entry.ensures.own faithful origin insertions has
     ∙ ap (λ (e : List ℕ). Some e) (sym c.as_slice.ensures.value) in
     let small : length entry < 2 ^ 64 = omega (
       arith,
@@ -58,21 +53,17 @@ returns-clause-whole g c = λ faithful origin insertions has own held.
 
 pub returns-in_err-entry-clause-whole : goal.returns-in_err-entry-clause-whole
 returns-in_err-entry-clause-whole g c = λ faithful origin insertions has own held.
-    let reads = subst (λ (r : RegistryRead g.row.F.Denot). Reads g.F.Folder.seen (registry_of origin insertions) r.log)
-    (sym c.self.view_is) has.reads in
     let within = held_within sha256 insertions c.args.key.now c.args.leaf.now c.args.index held.place held.held in
     told_as (IsNoFault ⊥) c.in_err-entry.field-0.0 c.from_residual.result c.from_residual.ensures.1
     (not_beyond (length (entries_of insertions) ≤ c.args.index) c.in_err-entry.field-0.0 (λ past. omega arith)
-    (c.in_err-entry.ensures.whole faithful (registry_of origin insertions) reads))
+    (c.in_err-entry.ensures.whole faithful origin insertions has))
 
 pub returns-clause-logged : goal.returns-clause-logged
-returns-clause-logged g c =
+returns-clause-logged g c = λ from.
     let key = c.args.key.now in
     let entry = c.as_slice.result.now in
     let peers = c.args.peers.items in
     let checkpoint = checkpoint_said c.args.self.now.log.text in
-    let P : RegistryRead g.row.F.Denot → Type 0 = λ r. IsShown (checkpoint_said r.log.text) c.args.index entry in
-    let included = subst P c.self.view_is (subst (λ (e : List ℕ). IsShown (checkpoint_said c.self.inside.pages.log.text)
-    c.args.index e) (sym c.as_slice.ensures.value) c.in_ok-entry.ensures.shown) in
+    let included = subst (IsShown checkpoint c.args.index) (sym c.as_slice.ensures.value) (c.in_ok-entry.ensures.shown from) in
     ok_then (IsOfEntry key c.args.index c.args.leaf.now entry peers) (IsLogged checkpoint key) c.held.result
     (λ at is. found.logged key c.args.leaf.now entry c.args.index peers checkpoint at included is) c.held.ensures.of_entry
