@@ -161,7 +161,7 @@ def calling(folder):
     known, made = variants([*kit.below(folder.name, kit.crates()), folder.name]), [*calls(folder)]
     of_calls = [(f"`{it}`", says, errors(it, known), asks) for owner, it, says, asks in made if owner != "laws"]
     of_laws = [(f"`laws::{it.removesuffix('()')}`", says) for owner, it, says, _ in made if owner == "laws"]
-    text = with_table((folder / "CALLING.md").read_text(), ["call", "what it returns or says", "errors", "needs"], of_calls)
+    text = with_table((folder / "CALLING.md").read_text(), ["call", "what it returns or says", "cases of its error", "needs"], of_calls)
     text = with_table(text, ["law", "what it says"], of_laws)
     return text if made else with_table(text, ["path", "is of"], handed_on(folder))
 
