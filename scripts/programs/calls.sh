@@ -215,8 +215,7 @@ killed_at_random() {
         rm -rf log
         cp -r start log
         started log "$whole"
-        kill -9 $! 2> /dev/null
-        wait $! 2> /dev/null
+        { kill -9 $!; wait $!; } 2> /dev/null
         [ $? != 137 ] || killed=$((killed + 1))
         go_on log > found
         grep -qx 'stood\|gone' found || cat found
