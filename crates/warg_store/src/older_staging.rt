@@ -2,12 +2,9 @@
 //! to be read, and is tested.
 
 use crate::places::STAGED_FOLDER;
-use crate::system::SystemFolder;
+use crate::system::{NO_NAME, SystemFolder};
 use std::io::ErrorKind;
 use std::{fs, io};
-
-// What no name begins with.
-const NO_NAME: &str = "/";
 
 impl SystemFolder<'_> {
     /// Moves each file that is staged in a folder of its own, and removes these folders, the deepest first.

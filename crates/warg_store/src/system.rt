@@ -5,6 +5,7 @@ ghost use Rattle.warg_store.specs.Files.{Files};
 ghost use Rattle.warg_store.specs.System.{nothing, OnlyNothing, NothingSince, nothing_stays, nothing_counts, nothing_now};
 
 use crate::device::{Folder, FolderError};
+use crate::names::MARK;
 use crate::places::{STAGED_FOLDER, folder_of, joined, name_at, place_of};
 use std::alloc::{AllocError, Global};
 use std::cell::Cell;
@@ -43,6 +44,9 @@ pub struct SystemFolder<'a> {
 
 // The name under which a file is written before it takes another one's place.
 const REPLACING: &str = ".log/replacing";
+
+/// What no name begins with.
+pub(crate) const NO_NAME: &str = "/";
 
 // Where a commit puts its files.
 const SERVED: [&str; 2] = ["tile", "map"];
@@ -259,7 +263,9 @@ impl<'a> SystemFolder<'a> {
             self.force(".log")?;
         }
         self.move_older()?;
-        if self.force_below(STAGED_FOLDER)? {
+        self.force_below(STAGED_FOLDER)?;
+        // Only a commit that stands has moved files to where they are served.
+        if !matches!(self.has_file(MARK), Ok(false)) {
             for folder in SERVED {
                 self.force_below(folder)?;
             }
@@ -268,10 +274,9 @@ impl<'a> SystemFolder<'a> {
         Ok(())
     }
 
-    // Forces a folder and those below it. Returns whether there is a file in one of them.
-    fn force_below(&self, folder: &str) -> io::Result<bool> {
+    // Forces a folder and those below it.
+    fn force_below(&self, folder: &str) -> io::Result<()> {
         let alloc = self.rt.alloc();
-        let mut has_files = false;
         let mut folders = Vec::new(alloc);
         if self.has_folders(folder)? {
             folders.push(String::from_str(alloc, folder)?)?;
@@ -280,12 +285,10 @@ impl<'a> SystemFolder<'a> {
             let Some(folder) = folders.pop() else {
                 break;
             };
-            let mut names = Vec::new(alloc);
-            self.add_entries(&mut names, &mut folders, folder.as_str(), "")?;
+            self.add_entries(&mut Vec::new(alloc), &mut folders, folder.as_str(), NO_NAME)?;
             self.force(folder.as_str())?;
-            has_files = has_files || !names.is_empty();
         }
-        Ok(has_files)
+        Ok(())
     }
 
     // Puts the file in which the next bytes stand at a name.
