@@ -1,13 +1,12 @@
 -- A lone key below a slot of a page.
-use Rattle.std.proofs.Common.{◌≡◌, ℕ, ◌+◌, ◌-◌, ◌*◌, ◌<◌, Bool, cond, List, [], ◌∷◌, ◌++◌, length, take, Option, Some, None, refl, sym, ap, ◌∙◌, arith}
+use Rattle.std.proofs.Common.{◌≡◌, ℕ, ◌+◌, ◌-◌, ◌*◌, ◌<◌, Bool, cond, List, [], ◌∷◌, ◌++◌, length, take, Option, Some, None, sym, ap, ◌∙◌, arith}
 use Rattle.std.proofs.lemmas.Bool.{false_from_ne_true}
 use Rattle.std.proofs.lemmas.List.{append_cancel_left}
 use Rattle.std.specs.Prelude.{unwrap_or}
 use Rattle.std.specs.Option.{option_map}
 use Rattle.warg_crypto.specs.Digests.{IsDigest}
 use Rattle.warg_crypto.specs.EmptyTrees.{empty_root}
-use Rattle.warg_map.specs.Bits.{bits_from, last_bits}
-use Rattle.warg_map.specs.Last.{same_bits}
+use Rattle.warg_map.specs.Bits.{last_bits}
 use Rattle.warg_map.specs.Sparse.{root_of_levels}
 use Rattle.warg_map.proofs.ForCallers.{same_bits-true, same_bits-itself}
 use Rattle.warg_pages.specs.Prefixes.{bits_of_bytes}

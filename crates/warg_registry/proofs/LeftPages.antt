@@ -1,11 +1,11 @@
 -- The pages that pruning leaves.
-use Rattle.std.proofs.Common.{◌≡◌, ⊎_elim, ◌⊎◌, ℕ, ◌<◌, Bool, true, false, ◌||◌, List, length, map, None, refl, sym, ap, subst, ◌∙◌, string_bytes}
+use Rattle.std.proofs.Common.{◌≡◌, ⊎_elim, ◌⊎◌, ℕ, Bool, true, false, ◌||◌, List, None, refl, sym, ap, subst, ◌∙◌, string_bytes}
 use Rattle.std.specs.Prelude.{IsSome}
 use Rattle.std.specs.List.{All, Contains}
 use Rattle.std.specs.declared.alloc.Global.{Global}
 use Rattle.std.specs.declared.string.String.{String}
 use Rattle.warg_store.specs.Files.{Files}
-use Rattle.warg_store.specs.Names.{is_tile, is_page, is_served}
+use Rattle.warg_store.specs.Names.{is_tile, is_page}
 use Rattle.warg_store.specs.Pruned.{IsPruned, IsWithoutPages}
 use Rattle.warg_registry.specs.Pruning.{bytes_of}
 use Rattle.warg_registry.proofs.Listed.{of_mapped}

@@ -1,5 +1,5 @@
 -- A registry's entries, one after the other, beside the pages of its map.
-use Rattle.std.proofs.Common.{◌≡◌, ℕ, ◌+◌, ◌≤◌, Bool, true, false, cond, not, ◌&&◌, eqb, List, [], ◌∷◌, ◌++◌, length, refl, sym, ap, subst, ◌∙◌, arith}
+use Rattle.std.proofs.Common.{◌≡◌, ℕ, ◌+◌, Bool, true, false, cond, not, ◌&&◌, eqb, List, [], ◌∷◌, ◌++◌, length, refl, sym, ap, subst, ◌∙◌, arith}
 use Rattle.std.proofs.lemmas.Bool.{and_parts}
 use Rattle.std.proofs.lemmas.Bool.Decides.{Decides-eqb}
 use Rattle.std.proofs.lemmas.List.{length-map, map-append}
@@ -9,7 +9,7 @@ use Rattle.warg_crypto.specs.Tree.{leaf_digest}
 use Rattle.warg_log.specs.Blocks.{Blocks, StandsFor}
 use Rattle.warg_log.specs.Claims.{RootAndLength}
 use Rattle.warg_log.specs.Tree.{leaves_of, root_of}
-use Rattle.warg_pages.specs.Audits.{IsInPages, AreInPages, count_last}
+use Rattle.warg_pages.specs.Audits.{IsInPages, AreInPages}
 use Rattle.warg_pages.specs.ChangedPages.{ChangedPageAt}
 use Rattle.warg_pages.specs.Visits.{IsAllowed, lone_slots}
 use Rattle.warg_pages.proofs.ForCallers.{audited, AreInPages-push, count_last-push, length_versions}

@@ -1,12 +1,11 @@
-use Rattle.std.proofs.Common.{◌≡◌, ◌∙◌, ◌+◌, ◌-◌, ◌<◌, ◌++◌, [], ◌∷◌, List, ℕ, suc, Some, None, length, drop, get_or, refl, sym, ap, subst, arith, add-one, append_assoc, length-append}
+use Rattle.std.proofs.Common.{◌≡◌, ◌∙◌, ◌+◌, ◌-◌, ◌<◌, ◌++◌, [], ◌∷◌, List, ℕ, Some, None, length, drop, refl, sym, ap, subst, arith, add-one, append_assoc, length-append}
 use Rattle.std.proofs.lemmas.List.{append-nil}
 use Rattle.std.proofs.lemmas.Result.{on_ok_weaker}
 use Rattle.std.proofs.Math.ListN.{drop_of_length-le}
 use Rattle.std.proofs.Math.Seq.{drop-cons}
-use Rattle.warg_pages.specs.Slots.{SlotAt, page_of}
-use Rattle.warg_pages.specs.Prefixes.{bits_of_bytes}
+use Rattle.warg_pages.specs.Slots.{SlotAt}
 use Rattle.warg_pages.specs.ChangedPages.{ChangedPageAt}
-use Rattle.warg_pages.specs.Visits.{AreFromWhere, AreOfSlot, AreOfSlots, IsAllowed, IsLoneShown}
+use Rattle.warg_pages.specs.Visits.{AreFromWhere, AreOfSlots, IsAllowed, IsLoneShown}
 use Rattle.warg_pages.proofs.HashEquality.{same_hashes, other_hashes}
 use Rattle.warg_pages.proofs.Refused.{way_refused, source_refused, of_source, if_err}
 use Rattle.warg_pages.proofs.VisitedPages.{slots_more, no_slots, page_from, own_refused, own_page, own_digest, own_end, own_slot, own_below, own_lone}

@@ -1,4 +1,4 @@
-use Rattle.std.proofs.Common.{◌≡◌, true, None, List, ℕ, sym, ap, subst, string_bytes}
+use Rattle.std.proofs.Common.{◌≡◌, true, None, List, sym, subst, string_bytes}
 use Rattle.std.specs.List.{All}
 use Rattle.std.specs.declared.alloc.Global.{Global}
 use Rattle.std.specs.declared.string.String.{String}

@@ -1,4 +1,4 @@
-use Rattle.std.proofs.Common.{List, ℕ, ◌++◌, sym, subst, ap, inl, ◌∙◌}
+use Rattle.std.proofs.Common.{List, ◌++◌, sym, subst, ap, inl, ◌∙◌}
 use Rattle.std.proofs.lemmas.List.{append-nil, nil_from_length}
 use Rattle.std.specs.List.{Contains}
 use Rattle.std.specs.Vec.Iter.{into_iter_items}

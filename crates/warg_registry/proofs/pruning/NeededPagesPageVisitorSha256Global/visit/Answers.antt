@@ -1,4 +1,4 @@
-use Rattle.std.proofs.Common.{◌≡◌, ⊎_elim, ◌++◌, [], ◌∷◌, List, ℕ, inl, inr, sym, ap, subst, ◌∙◌}
+use Rattle.std.proofs.Common.{⊎_elim, [], ◌∷◌, List, inl, inr, sym, ap, subst, ◌∙◌}
 use Rattle.std.proofs.lemmas.List.Elements.{Contains-append_cases, Contains-append_left, Contains-append_right}
 use Rattle.std.specs.List.{Contains}
 use Rattle.std.specs.declared.alloc.Global.{Global}

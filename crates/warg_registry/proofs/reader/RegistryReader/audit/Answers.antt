@@ -1,4 +1,4 @@
-use Rattle.std.proofs.Common.{◌≡◌, ℕ, sym, ap, subst, ◌∙◌}
+use Rattle.std.proofs.Common.{ℕ, sym, ap, subst}
 use Rattle.warg_store.specs.Files.{Files}
 use Rattle.warg_tiles.specs.CheckpointText.{Said}
 use Rattle.warg_registry.specs.Auditing.{AreAllInFiles}

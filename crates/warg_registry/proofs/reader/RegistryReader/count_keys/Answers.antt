@@ -1,4 +1,4 @@
-use Rattle.std.proofs.Common.{◌≡◌, true, false, true≢false, List, ℕ, [], refl, sym, ap, subst, ◌∙◌}
+use Rattle.std.proofs.Common.{◌≡◌, true, false, true≢false, ℕ, [], refl, sym, ap, subst, ◌∙◌}
 use Rattle.warg_log.specs.Claims.{RootAndLength}
 use Rattle.warg_store.specs.Moments.{IsRead}
 use Rattle.warg_store.specs.Reading.{ServedIn}

@@ -1,5 +1,4 @@
 use Rattle.std.proofs.Common.{◌≡◌, refl, sym, ap, ◌∙◌, arith}
-use Rattle.warg_store.specs.Reading.{ServedIn}
 use Rattle.warg_store.proofs.ForCallers.{read_is, read_then}
 use Rattle.warg_tiles.specs.CheckpointText.{Said}
 use Rattle.warg_registry.proofs.Replaying.{none_replayed, replayed_at}

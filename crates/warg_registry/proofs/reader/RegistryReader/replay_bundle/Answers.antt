@@ -1,5 +1,4 @@
 use Rattle.std.proofs.Common.{◌≡◌, sym, ap, ◌∙◌}
-use Rattle.warg_store.specs.Reading.{ServedIn}
 use Rattle.warg_store.proofs.ForCallers.{read_then}
 use Rattle.warg_tiles.specs.CheckpointText.{Said}
 use Rattle.warg_registry.proofs.Replaying.{replayed_at}

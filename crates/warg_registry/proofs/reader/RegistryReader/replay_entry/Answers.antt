@@ -1,4 +1,4 @@
-use Rattle.std.proofs.Common.{◌≡◌, ◌+◌, ◌++◌, [], ◌∷◌, ℕ, List, Bool, cond, sym, ap, subst, ◌∙◌, arith}
+use Rattle.std.proofs.Common.{◌≡◌, ◌+◌, ◌++◌, [], ◌∷◌, ℕ, List, cond, sym, ap, subst, ◌∙◌, arith}
 use Rattle.warg_crypto.specs.Digests.{sha256}
 use Rattle.warg_crypto.specs.Tree.{leaf_digest}
 use Rattle.warg_log.specs.Blocks.{StandsFor}

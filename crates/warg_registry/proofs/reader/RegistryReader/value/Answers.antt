@@ -3,9 +3,8 @@ use Rattle.std.specs.Prelude.{slice_get}
 use Rattle.warg_crypto.specs.Digests.{sha256}
 use Rattle.warg_store.specs.Reading.{IsShown, checkpoint_said}
 use Rattle.warg_store.specs.Refusals.{IsNoFault}
-use Rattle.warg_store.specs.declared.error.LogError.TheVariants as LogError
 use Rattle.warg_registry.specs.Insertions.{entries_of}
-use Rattle.warg_registry.specs.Reading.{IsOfEntry, IsLogged, IsKeyShown, IsKeyIn}
+use Rattle.warg_registry.specs.Reading.{IsOfEntry, IsLogged}
 use Rattle.warg_registry.proofs.FoundKeys as found
 use Rattle.warg_registry.proofs.HeldEntries.{entry_of_key, held_within}
 use Rattle.warg_registry.proofs.Refused.{ok_then, not_beyond, told_as}

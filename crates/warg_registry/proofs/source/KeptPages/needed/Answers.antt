@@ -1,4 +1,4 @@
-use Rattle.std.proofs.Common.{◌≡◌, [], subst, sym, inr, ◌∙◌}
+use Rattle.std.proofs.Common.{[], subst, sym, inr, ◌∙◌}
 use Rattle.std.proofs.lemmas.List.Elements.{Contains-append_left}
 use Rattle.warg_crypto.specs.Digests.{sha256}
 use Rattle.warg_pages.specs.ProvedKeys.{IsOwnSource}
