@@ -12,6 +12,7 @@ use Rattle.warg_pages.specs.ChangedPages.{ChangedPageAt, page_at, ChangesAt, Are
 use Rattle.warg_pages.specs.OwnPages.{stands, AreOwnPages}
 use Rattle.warg_pages.specs.PageBytes.{page_bytes}
 use Rattle.warg_pages.specs.Prefixes.{bits_of_bytes, version}
+use Rattle.warg_pages.specs.ProvedKeys.{IsOwnSource}
 use Rattle.warg_pages.specs.Slots.{numbers, page_of}
 use Rattle.warg_pages.proofs.ForCallers.{one_path_below, page_is_short, page_has_insertion, version_within, unchanged_page}
 use Rattle.warg_log.specs.Tree.{root_of, leaves_of}
@@ -184,3 +185,14 @@ pub read_files : (origin : List ℕ) (insertions : List (List ℕ × List ℕ)) 
     → HasFiles (registry_of origin insertions) files → AreOwnPages sha256 (page_read files) insertions
 read_files origin insertions files has = λ prefix bytes short there.
     ap (λ (o : Option (List ℕ)). Some (unwrap_or o (0 ∷ []))) (own_files origin insertions files has prefix bytes short there)
+
+-- So whoever reads the checkpoint and the map's root of them has a source of the insertions' pages.
+pub read_source : (origin : List ℕ) (insertions : List (List ℕ × List ℕ)) (files : Files) (root : List ℕ) (count : ℕ)
+    (said : Said) → HasFiles (registry_of origin insertions) files → said ≡ log.said_of (registry_of origin insertions)
+    → count ≡ said.length → root ≡ sparse_root sha256 256 (map_of sha256 insertions)
+    → IsOwnSource sha256 (page_read files) root count insertions
+read_source origin insertions files root count said has is counts is_root = record {
+  pages = read_files origin insertions files has;
+  all = sym (counts ∙ ap (λ (t : Said). t.length) is ∙ length-map insertions entry_of);
+  is_root = is_root;
+}

@@ -1,16 +1,11 @@
-use Rattle.std.proofs.Common.{◌≡◌, true, false, true≢false, length, refl, sym, ap, subst, ◌∙◌}
-use Rattle.std.proofs.lemmas.List.{length-map}
-use Rattle.warg_crypto.specs.Digests.{sha256}
-use Rattle.warg_pages.specs.ProvedKeys.{IsOwnSource}
+use Rattle.std.proofs.Common.{true, false, true≢false, refl, sym, ap, subst, ◌∙◌}
 use Rattle.warg_log.specs.Claims.{RootAndLength}
-use Rattle.warg_tiles.specs.CheckpointText.{Said}
 use Rattle.warg_store.specs.Reading.{ServedIn}
 use Rattle.warg_store.proofs.ForCallers.{read_is, reads_read}
-use Rattle.warg_registry.specs.Folder.{registry_of, page_read}
-use Rattle.warg_registry.specs.Insertions.{entry_of}
+use Rattle.warg_registry.specs.Folder.{registry_of}
 use Rattle.warg_registry.specs.Reading.{RegistryRead, ReadsRegistry}
 use Rattle.warg_registry.proofs.Refused.{not_of_pages}
-use Rattle.warg_registry.proofs.RegistryPages.{read_files}
+use Rattle.warg_registry.proofs.RegistryPages.{read_source}
 use Rattle.warg_registry.proofs.reader.RegistryReader.prove.Goals.{in-Ok, in-Err}
 use Rattle.warg_registry.proofs.reader.RegistryReader.prove.Goals as goal
 
@@ -21,15 +16,9 @@ returns-clause-own g c = λ faithful. elim c.match-prove_by_pages.branch [
       let log = c.self.inside.pages.log in
       let inside = subst (λ (r : RegistryRead g.row.F.Denot). ReadsRegistry dev.seen origin insertions r)
       (sym c.self.view_is) has in
-      let said : c.length-version.result ≡ length insertions = c.length-version.ensures
-      ∙ ap (λ (k : RootAndLength). k.length) c.checkpoint.ensures ∙ ap (λ (t : Said). t.length) has.reads.text
-      ∙ length-map insertions entry_of in
-      let own : IsOwnSource sha256 (page_read (dev.seen log.folder)) c.self.inside.root c.length-version.result
-      insertions = record {
-        pages = read_files origin insertions (dev.seen log.folder) inside.reads.files;
-        all = sym said;
-        is_root = inside.is_root;
-      } in
+      let own = read_source origin insertions (dev.seen log.folder) c.self.inside.root c.length-version.result _
+      inside.reads.files has.reads.text
+      (c.length-version.ensures ∙ ap (λ (k : RootAndLength). k.length) c.checkpoint.ensures) inside.is_root in
       w.in-Ok.ensures.own (log, true) insertions
       (refl, λ e. (faithful, read_is dev.seen dev.may_leave dev.moment dev.left_since log.folder)) own)
   | in-Err w ↦ rw w.result-is tt
@@ -43,15 +32,9 @@ returns-clause-whole g c = λ faithful. elim c.match-prove_by_pages.branch [
       let log = c.self.inside.pages.log in
       let inside = subst (λ (r : RegistryRead g.row.F.Denot). ReadsRegistry dev.seen origin insertions r)
       (sym c.self.view_is) has in
-      let said : c.length-version.result ≡ length insertions = c.length-version.ensures
-      ∙ ap (λ (k : RootAndLength). k.length) c.checkpoint.ensures ∙ ap (λ (t : Said). t.length) has.reads.text
-      ∙ length-map insertions entry_of in
-      let own : IsOwnSource sha256 (page_read (dev.seen log.folder)) c.self.inside.root c.length-version.result
-      insertions = record {
-        pages = read_files origin insertions (dev.seen log.folder) inside.reads.files;
-        all = sym said;
-        is_root = inside.is_root;
-      } in
+      let own = read_source origin insertions (dev.seen log.folder) c.self.inside.root c.length-version.result _
+      inside.reads.files has.reads.text
+      (c.length-version.ensures ∙ ap (λ (k : RootAndLength). k.length) c.checkpoint.ensures) inside.is_root in
       w.refusal.ensures (not_of_pages _ w.in-Err.error (λ refused. refused (log, true) insertions
       (refl, λ e. (faithful, read_is dev.seen dev.may_leave dev.moment dev.left_since log.folder)) own)
       w.in-Err.ensures.refused))
