@@ -88,8 +88,8 @@ class Crate:
 
     def build(self, *more):
         """Proves the crate and builds it. The verdict has to rest on no more than it may."""
-        # Of a crate with wrong bodies, the script that tries these looks for empty contracts, over the work that is kept.
-        looks = [] if self.is_named or (self.folder / "wrong-bodies").is_dir() else ["--empty-contracts"]
+        # Of a library with wrong bodies, the script that tries these looks for empty contracts, over the work that is kept.
+        looks = [] if self.is_named or (self.folder / "wrong-bodies").is_dir() and not self.is_program else ["--empty-contracts"]
         words = [kit.RATTLE, "build", *kit.words(self.name, self.libraries), "--jobs", "1", "--links", f"{self.name}="]
         said = self.done("proof", [*words, *looks, *self.kept, *self.cpu, *more])
         if kit.EMPTY.search(said):

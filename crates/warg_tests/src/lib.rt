@@ -1,29 +1,15 @@
-//! What the vectors can't say of maps, registries, witnesses and the program: types compared and hashed, texts of
+//! What the vectors can't say of maps, witnesses and the program: types compared and hashed, texts of
 //! faults, readers and writers that fail, calls that do not allocate, and what stands after a refusal.
 #![tactic(auto)]
 
 #[cfg(test)]
 mod claims;
 #[cfg(test)]
-mod crashes;
-#[cfg(test)]
 mod faults;
-#[cfg(test)]
-mod log_folder;
-#[cfg(test)]
-mod log_moments;
 #[cfg(test)]
 mod map;
 #[cfg(test)]
-mod pages;
-#[cfg(test)]
 mod program;
-#[cfg(test)]
-mod registry;
-#[cfg(test)]
-mod registry_folder;
-#[cfg(test)]
-mod registry_refused;
 #[cfg(test)]
 mod text;
 #[cfg(test)]
