@@ -30,13 +30,13 @@ use Rattle.warg_store.specs.Log.{Serves}
 use Rattle.warg_store.specs.Log as log
 use Rattle.warg_store.specs.Names.{page_name}
 use Rattle.warg_store.specs.Pruned.{IsNoneOf}
-use Rattle.warg_registry.specs.Folder.{pages_of, page_found, registry_of}
+use Rattle.warg_registry.specs.Folder.{pages_of, page_read, registry_of}
 use Rattle.warg_registry.specs.Insertions.{entry_of}
 use Rattle.warg_registry.specs.Registry.{line_of}
 use Rattle.warg_registry.specs.Pruning.{bytes_of, ArePathsOf, AreOnlyPathsOf, HaveAllPages, IsPageOf, AreNone, AreAmong}
 use Rattle.warg_registry.proofs.MapLines.{one_root, map_digest}
 use Rattle.warg_registry.proofs.Listed.{none_there, of_one, first_there, later_there, there_cases}
-use Rattle.warg_registry.proofs.RegistryPages.{page_of_list, own_files}
+use Rattle.warg_registry.proofs.RegistryPages.{page_of_list, read_files}
 
 -- a set has what it had, and what was put in
 pub name_there : (cmp : String Global → String Global → Ordering)
@@ -157,23 +157,23 @@ pushed_none names others after s e none new = λ n is there.
 pub all_named : (IsLone : List ℕ → SlotAt → List ℕ × List ℕ → Type 0)
     (seen : Files) (tells_all : Type 0) (root : List ℕ) (count : ℕ) (es : List (List ℕ × List ℕ))
     (pages : List ChangedPageAt) (names : List (List ℕ)) → count < 2 ^ 64
-    → IsOwnSource sha256 (page_found seen) root count es
-    → AreAllPagesWhere sha256 IsLone (IsAllowed (page_found seen) tells_all) root count pages → ArePathsOf names pages
+    → IsOwnSource sha256 (page_read seen) root count es
+    → AreAllPagesWhere sha256 IsLone (IsAllowed (page_read seen) tells_all) root count pages → ArePathsOf names pages
     → HaveAllPages names es
 all_named IsLone seen T root count es pages names fits own all named = λ f there.
     let found = page_of_list es f there in
-    let at = own_visit sha256 IsLone (page_found seen) T root count es pages found.0 IsDigest-sha256 fits own all
+    let at = own_visit sha256 IsLone (page_read seen) T root count es pages found.0 IsDigest-sha256 fits own all
     found.1.are_bytes found.1.short found.1.is_there in
     subst (λ (g : File). Contains names (page_name g.0)) found.2 (named (page_at sha256 es found.0) at)
 
 -- and what was visited is one of them
 pub own_named : (IsLone : List ℕ → SlotAt → List ℕ × List ℕ → Type 0)
     (seen : Files) (tells_all : Type 0) (root : List ℕ) (count : ℕ) (es : List (List ℕ × List ℕ))
-    (pages : List ChangedPageAt) → count < 2 ^ 64 → IsOwnSource sha256 (page_found seen) root count es
-    → AreAllPagesWhere sha256 IsLone (IsAllowed (page_found seen) tells_all) root count pages → (p : ChangedPageAt)
+    (pages : List ChangedPageAt) → count < 2 ^ 64 → IsOwnSource sha256 (page_read seen) root count es
+    → AreAllPagesWhere sha256 IsLone (IsAllowed (page_read seen) tells_all) root count pages → (p : ChangedPageAt)
     → Contains pages p → IsPageOf es (page_path p.prefix p.version)
 own_named IsLone seen T root count es pages fits own all p there =
-    let at = visit_own sha256 IsLone (page_found seen) T root count es pages IsDigest-sha256 fits own all p there in
+    let at = visit_own sha256 IsLone (page_read seen) T root count es pages IsDigest-sha256 fits own all p there in
     (p.prefix, at.0, ap (page_path p.prefix) (sym at.1))
 
 -- names of visited pages, one list after the other, are those of needed ones
@@ -206,10 +206,10 @@ none_of names others es none all = λ n is f there same. none n is (subst (Conta
 pub served_source : (origin : List ℕ) (served : List (List ℕ × List ℕ)) (files : Files) (root : List ℕ) (count : ℕ)
     (said : Said) → Serves (registry_of origin served) files → said ≡ log.said_of (registry_of origin served)
     → IsDigest root → said.extensions ≡ line_of root ∷ [] → count ≡ said.length
-    → IsOwnSource sha256 (page_found files) root count served
+    → IsOwnSource sha256 (page_read files) root count served
 served_source origin served files root count said serves is digest lines counts =
     let map_root = sparse_root sha256 256 (map_of sha256 served) in record {
-      pages = own_files origin served files serves.holds;
+      pages = read_files origin served files serves.holds;
       all = sym (counts ∙ ap (λ (t : Said). t.length) is ∙ length-map served entry_of);
       is_root = one_root root map_root digest (map_digest (map_of sha256 served))
           (sym lines ∙ ap (λ (t : Said). t.extensions) is);

@@ -10,17 +10,17 @@ use Rattle.warg_store.specs.Growing.{LogIn, Has, HasNext}
 use Rattle.warg_store.specs.Log.{LogOf}
 use Rattle.warg_store.proofs.ForCallers.{has_read}
 use Rattle.warg_registry.specs.Insertions.{entry_of, entries_of}
-use Rattle.warg_registry.specs.Folder.{registry_of, page_found, RegistryIn, HasRegistry, IsLogRead, with_entries, files_of, AreFresh, IsNextLog}
-use Rattle.warg_registry.proofs.RegistryPages.{own_files}
+use Rattle.warg_registry.specs.Folder.{registry_of, page_read, RegistryIn, HasRegistry, IsLogRead, with_entries, files_of, AreFresh, IsNextLog}
+use Rattle.warg_registry.proofs.RegistryPages.{read_files}
 use Rattle.warg_registry.proofs.RegistryGrowth.{files_fresh, next_log, served_older}
 
 module _ {F : Type 0} (seen : F → Files) (may_leave : F → Files → Type 0) (moment : F → ℕ)
     (left_since : F → ℕ → Files → Type 0) (origin : List ℕ) (served kept more : List (List ℕ × List ℕ))
     (old : RegistryIn F) (has : HasRegistry seen may_leave origin served kept old) where
   -- what the folder has are the pages of the insertions
-  pub own_pages : IsOwnSource sha256 (page_found (seen old.log.folder)) old.root old.count kept
+  pub own_pages : IsOwnSource sha256 (page_read (seen old.log.folder)) old.root old.count kept
   own_pages = record {
-    pages = own_files origin kept (seen old.log.folder) has.log.keeps.holds;
+    pages = read_files origin kept (seen old.log.folder) has.log.keeps.holds;
     all = sym has.count;
     is_root = has.root;
   }

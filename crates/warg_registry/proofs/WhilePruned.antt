@@ -13,7 +13,7 @@ use Rattle.warg_store.specs.Moments.{LeavesOnly}
 use Rattle.warg_store.specs.Names.{is_page}
 use Rattle.warg_store.specs.Pruned.{IsNoneOf, ArePagesNotOf, IsPruned, IsWithoutPages}
 use Rattle.warg_store.proofs.ForCallers.{read_is, leaves_then}
-use Rattle.warg_registry.specs.Folder.{registry_of, pages_of, page_found, RegistryIn, HasRegistry, IsLogRead}
+use Rattle.warg_registry.specs.Folder.{registry_of, pages_of, page_read, RegistryIn, HasRegistry, IsLogRead}
 use Rattle.warg_registry.specs.Pruning.{bytes_of, IsPageOf}
 use Rattle.warg_registry.proofs.FolderMoments.{one_read}
 use Rattle.warg_registry.proofs.LeftPages.{left}
@@ -44,7 +44,7 @@ module _ {F : Type 0} (seen : F → Files) (may_leave : F → Files → Type 0) 
   abbrev OfPages : (LogIn F → List (List ℕ × List ℕ) → List (List ℕ × List ℕ) → Type 0) → Type 0
   OfPages Said = (known : LogIn F) (at : List ℕ) (these those : List (List ℕ × List ℕ))
       → IsLogRead seen may_leave moment left_since known r.log → Serves (registry_of at these) (seen known.folder)
-      → IsOwnSource sha256 (page_found (seen known.folder)) r.root r.count those → Said known these those
+      → IsOwnSource sha256 (page_read (seen known.folder)) r.root r.count those → Said known these those
 
   -- a page that is there is one of these names', or is needed
   abbrev AreAll : List (List ℕ) → LogIn F → List (List ℕ × List ℕ) → List (List ℕ × List ℕ) → Type 0
@@ -83,7 +83,7 @@ module _ {F : Type 0} (seen : F → Files) (may_leave : F → Files → Type 0) 
         (spare r.log origin served kept is_read has.log.keeps.serves own);
   }
     where
-      own : IsOwnSource sha256 (page_found (seen r.log.folder)) r.root r.count kept
+      own : IsOwnSource sha256 (page_read (seen r.log.folder)) r.root r.count kept
       own = own_pages seen may_leave moment left_since origin served kept [] r has
 
       while_read : RunsFrom r.log mid

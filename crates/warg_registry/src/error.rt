@@ -1,6 +1,6 @@
 //! Why bytes are read as no insertion, a text as none of a registry, and a call on a registry's folder is refused.
 
-ghost use Rattle.warg_pages.specs.Refusals.{IsMemoryUnless};
+ghost use Rattle.warg_pages.specs.Refusals.{IsMemoryUnless, IsOfSourceUnless};
 ghost use Rattle.warg_store.specs.Refusals.{IsNoFault};
 
 use std::alloc::{AllocError, AllocFailed, Global};
@@ -78,18 +78,37 @@ impl From<LogError> for PublishError {
 }
 
 impl From<AllocError> for PublishError {
+    ghost use Rattle.std.specs.Prelude.{◌≡◌};
+    ghost use Rattle.warg_store.specs.declared.device.FolderError.TheVariants.{Memory};
+    ghost use Rattle.warg_store.specs.declared.error.LogError.TheVariants.{Folder};
+    ghost use Rattle.warg_registry.specs.declared.error.PublishError.TheVariants.{Log};
+
+    ghost from_gives = { λ _ error. error ≡ Log (Folder Memory) };
+
     fn from(_error: AllocError) -> Self {
         PublishError::Log(LogError::Folder(FolderError::Memory))
     }
 }
 
 impl<T: Drop> From<AllocFailed<T>> for PublishError {
+    ghost use Rattle.std.specs.Prelude.{◌≡◌};
+    ghost use Rattle.warg_store.specs.declared.device.FolderError.TheVariants.{Memory};
+    ghost use Rattle.warg_store.specs.declared.error.LogError.TheVariants.{Folder};
+    ghost use Rattle.warg_registry.specs.declared.error.PublishError.TheVariants.{Log};
+
+    ghost from_gives = { λ _ error. error ≡ Log (Folder Memory) };
+
     fn from(_error: AllocFailed<T>) -> Self {
         PublishError::Log(LogError::Folder(FolderError::Memory))
     }
 }
 
 impl From<PushError> for PublishError {
+    ghost use Rattle.std.specs.Prelude.{◌≡◌};
+    ghost use Rattle.warg_registry.specs.Publishing.{of_push};
+
+    ghost from_gives = { λ cause error. error ≡ of_push cause };
+
     fn from(cause: PushError) -> Self {
         match cause {
             PushError::TooLong => PublishError::TooLong,
@@ -101,6 +120,11 @@ impl From<PushError> for PublishError {
 }
 
 impl From<CommitError> for PublishError {
+    ghost use Rattle.std.specs.Prelude.{◌≡◌};
+    ghost use Rattle.warg_registry.specs.Publishing.{of_commit};
+
+    ghost from_gives = { λ cause error. error ≡ of_commit cause };
+
     fn from(cause: CommitError) -> Self {
         match cause {
             CommitError::Memory => PublishError::Log(LogError::Folder(FolderError::Memory)),
@@ -119,10 +143,18 @@ pub(crate) fn damaged(alloc: Global, name: &str, fault: &'static str) -> LogErro
     }
 }
 
-/// Why pages lead to nothing, where this one was read last.
-pub(crate) fn of_way(alloc: Global, last: &str, error: ProveError<LogError>) -> LogError {
+/// Why pages lead to nothing, where this one was read last, and may be missing.
+pub(crate) fn of_source(
+    alloc: Global,
+    last: &str,
+    is_missing: bool,
+    error: ProveError<FolderError>,
+) -> LogError
+    ensures { IsOfSourceUnless ⊥ error → IsNoFault ⊥ result }
+{
     match error {
-        ProveError::Pages(error) => error,
+        ProveError::Pages(error) => LogError::Folder(error),
+        ProveError::Way(WayError::BadPage) if is_missing => damaged(alloc, last, "is missing"),
         ProveError::Way(error) => of_pages(alloc, last, error),
     }
 }

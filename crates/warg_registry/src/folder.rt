@@ -8,16 +8,17 @@ ghost use Rattle.warg_pages.specs.ChangedPages.{AreChangedPages};
 ghost use Rattle.warg_pages.specs.ProvedKeys.{IsOwnSource};
 ghost use Rattle.warg_tiles.specs.CheckpointText.{IsLine};
 ghost use Rattle.warg_store.specs.Growing.{LogIn, IsReady, Has, HasNext, IsFresh, with_page};
-ghost use Rattle.warg_store.specs.Log.{LogOf, HasLog, IsOneOf, IsCommitting};
+ghost use Rattle.warg_store.specs.Log.{LogOf, HasLog, IsOneOf, IsCommitting, AreShort, CanBeKept};
 ghost use Rattle.warg_store.specs.Moments.{LeavesOnly};
 ghost use Rattle.warg_store.specs.Names.{is_page};
 ghost use Rattle.warg_store.specs.Opening.{IsBeside, IsOpening, opened};
 ghost use Rattle.warg_registry.specs.Insertions.{entries_of, entry_of};
+ghost use Rattle.warg_registry.specs.Publishing.{IsRefusedFor, of_push};
 ghost use Rattle.warg_registry.specs.Pruning.{IsPageOf};
 ghost use Rattle.warg_registry.specs.Registry.{line_of};
-ghost use Rattle.warg_registry.specs.Folder.{registry_of, page_found, HasRegistry, IsLogRead, IsNoFault, with_entries, with_pages, file_of, files_of, AreFresh, IsNextLog};
+ghost use Rattle.warg_registry.specs.Folder.{registry_of, page_read, HasRegistry, IsLogRead, IsNoFault, with_entries, with_pages, file_of, files_of, AreFresh, IsNextLog};
 
-use crate::error::{PublishError, RegistryError, damaged, of_way};
+use crate::error::{PublishError, RegistryError, damaged};
 use crate::extension::{map_line, map_root};
 use crate::insertion::write_insertion;
 use crate::source::{KeptPages, below_map};
@@ -58,11 +59,7 @@ impl<F: Folder + Drop> RegistryFolder<F> {
     {
         RegistryFolder {
             alloc,
-            pages: KeptPages {
-                alloc,
-                log,
-                last: String::new(alloc),
-            },
+            pages: KeptPages::new(alloc, log),
             map,
             is_open: true,
         }
@@ -103,9 +100,10 @@ impl<F: Folder + Drop> RegistryFolder<F> {
     /// with the map's root. All of it or nothing, whatever happens at whatever moment; no file below `tile/` or `map/` changes
     /// its bytes.
     ///
-    /// `TooLong` for an entry of more than 65,535 bytes, `Full` for more than 2^63 entries, and `Damaged` for a page that is
-    /// missing or corrupt come before anything is written, and the registry is as it was. After another error it takes no
-    /// more (`Closed`), and the folder is opened again.
+    /// `TooLong` where an entry has more than 65,535 bytes, `Full` where there would be more than 2^63 entries, and `Damaged` for a
+    /// page that is missing or corrupt come before anything is written, and the registry is as it was. After another error it
+    /// takes no more (`Closed`), and the folder is opened again: so after `Full` where the checkpoint's text would have more than
+    /// 2^20 bytes. A registry that takes insertions is refused only so, or for want of memory or by its device.
     pub fn publish(&mut self, insertions: &[(&[u8], &[u8])]) -> Result<(), PublishError>
         requires { F.IsFaithful → IsReady F.seen F.may_leave self.old.log }
         ensures published { F.IsFaithful → OnOk result ((origin : List ℕ) (served kept : List (List ℕ × List ℕ))
@@ -122,6 +120,11 @@ impl<F: Folder + Drop> RegistryFolder<F> {
             (registry_of origin (kept ++ pair_bytes (λ k. k.now) (λ v. v.now) insertions.now)) (F.seen self.old.log.folder)) }
         ensures ready { F.IsFaithful → IsReady F.seen F.may_leave self.new.log }
         ensures closed { self.old.takes ≡ false → (result ≡ Err PublishError.Closed) × (self.new ≡ self.old) }
+        ensures refusal { F.IsFaithful → (origin : List ℕ) (served kept : List (List ℕ × List ℕ))
+            → HasRegistry F.seen F.may_leave origin served kept self.old
+            → let more = pair_bytes (λ k. k.now) (λ v. v.now) insertions.now in
+            IfErr result (IsRefusedFor (¬ (AreShort (entries_of more)))
+            (¬ (CanBeKept (registry_of origin (kept ++ more))))) }
     {
         if !self.is_open {
             return Err(PublishError::Closed);
@@ -155,7 +158,7 @@ impl<F: Folder + Drop> RegistryFolder<F> {
     ) -> Result<Vec<ChangedPage<Sha256>>, PublishError>
         requires { self.old.count + length insertions.now < 2 ^ 64 }
         ensures pages { F.IsFaithful → IfOk result (λ changed. (kept : List (List ℕ × List ℕ))
-            → IsOwnSource sha256 (page_found (F.seen self.old.log.folder)) self.old.root self.old.count kept
+            → IsOwnSource sha256 (page_read (F.seen self.old.log.folder)) self.old.root self.old.count kept
             → AreChangedPages sha256 kept (pair_bytes (λ k. k.now) (λ v. v.now) insertions.now) changed.items
             × (self.new.root ≡ sparse_root sha256 256
             (map_of sha256 (kept ++ pair_bytes (λ k. k.now) (λ v. v.now) insertions.now)))) }
@@ -163,6 +166,9 @@ impl<F: Folder + Drop> RegistryFolder<F> {
         ensures read { F.IsFaithful → IsLogRead F.seen F.may_leave F.moment F.left_since self.old.log self.new.log }
         ensures refused { OnErr result ((self.new.root ≡ self.old.root) × (self.new.count ≡ self.old.count)) }
         ensures takes { self.new.takes ≡ self.old.takes }
+        ensures whole { F.IsFaithful → (kept : List (List ℕ × List ℕ))
+            → IsOwnSource sha256 (page_read (F.seen self.old.log.folder)) self.old.root self.old.count kept
+            → IfErr result (IsRefusedFor ⊥ ⊥) }
     {
         match self.map.insert_all(self.alloc, &mut self.pages, insertions) {
             Ok(changed) => Ok(changed),
@@ -174,11 +180,7 @@ impl<F: Folder + Drop> RegistryFolder<F> {
                     insertions,
                 )))
             }
-            Err(error) => Err(PublishError::Log(of_way(
-                self.alloc,
-                self.pages.last.as_str(),
-                error,
-            ))),
+            Err(error) => Err(PublishError::Log(self.pages.refusal(error))),
         }
     }
 
@@ -277,7 +279,7 @@ fn find_fault<F: Folder + Drop>(
 {
     'keys: for insertion in insertions {
         if let Err(error) = prove_by_pages(alloc, pages, &map.root, map.version, &insertion.0) {
-            return of_way(alloc, pages.last.as_str(), error);
+            return pages.refusal(error);
         }
     }
     damaged(
@@ -289,8 +291,10 @@ fn find_fault<F: Folder + Drop>(
 
 // The entries of insertions.
 fn entries_in(alloc: Global, insertions: &[(&[u8], &[u8])]) -> Result<Vec<Vec<u8>>, PublishError>
-    ensures { IfOk result (λ entries. map (λ e. e.items) entries.items
+    ensures made { IfOk result (λ entries. map (λ e. e.items) entries.items
         ≡ entries_of (pair_bytes (λ k. k.now) (λ v. v.now) insertions.now)) }
+    ensures refused { IfErr result (IsRefusedFor
+        (¬ (AreShort (entries_of (pair_bytes (λ k. k.now) (λ v. v.now) insertions.now)))) ⊥) }
 {
     let mut entries = Vec::new(alloc);
     'insertions: for insertion in insertions {
@@ -300,7 +304,9 @@ fn entries_in(alloc: Global, insertions: &[(&[u8], &[u8])]) -> Result<Vec<Vec<u8
 }
 
 fn entry_in(alloc: Global, insertion: &(&[u8], &[u8])) -> Result<Vec<u8>, PublishError>
-    ensures { IfOk result (λ entry. entry.items ≡ entry_of (insertion.now.0.now, insertion.now.1.now)) }
+    ensures made { IfOk result (λ entry. entry.items ≡ entry_of (insertion.now.0.now, insertion.now.1.now)) }
+    ensures refused { IfErr result (IsRefusedFor
+        (65535 < length (entry_of (insertion.now.0.now, insertion.now.1.now))) ⊥) }
 {
     match write_insertion(alloc, insertion.0, insertion.1) {
         Ok(entry) => Ok(entry),
@@ -329,6 +335,10 @@ fn grow<F: Folder + Drop>(
         → LeavesOnly F.moment F.left_since log.old.folder log.new.folder
         (IsCommitting served old next (F.seen log.old.folder)) }
     ensures ready { F.IsFaithful → IsReady F.seen F.may_leave log.new }
+    ensures refused { F.IsFaithful → (served old next : LogOf) → Has F.seen F.may_leave served old old log.old
+        → IsNextLog old next (map (λ e. e.items) entries.now) (files_of changed.now) root.now
+        → AreFresh served old (with_entries old (map (λ e. e.items) entries.now)) (files_of changed.now)
+        → IfErr result (IsRefusedFor (¬ (AreShort (map (λ e. e.items) entries.now))) (¬ (CanBeKept next))) }
 {
     push_all(log, entries)?;
     put_all(alloc, log, changed)?;
@@ -346,6 +356,9 @@ fn push_all<F: Folder + Drop>(log: &mut LogFolder<F>, entries: &[Vec<u8>]) -> Re
     ensures ready { F.IsFaithful → IsReady F.seen F.may_leave log.new }
     ensures any_moment { F.IsFaithful → (served old next : LogOf) → Has F.seen F.may_leave served old next log.old
         → LeavesOnly F.moment F.left_since log.old.folder log.new.folder (IsBeside (F.seen log.old.folder)) }
+    ensures refused { F.IsFaithful → (served old next : LogOf) → Has F.seen F.may_leave served old next log.old
+        → IfErr result (λ e. IsRefusedFor (¬ (AreShort (map (λ e. e.items) entries.now)))
+        (2 ^ 63 < length next.entries + length entries.now) (of_push e)) }
 {
     'entries: for entry in entries {
         log.push(entry.as_slice())?;
@@ -366,6 +379,7 @@ fn put_all<F: Folder + Drop>(
     ensures ready { F.IsFaithful → IsReady F.seen F.may_leave log.new }
     ensures any_moment { F.IsFaithful → (served old next : LogOf) → Has F.seen F.may_leave served old next log.old
         → LeavesOnly F.moment F.left_since log.old.folder log.new.folder (IsBeside (F.seen log.old.folder)) }
+    ensures refused { log.old.is_open ≡ true → IfErr result (λ e. IsRefusedFor ⊥ ⊥ (of_push e)) }
 {
     'pages: for page in changed {
         put_one(alloc, log, page)?;
@@ -385,6 +399,7 @@ fn put_one<F: Folder + Drop>(
         → Has F.seen F.may_leave served old (with_page next (file_of page.now)) log.new) }
     ensures ready { F.IsFaithful → IsReady F.seen F.may_leave log.new }
     ensures open { log.new.is_open ≡ log.old.is_open }
+    ensures refused { log.old.is_open ≡ true → IfErr result (λ e. IsRefusedFor ⊥ ⊥ (of_push e)) }
     ensures any_moment { F.IsFaithful → log.old.is_open ≡ true
         → LeavesOnly F.moment F.left_since log.old.folder log.new.folder (IsBeside (F.seen log.old.folder)) }
 {

@@ -10,10 +10,10 @@ ghost use Rattle.warg_store.specs.Growing.{LogIn};
 ghost use Rattle.warg_store.specs.Log.{Serves};
 ghost use Rattle.warg_store.specs.Names.{is_page};
 ghost use Rattle.warg_store.specs.Pruned.{IsNoneOf};
-ghost use Rattle.warg_registry.specs.Folder.{registry_of, pages_of, page_found, IsLogRead};
+ghost use Rattle.warg_registry.specs.Folder.{registry_of, pages_of, page_read, IsLogRead};
 ghost use Rattle.warg_registry.specs.Pruning.{bytes_of, ArePathsOf, AreOnlyPathsOf, HaveAllPages, IsPageOf, AreNeeded, AreNone, AreAmong};
 
-use crate::error::{RegistryError, damaged, of_way};
+use crate::error::{RegistryError, damaged};
 use crate::folder::root_said;
 use crate::source::KeptPages;
 use std::alloc::{AllocError, Global};
@@ -70,7 +70,7 @@ impl NeededPages {
             × AreOnlyPathsOf (bytes_of self.new.names.keys) (before ++ all)
             × (F.IsFaithful → (known : LogIn F) (insertions : List (List ℕ × List ℕ))
             → IsLogRead F.seen F.may_leave F.moment F.left_since known pages.old.log
-            → IsOwnSource sha256 (page_found (F.seen known.folder)) root.now version insertions
+            → IsOwnSource sha256 (page_read (F.seen known.folder)) root.now version insertions
             → ((names : List (List ℕ)) → ArePathsOf names (before ++ all) → HaveAllPages names insertions)
             × ((p : ChangedPageAt) → Contains all p → IsPageOf insertions (page_path p.prefix p.version)))) }
         ensures read { F.IsFaithful → (known : LogIn F)
@@ -86,7 +86,7 @@ impl NeededPages {
             self,
         ) {
             Ok(()) => Ok(()),
-            Err(error) => Err(of_way(self.alloc, pages.last.as_str(), error)),
+            Err(error) => Err(pages.refusal(error)),
         }
     }
 
@@ -117,13 +117,13 @@ impl<F: Folder + Drop> KeptPages<F> {
             (served kept : List (List ℕ × List ℕ))
             → IsLogRead F.seen F.may_leave F.moment F.left_since known self.old.log
             → Serves (registry_of origin served) (F.seen known.folder)
-            → IsOwnSource sha256 (page_found (F.seen known.folder)) root.now version kept
+            → IsOwnSource sha256 (page_read (F.seen known.folder)) root.now version kept
             → IsNoneOf (bytes_of spare.items) (pages_of served) × IsNoneOf (bytes_of spare.items) (pages_of kept)) }
         ensures all { F.IsFaithful → IfOk result (λ spare. (known : LogIn F) (origin : List ℕ)
             (served kept : List (List ℕ × List ℕ))
             → IsLogRead F.seen F.may_leave F.moment F.left_since known self.old.log
             → Serves (registry_of origin served) (F.seen known.folder)
-            → IsOwnSource sha256 (page_found (F.seen known.folder)) root.now version kept
+            → IsOwnSource sha256 (page_read (F.seen known.folder)) root.now version kept
             → (n : List ℕ) → is_page n ≡ true → IsSome (F.seen known.folder n)
             → Contains (bytes_of spare.items) n ⊎ IsPageOf served n ⊎ IsPageOf kept n) }
         ensures read { F.IsFaithful → (known : LogIn F)
@@ -141,7 +141,7 @@ impl<F: Folder + Drop> KeptPages<F> {
             (served kept : List (List ℕ × List ℕ))
             → IsLogRead F.seen F.may_leave F.moment F.left_since known self.old.log
             → Serves (registry_of origin served) (F.seen known.folder)
-            → IsOwnSource sha256 (page_found (F.seen known.folder)) root.now version kept
+            → IsOwnSource sha256 (page_read (F.seen known.folder)) root.now version kept
             → AreNeeded (bytes_of needed.names.keys) served kept) }
         ensures read { F.IsFaithful → (known : LogIn F)
             → IsLogRead F.seen F.may_leave F.moment F.left_since known self.old.log
@@ -163,7 +163,7 @@ impl<F: Folder + Drop> KeptPages<F> {
             (insertions : List (List ℕ × List ℕ))
             → IsLogRead F.seen F.may_leave F.moment F.left_since known self.old.log
             → Serves (registry_of origin insertions) (F.seen known.folder)
-            → IsOwnSource sha256 (page_found (F.seen known.folder)) map.root map.version insertions) }
+            → IsOwnSource sha256 (page_read (F.seen known.folder)) map.root map.version insertions) }
         ensures read { F.IsFaithful → (known : LogIn F)
             → IsLogRead F.seen F.may_leave F.moment F.left_since known self.old.log
             → IsLogRead F.seen F.may_leave F.moment F.left_since known self.new.log }

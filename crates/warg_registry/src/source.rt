@@ -1,31 +1,33 @@
 //! A log in a folder as the source of its map's pages.
 
-ghost use Rattle.std.specs.Prelude.{◌≡◌, ◌++◌, ℕ, Bool, true, List, codes, IfOk, string_bytes};
+ghost use Rattle.std.specs.Prelude.{◌≡◌, ◌∷◌, ◌++◌, [], ℕ, Bool, true, List, codes, IfOk, string_bytes};
 ghost use Rattle.warg_pages.specs.Refusals.{IsOfSourceUnless};
 ghost use Rattle.warg_store.specs.Growing.{LogIn};
 ghost use Rattle.warg_store.specs.Moments.{IsRead};
 ghost use Rattle.warg_store.specs.Reading.{ServedIn};
 ghost use Rattle.warg_store.specs.Refusals.{IsNoFault};
-ghost use Rattle.warg_registry.specs.Folder.{path_below, page_found, page_read, found_if, IsLogRead};
+ghost use Rattle.warg_registry.specs.Folder.{path_below, page_read, found_if, IsLogRead};
 
-use crate::error::{damaged, of_pages};
+use crate::error::of_source;
 use std::alloc::{AllocError, Global};
-use warg_pages::{Pages, ProveError, WayError, page_path};
+use warg_pages::{Pages, ProveError, page_path};
 use warg_store::{Folder, FolderError, LogError, LogFolder, LogReader};
 
 // The most bytes that a page has: 256 slots of 106 bytes.
 const MOST: usize = 256 * 106;
 
-/// A log that is added to, with the path of the page that was asked for last.
+/// A log that is added to, with the path of the page that was asked for last, and whether that one is missing.
 #[derive(Drop)]
 pub(crate) struct KeptPages<F: Folder + Drop> {
     pub(crate) alloc: Global,
     pub(crate) log: LogFolder<F>,
     pub(crate) last: String,
+    pub(crate) is_missing: bool,
 }
 
 impl<F: Folder + Drop> Pages<Global> for KeptPages<F> {
-    type Error = LogError;
+    // A page that is missing has other bytes than any page, and so no error is a fault of the files.
+    type Error = FolderError;
 
     // The log as it was before it was read.
     ghost Known = { LogIn F };
@@ -33,18 +35,40 @@ impl<F: Folder + Drop> Pages<Global> for KeptPages<F> {
     ghost IsKnown = { λ pages known. F.IsFaithful
         × IsLogRead F.seen F.may_leave F.moment F.left_since known pages.log };
 
-    ghost bytes_at = { λ known. page_found (F.seen known.folder) };
+    ghost bytes_at = { λ known. page_read (F.seen known.folder) };
 
     ghost tells_all = { λ _. Unit {0} };
 
-    fn page(&mut self, prefix: &[u8], version: u64) -> Result<Vec<u8>, LogError> {
+    fn page(&mut self, prefix: &[u8], version: u64) -> Result<Vec<u8>, FolderError> {
         let path = page_path(self.alloc, prefix, version)?;
         let found = self.log.page(below_map(path.as_str()), MOST)?;
         self.last = path;
+        self.is_missing = found.is_none();
         match found {
             Some(bytes) => Ok(bytes),
-            None => Err(damaged(self.alloc, self.last.as_str(), "is missing")),
+            None => Ok(missing_page(self.alloc)?),
         }
+    }
+}
+
+impl<F: Folder + Drop> KeptPages<F> {
+    /// The pages of a log, of which none was asked for.
+    pub(crate) fn new(alloc: Global, log: LogFolder<F>) -> KeptPages<F>
+        ensures { result.log ≡ log }
+    {
+        KeptPages {
+            alloc,
+            log,
+            last: String::new(alloc),
+            is_missing: false,
+        }
+    }
+
+    /// Why these pages lead to nothing.
+    pub(crate) fn refusal(&self, error: ProveError<FolderError>) -> LogError
+        ensures { IsOfSourceUnless ⊥ error → IsNoFault ⊥ result }
+    {
+        of_source(self.alloc, self.last.as_str(), self.is_missing, error)
     }
 }
 
@@ -79,7 +103,7 @@ impl<F: Folder + Drop> Pages<Global> for ServedPages<F> {
         self.is_missing = found.is_none();
         match found {
             Some(bytes) => Ok(bytes),
-            None => Ok(Vec::from_slice(self.alloc, &[0])?),
+            None => Ok(missing_page(self.alloc)?),
         }
     }
 }
@@ -89,14 +113,15 @@ impl<F: Folder + Drop> ServedPages<F> {
     pub(crate) fn refusal(&self, error: ProveError<FolderError>) -> LogError
         ensures { IsOfSourceUnless ⊥ error → IsNoFault ⊥ result }
     {
-        match error {
-            ProveError::Pages(error) => LogError::Folder(error),
-            ProveError::Way(WayError::BadPage) if self.is_missing => {
-                damaged(self.alloc, self.last.as_str(), "is missing")
-            }
-            ProveError::Way(error) => of_pages(self.alloc, self.last.as_str(), error),
-        }
+        of_source(self.alloc, self.last.as_str(), self.is_missing, error)
     }
+}
+
+// What is read where a page is missing: one byte, as no page has.
+fn missing_page(alloc: Global) -> Result<Vec<u8>, AllocError>
+    ensures { IfOk result (λ bytes. bytes.items ≡ 0 ∷ []) }
+{
+    Vec::from_slice(alloc, &[0])
 }
 
 /// What a page's path has below `map/`.

@@ -275,6 +275,7 @@ impl<F: Folder + Drop> LogFolder<F> {
         ensures ready { F.IsFaithful → IsReady F.seen F.may_leave self.new }
         ensures same { IsSameBut self.old self.new }
         ensures closed { (result ≡ Err PushError.Closed) ↔ (self.old.is_open ≡ false) }
+        ensures refused { OnErr result ((result ≡ Err PushError.TooLong → ⊥) × (result ≡ Err PushError.Full → ⊥)) }
         ensures any_moment { F.IsFaithful → self.old.is_open ≡ true
             → LeavesOnly F.moment F.left_since self.old.folder self.new.folder
             (IsBeside (F.seen self.old.folder)) }
@@ -295,8 +296,8 @@ impl<F: Folder + Drop> LogFolder<F> {
     /// its further lines. No file below `tile/` or `map/` changes its bytes. A commit of no new entry changes nothing, and keeps no
     /// page.
     ///
-    /// `Memory` and `TooLong` come only before anything is written, and the log is as it was; after another error it takes no
-    /// more, and the folder is opened again.
+    /// `TooLong` where the checkpoint's text would have more than 2^20 bytes. It and `Memory` come only before anything is written,
+    /// and the log is as it was; after another error it takes no more, and the folder is opened again.
     pub fn commit(&mut self) -> Result<(), CommitError>
         requires { F.IsFaithful → IsReady F.seen F.may_leave self.old }
         ensures ready { F.IsFaithful → IsReady F.seen F.may_leave self.new }
@@ -308,6 +309,10 @@ impl<F: Folder + Drop> LogFolder<F> {
             → Has F.seen F.may_leave served old next self.old → next.lines ≡ old.lines
             → HasNext F.seen F.may_leave served next self.new) }
         ensures closed { (result ≡ Err CommitError.Closed) ↔ (self.old.is_open ≡ false) }
+        ensures too_long { result ≡ Err CommitError.TooLong → (served old next : LogOf)
+            → Has F.seen F.may_leave served old next self.old → next.lines
+            ≡ old.lines
+            → CanBeKept next → ⊥ }
         ensures cause { HasCauseOf (CommitError.Folder FolderError.Failed) F.IsFaithful
             (F.faults self.old.folder) (F.faults self.new.folder) result }
     {
@@ -330,6 +335,10 @@ impl<F: Folder + Drop> LogFolder<F> {
             ≡ map (λ l. l.items) lines.now
             → HasNext F.seen F.may_leave served next self.new) }
         ensures closed { (result ≡ Err CommitError.Closed) ↔ (self.old.is_open ≡ false) }
+        ensures too_long { result ≡ Err CommitError.TooLong → (served old next : LogOf)
+            → Has F.seen F.may_leave served old next self.old → next.lines
+            ≡ map (λ l. l.items) lines.now
+            → CanBeKept next → ⊥ }
         ensures cause { HasCauseOf (CommitError.Folder FolderError.Failed) F.IsFaithful
             (F.faults self.old.folder) (F.faults self.new.folder) result }
     {
@@ -351,6 +360,10 @@ impl<F: Folder + Drop> LogFolder<F> {
             ≡ unwrap_or (option_map (λ ls. map (λ l. l.items) ls.now) lines.entry) old.lines
             → HasNext F.seen F.may_leave served next self.new) }
         ensures closed { (result ≡ Err CommitError.Closed) ↔ (self.old.is_open ≡ false) }
+        ensures too_long { result ≡ Err CommitError.TooLong → (served old next : LogOf)
+            → Has F.seen F.may_leave served old next self.old → next.lines
+            ≡ unwrap_or (option_map (λ ls. map (λ l. l.items) ls.now) lines.entry) old.lines
+            → CanBeKept next → ⊥ }
         ensures cause { HasCauseOf (CommitError.Folder FolderError.Failed) F.IsFaithful
             (F.faults self.old.folder) (F.faults self.new.folder) result }
     {
@@ -381,6 +394,10 @@ impl<F: Folder + Drop> LogFolder<F> {
             → IsEndOf next end.text end.bytes.items end.tiles.items) }
         ensures short { IfOk result (λ end. length end.bytes.items ≤ MOST_TEXT) }
         ensures refused { IfErr result (λ error. (error ≡ CommitError.Memory) ⊎ (error ≡ CommitError.TooLong)) }
+        ensures too_long { result ≡ Err CommitError.TooLong → (served old next : LogOf)
+            → Has F.seen F.may_leave served old next self.now
+            → next.lines ≡ unwrap_or (option_map (λ ls. map (λ l. l.items) ls.now) lines.entry) old.lines
+            → CanBeKept next → ⊥ }
     {
         let text = self.next_text(self.lines_or(lines))?;
         let bytes = text.write(self.alloc)?;

@@ -1,14 +1,17 @@
-use Rattle.std.proofs.Common.{◌≡◌, List, ℕ, map, take, sym, subst, arith}
+use Rattle.std.proofs.Common.{◌≡◌, ◌<◌, ◌+◌, ◌^◌, ◌∷◌, ◌++◌, List, ℕ, Err, true≢false, length, map, take, sym, ap, subst, ◌∙◌, arith}
 use Rattle.std.specs.declared.alloc.Global.{Global}
 use Rattle.std.specs.declared.vec.Vec.{Vec}
-use Rattle.std.proofs.lemmas.List.{take_all}
+use Rattle.std.proofs.lemmas.List.{take_all, length-append, length-map, length-take-le}
+use Rattle.warg_crypto.specs.Digests.{sha256}
 use Rattle.warg_store.specs.Growing.{Has}
-use Rattle.warg_store.specs.Log.{LogOf}
+use Rattle.warg_store.specs.Log.{LogOf, AreShort}
 use Rattle.warg_store.specs.Opening.{IsBeside}
 use Rattle.warg_store.proofs.ForCallers.{read_is, read_leaves}
 use Rattle.warg_registry.specs.Folder.{with_entries}
 use Rattle.warg_registry.proofs.RegistryGrowth.{pushed_more, no_entries_more}
 use Rattle.warg_registry.proofs.FolderMoments.{beside_then}
+use Rattle.warg_registry.specs.Publishing.{IsRefusedFor, of_push}
+use Rattle.warg_registry.proofs.Refused.{told_as, push_refused, none_long}
 use Rattle.warg_registry.proofs.folder.push_all.Goals as goal
 
 pub entries-init : goal.entries-init
@@ -67,3 +70,33 @@ returns-clause-ready g c = c.entries.invariant.ready
 
 pub returns-clause-any_moment : goal.returns-clause-any_moment
 returns-clause-any_moment g c = c.entries.invariant.moments
+
+pub returns-in_err-push-clause-refused : goal.returns-in_err-push-clause-refused
+returns-in_err-push-clause-refused g c = λ faithful served old next has.
+    let entries = c.args.entries.now in
+    let i = c.entries.entry-index in
+    let items : Vec ℕ Global → List ℕ = λ e. e.items in
+    let now = c.entries.invariant.pushed faithful served old next has in
+    let long : Type 0 = AreShort (map items entries) → ⊥ in
+    let full : Type 0 = 2 ^ 63 < length next.entries + length entries in
+    let e = c.in_err-push.field-0.0 in
+    let was : c.push.result ≡ Err e = c.in_err-push.was in
+    let taken = map items (take i entries) in
+    let size : length (next.entries ++ taken) ≡ c.entries.log.edge.len =
+    sym (length-map (next.entries ++ taken) (λ (e : List ℕ). sha256 (0 ∷ e))) ∙ now.edge.count in
+    told_as (λ e. IsRefusedFor long full (of_push e)) e c.from_residual.result c.from_residual.ensures.1
+    (push_refused long full e
+    (λ same. none_long items entries i c.entry-item.result (omega arith) c.entry-item.is (omega (
+      arith,
+      ap length c.as_slice.ensures.value,
+      c.push.ensures.too_long.0 (was ∙ ap Err same),
+    )))
+    (λ same. omega (
+      arith,
+      size,
+      length-append next.entries taken,
+      length-map (take i entries) items,
+      length-take-le i entries (omega arith),
+      (c.push.ensures.full.0 (was ∙ ap Err same)).1,
+    ))
+    (λ same. true≢false (sym now.is_open ∙ (c.push.ensures.closed.0 (was ∙ ap Err same)).2)))

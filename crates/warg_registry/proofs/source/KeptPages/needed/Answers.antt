@@ -2,7 +2,7 @@ use Rattle.std.proofs.Common.{[], subst, sym, inr, ◌∙◌}
 use Rattle.std.proofs.lemmas.List.Elements.{Contains-append_left}
 use Rattle.warg_crypto.specs.Digests.{sha256}
 use Rattle.warg_pages.specs.ProvedKeys.{IsOwnSource}
-use Rattle.warg_registry.specs.Folder.{page_found}
+use Rattle.warg_registry.specs.Folder.{page_read}
 use Rattle.warg_registry.specs.Pruning.{bytes_of, IsPageOf}
 use Rattle.warg_registry.proofs.Pruned.{no_paths, none_named, of_visits}
 use Rattle.warg_registry.proofs.source.KeptPages.needed.Goals as goal
@@ -28,7 +28,7 @@ returns-then-is_map-clause-needed g c = λ faithful known origin served kept rea
     let names = bytes_of c.add.new.self.names.keys in
     let first = c.in_ok-add.ensures.added [] (no_paths _) (none_named _ c.new-needed.ensures) in
     let read_one = c.in_ok-add.ensures.read faithful known read in
-    let pages = page_found (g.F.Folder.seen known.folder) in
+    let pages = page_read (g.F.Folder.seen known.folder) in
     let given = c.in_ok-served.ensures.served faithful known origin served read_one serves in
     let is = c.is_map.ensures c.if-is_map.true in
     let same : IsOwnSource sha256 pages c.args.root.now c.args.version served = record {
