@@ -1,11 +1,13 @@
 -- What is found of two values, by what their evaluations show.
-use Rattle.std.proofs.Common.{◌≡◌, ℕ, ◌^◌, ◌∷◌, List, Option, Some, None, Result, IfSome, IfOk, refl, subst, sym, ◌∙◌}
+use Rattle.std.proofs.Common.{◌≡◌, ℕ, ◌∷◌, List, Option, Some, None, Result, IfSome, IfOk, refl, subst, sym, ◌∙◌}
 use Rattle.std.proofs.lemmas.Result.{IfOk-weaker}
 use Rattle.std.specs.Option.{MatchOption}
 use Rattle.warg_crypto.specs.Collisions.{Collides}
 use Rattle.warg_crypto.specs.Tree.{leaf_input}
 use Rattle.warg_log.specs.Claims.{InclusionClaim}
-use Rattle.warg_log.specs.Nodes.{ExistsAt, height_of, start_of}
+use Rattle.warg_log.specs.Cut.{with_target}
+use Rattle.warg_log.specs.Nodes.{ExistsAt}
+use Rattle.warg_log.specs.Ranges.{Range, leaves_from, range_of}
 use Rattle.warg_log.proofs.ForCallers.{inclusion_leads}
 use Rattle.warg_map.specs.Bits.{last_bits}
 use Rattle.warg_map.specs.ProofValue.{proof_value}
@@ -20,8 +22,8 @@ use Rattle.warg_witness.specs.UpdateClaims.{IsUpdated}
 use Rattle.warg_witness.specs.Private.Agreement.{IsAgreed, IsCompared, IsFoundAt}
 use Rattle.warg_witness.specs.Private.Divergence.{HaveOneDigest, Parts, Shows, inputs_of, IsRangesMeeting}
 use Rattle.warg_witness.specs.Private.MapMeeting.{IsKeyMeeting, MeetsOnPath}
-use Rattle.warg_witness.specs.Private.Meeting.{IsMeeting}
-use Rattle.warg_witness.specs.Private.PathClimbs.{NeverMeet, IsPathsMeeting}
+use Rattle.warg_witness.specs.Private.Meeting.{IsMeeting, IsPlainAt}
+use Rattle.warg_witness.specs.Private.PathClimbs.{path_from, NeverMeet, IsPathsMeeting}
 use Rattle.warg_witness.specs.declared.collision.Finding.{Finding}
 use Rattle.warg_witness.specs.declared.collision.Finding.TheVariants.{Holds, NotMet, Collision}
 use Rattle.warg_witness.specs.declared.divergence.Divergence.{Divergence}
@@ -60,14 +62,15 @@ module _ {D : Type 0} (H : Digest) {agree : Type 0} {placed : List ℕ → List 
 
 -- those of one proof over two data, those along two paths of one place, and those of two proofs of one key
 pub values_agreed : {D : Type 0} (H : Digest) (F : Data) (proof : InclusionClaim) (v : List ℕ) (G : Data)
-    (u : List ℕ) {x y : List ℕ} {s w a n : ℕ} → ExistsAt proof.leaf.0 proof.log_length → x ≡ H (0 ∷ v) → y ≡ H (0 ∷ u)
-    → (s ≡ start_of proof.leaf.0) × (w ≡ 2 ^ height_of proof.leaf.0) → (a ≡ 0) × (n ≡ proof.log_length)
+    (u : List ℕ) {x y : List ℕ} {target whole : Range} → ExistsAt proof.leaf.0 proof.log_length → x ≡ H (0 ∷ v)
+    → y ≡ H (0 ∷ u) → target ≡ range_of proof.leaf.0 → whole ≡ leaves_from 0 proof.log_length
     → (met : Option (Divergence D))
-    → MatchOption met (HaveOneDigest H F x G y s w a n → ⊥) (IsRangesMeeting H F x G y s w a n)
+    → MatchOption met (HaveOneDigest H (with_target F target x) (with_target G target y) whole → ⊥)
+    (IsRangesMeeting H (with_target F target x) (with_target G target y) whole)
     → IsAgreed H (IsAgreement H proof F (H (0 ∷ v)) G (H (0 ∷ u)))
     (IsAgreementPlaced H F v G u proof.leaf.0 proof.log_length) v u met
 values_agreed H F proof v G u exists first second target whole None none = record {
-  is = λ agrees. (rw (first, second, target.0, target.1, whole.0, whole.1) at none)
+  is = λ agrees. (rw (first, second, target, whole) at none)
       (record {
         digest = agrees.root;
         first = ((inclusion_leads H F proof (H (0 ∷ v)) agrees.root).0 agrees.first_is).1;
@@ -75,7 +78,7 @@ values_agreed H F proof v G u exists first second target whole None none = recor
       });
 }
 values_agreed H F proof v G u exists first second target whole (Some p) meeting =
-    let met = rw (first, second, target.0, target.1, whole.0, whole.1) at meeting in
+    let met = rw (first, second, target, whole) at meeting in
     let root = met.one.digest in
     let agreement : IsAgreement H proof F (H (0 ∷ v)) G (H (0 ∷ u)) =
     record {
@@ -88,7 +91,8 @@ values_agreed H F proof v G u exists first second target whole (Some p) meeting 
 pub records_agreed : {D : Type 0} (H : Digest) (m n : ℕ) (path : List (List ℕ)) (v : List ℕ)
     (other_path : List (List ℕ)) (u : List ℕ) {x y : List ℕ} → x ≡ H (0 ∷ v) → y ≡ H (0 ∷ u)
     → (met : Option (Divergence D))
-    → MatchOption met (NeverMeet H x path y other_path m n) (IsPathsMeeting H x path y other_path m n)
+    → MatchOption met (NeverMeet H (path_from x path) (path_from y other_path) m n)
+    (IsPathsMeeting H (path_from x path) (path_from y other_path) m n)
     → IsAgreed H (IsRecordAgreement H m n path v other_path u) (IsRecordAgreementPlaced H m n path v other_path u) v u
     met
 records_agreed H m n path v other_path u first second None none =
@@ -136,15 +140,16 @@ found_at H placed (Branch branches) met parts meets from to (Collision pair) is 
 
 -- so of a hash and of an update, by the meeting
 pub hash_found : {D A : Type 0} {H : Digest} {F : Data} {proof : InclusionClaim} {hash : List ℕ}
-    {entries tree : List (List ℕ)} {s w : ℕ} {plain : List ℕ} (p : Divergence D)
-    → IsMeeting H F proof hash entries tree s w plain p → (it : Finding D A)
+    {entries tree : List (List ℕ)} {target : Range} {plain : List ℕ} (p : Divergence D)
+    → IsPlainAt H proof.leaf.0 tree target plain → IsMeeting H F proof hash entries tree p → (it : Finding D A)
     → IsFoundAt p (hash ≡ plain) it → Finds (IsMet H F proof hash entries) (IsRootBelow H hash proof.leaf.0 entries)
     (IsHashPlaced H F hash proof.leaf.0 entries) it
-hash_found {H = H} {F = F} {proof = proof} {hash = hash} {entries = entries} {tree = tree} p meeting =
+hash_found {H = H} {F = F} {proof = proof} {hash = hash} {entries = entries} {tree = tree} p here meeting =
+    let plain_is = rw (here.target_is, meeting.tree_is) at here.plain_is in
     found_at H (IsHashPlaced H F hash proof.leaf.0 entries) p meeting.met
     (parts_placed H p (hash_placed H F entries tree meeting.tree_is proof.leaf.0 hash)
-    (λ meets. rw meeting.tree_is at meets.same) meeting.diverges) (λ below. below) (λ same. same ∙ meeting.plain_is)
-    (λ below. below ∙ sym meeting.plain_is)
+    (λ meets. rw meeting.tree_is at meets.same) meeting.diverges) (λ below. below) (λ same. same ∙ plain_is)
+    (λ below. below ∙ sym plain_is)
 
 pub update_found : {D A : Type 0} {H : Digest} {P : List (Option (List ℕ))} {key value : List ℕ}
     {insertions : List (List ℕ × List ℕ)} {last : Option (List ℕ × List ℕ)} {own : List (Option (List ℕ))}

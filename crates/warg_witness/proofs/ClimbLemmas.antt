@@ -5,6 +5,7 @@ use Rattle.warg_crypto.specs.Tree.{branch_input, where_both, input_beside}
 use Rattle.warg_log.specs.Cut.{joined}
 use Rattle.warg_witness.specs.Private.Turns.{DivergesUp, IsUp}
 use Rattle.warg_witness.specs.Private.Divergence.{Parts, Shows, inputs_of}
+use Rattle.warg_witness.specs.declared.divergence.Climb.{Climb}
 use Rattle.warg_witness.specs.declared.divergence.Divergence.{Divergence}
 use Rattle.warg_witness.specs.declared.divergence.Divergence.TheVariants.{Target, Branch}
 
@@ -29,10 +30,16 @@ beside_parts true {x} {u} {y} {v} sizes same = let parts = branch_parts u x v y
 beside_parts false sizes same = branch_parts _ _ _ _ sizes same
 
 -- a step up, by which of the digests are the same
-pub diverges_up : {D : Type 0} (b : Bool) {x u y v : List ℕ} {p q : Divergence D} → length x ≡ length y
-    → ((x ≡ y) × (u ≡ v) × (q ≡ p))
-    ⊎ ((x ≡ y → u ≡ v → ⊥) × (q ≡ Branch
-    (record { right = b; first = x; first_beside = u; second = y; second_beside = v }))) → DivergesUp b x u y v p q
+pub diverges_up : {D : Type 0} (b : Bool) {before : Climb D} {u v : List ℕ} {q : Divergence D}
+    → length before.first ≡ length before.second
+    → ((before.first ≡ before.second) × (u ≡ v) × (q ≡ before.divergence))
+    ⊎ ((before.first ≡ before.second → u ≡ v → ⊥) × (q ≡ Branch (record {
+      right = b;
+      first = before.first;
+      first_beside = u;
+      second = before.second;
+      second_beside = v;
+    }))) → DivergesUp b before u v q
 diverges_up b sizes ends = elim ends [
   | inl same ↦ inl same
   | inr other ↦ inr (
@@ -43,20 +50,27 @@ diverges_up b sizes ends = elim ends [
 ]
 
 -- a step from digests of one length, whatever stands beside them
-pub up_somewhere : {D : Type 0} {H : List ℕ → List ℕ} (b : Bool) {x u y v : List ℕ} (p : Divergence D)
-    → length x ≡ length y
-    → (q : Divergence D) × IsUp H b x u y v p (H (input_beside b u x)) (H (input_beside b v y)) q
-up_somewhere b {x} {u} {y} {v} p sizes = elim (same_or_not (input_beside b u x) (input_beside b v y)) [
-  | inl same ↦ let parts = beside_parts b sizes same in
-      (p, record { first_is = refl; second_is = refl; diverges = inl (parts.0, parts.1, refl) })
-  | inr differ ↦ (_, record { first_is = refl; second_is = refl; diverges = inr (differ, refl) })
-]
+pub up_somewhere : {D : Type 0} {H : List ℕ → List ℕ} (b : Bool) (before : Climb D) (u v : List ℕ)
+    → length before.first ≡ length before.second → (after : Climb D) × IsUp H b before u v after
+up_somewhere {D} {H} b before u v sizes =
+    let first = input_beside b u before.first in
+    let second = input_beside b v before.second in
+    let to : Divergence D → Climb D = λ p. record { first = H first; second = H second; divergence = p } in
+    elim (same_or_not first second) [
+      | inl same ↦ let parts = beside_parts b sizes same in (
+        to before.divergence,
+        record { first_is = refl; second_is = refl; diverges = inl (parts.0, parts.1, refl) },
+      )
+      | inr differ ↦ (to _, record { first_is = refl; second_is = refl; diverges = inr (differ, refl) })
+    ]
 
 -- where two evaluations come to one digest they part below, from one digest and with one beside it, or at the branches
 -- here
-pub up_parts : {D : Type 0} {H : List ℕ → List ℕ} {b : Bool} {x u y v d e : List ℕ} {p q : Divergence D}
-    (P : List ℕ → List ℕ → Type 0) (A : Type 0) → IsUp H b x u y v p d e q
-    → (x ≡ y → u ≡ v → Parts H P A p) → P (input_beside b u x) (input_beside b v y) → d ≡ e → Parts H P A q
+pub up_parts : {D : Type 0} {H : List ℕ → List ℕ} {b : Bool} {before after : Climb D} {u v : List ℕ}
+    (P : List ℕ → List ℕ → Type 0) (A : Type 0) → IsUp H b before u v after
+    → (before.first ≡ before.second → u ≡ v → Parts H P A before.divergence)
+    → P (input_beside b u before.first) (input_beside b v before.second) → after.first ≡ after.second
+    → Parts H P A after.divergence
 up_parts P A up below here one = elim up.diverges [
   | inl same ↦ rw same.2 (below same.0 same.1)
   | inr other ↦ rw other.1 (record {

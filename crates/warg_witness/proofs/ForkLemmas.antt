@@ -4,6 +4,7 @@ use Rattle.std.proofs.lemmas.Bool.{lt-leb}
 use Rattle.warg_crypto.specs.Collisions.{GivesHashes, SomeCollision}
 use Rattle.warg_crypto.specs.Tree.{branch_input}
 use Rattle.warg_crypto.proofs.ForCallers.{same_or_not, sizes}
+use Rattle.warg_log.specs.Ranges.{leaves_from}
 use Rattle.warg_log.specs.Tree.{front_of, leaves_of, root_over}
 use Rattle.warg_witness.specs.Ranges.{IsPart, IsAround}
 use Rattle.warg_witness.specs.Inputs.{plain_input}
@@ -44,7 +45,7 @@ module _ (H : List ℕ → List ℕ) where
 
     -- two trees of one root over a range in which the entries differ collide
     pub both_collide : GivesHashes H → (old new : List (List ℕ)) (place a n : ℕ)
-        → ((first second : List ℕ) → IsPlacedInBoth H old new first second → P first second) → IsAround place 1 a n
+        → ((first second : List ℕ) → IsPlacedInBoth H old new first second → P first second) → IsAround (leaves_from place 1) (leaves_from a n)
         → (slice_index_or old place [] ≡ slice_index_or new place [] → ⊥) → IsPart 0 (length old) a n
         → IsPart 0 (length new) a n → over old a n ≡ over new a n → SomeCollision H P
     both_collide gives old new place a n placed around differ old_part new_part same =
@@ -52,8 +53,9 @@ module _ (H : List ℕ → List ℕ) where
         let in_new = part_in new_part in
         let one_size = over_size H gives old place 1 (omega arith) (omega arith)
         ∙ sym (over_size H gives new place 1 (omega arith) (omega arith)) in
-        let (p, diverges) = diverged H _ _ _ _ place 1 (sizes gives) one_size (leaf_node refl) in_old.1 around
-        (have_range H (leaves_of H old) (leaves_of H new) place 1 in_old.1 (omega arith)
+        let (p, diverges) = diverged H _ _ _ _ (leaves_from place 1) (sizes gives) one_size (leaf_node refl)
+        (leaves_from a n) in_old.1 around
+        (have_range H (leaves_of H old) (leaves_of H new) (leaves_from place 1) (leaves_from a n) in_old.1 (omega arith)
         (omega (arith, leaves_count H old)) (omega (arith, leaves_count H new)) same) in
-        let pair = both_shown H old new place a n old_part new_part p diverges differ in
+        let pair = both_shown H old new place (leaves_from a n) old_part new_part p diverges differ in
         shown_collides _ (record { collides = pair.collides; placed = placed _ _ pair.placed })

@@ -1,11 +1,12 @@
 -- A consistency path beside the trees over the old and the new entries, on its way up.
-use Rattle.std.proofs.Common.{◌≡◌, ℕ, ◌+◌, ◌-◌, ◌<◌, ◌≤◌, ◌^◌, ◌↔◌, true, false, List, [], ◌∷◌, length, reverse, get_or, Option, Some, None, inl, inr, refl, sym, ap, ◌∙◌, arith, rules}
+use Rattle.std.proofs.Common.{◌≡◌, ℕ, ◌+◌, ◌-◌, ◌<◌, ◌≤◌, ◌^◌, ◌↔◌, true, false, List, [], ◌∷◌, length, reverse, get_or, Option, Some, None, inl, inr, refl, sym, ap, subst, ◌∙◌, arith}
 use Rattle.std.specs.Option.{is_some}
 use Rattle.std.proofs.lemmas.Nat.{pow_pos}
 use Rattle.std.proofs.lemmas.Bool.{lt-leb, le-leb, lt-ltb, eq-eqb, ne_eqb}
-use Rattle.warg_log.specs.Tree.{front_of, leaves_of, root_of, root_over, own_digest}
+use Rattle.warg_log.specs.Cut.{with_own}
+use Rattle.warg_log.specs.Tree.{front_of, leaves_of, root_of}
 use Rattle.warg_log.proofs.ForCallers.{front_is_greatest, front_of_is}
-use Rattle.warg_log.specs.Ranges.{IsAligned}
+use Rattle.warg_log.specs.Ranges.{Range, leaves_from, front_part, rest_part, IsAligned}
 use Rattle.warg_paths.specs.Paths.{roots_down, consistency_roots, subproof_roots, one_root, twice, grown, both_over}
 use Rattle.warg_witness.specs.Ranges.{IsPart, IsAround}
 use Rattle.warg_witness.specs.Ranges.IsPart.{whole as part_whole, front as part_front, rest as part_rest}
@@ -15,12 +16,15 @@ use Rattle.warg_paths.specs.Ways.{IsOnGrowth, old_turn_input, new_turn_input}
 use Rattle.warg_witness.specs.TreePlaced.{IsTurn, IsTreePlaced}
 use Rattle.warg_paths.specs.Ways.IsOnGrowth.{whole, front, rest}
 use Rattle.warg_witness.specs.Private.Compared.{DiffersFirst}
-use Rattle.warg_witness.specs.Private.Divergence.{IsDivergence, Shows, inputs_of}
-use Rattle.warg_witness.specs.Private.TreeDivergence.{tree_input, IsBeside, IsTreeMeeting, LeadsOver, IsTreeDivergence, PlacedOnGrowth, IsGrowth}
-use Rattle.warg_witness.specs.Private.Ranges.{AreSides}
+use Rattle.warg_witness.specs.Private.Divergence.{at_bottom, IsDivergence, Shows, inputs_of}
+use Rattle.warg_witness.specs.Private.TreeDivergence.{tree_input, IsBesideTree, IsTreeMeeting, Descent, descent, whole_descent, LeadsOver, IsTreeDivergence, PlacedOnGrowth, growth_from, IsGrowth}
+use Rattle.warg_witness.specs.Private.Ranges.{root_at}
 use Rattle.warg_witness.specs.Private.Turns.{IsUp}
 use Rattle.warg_witness.specs.declared.divergence.Branches.{Branches}
+use Rattle.warg_witness.specs.declared.divergence.Climb.{Climb}
 use Rattle.warg_witness.specs.declared.divergence.Divergence.{Divergence}
+use Rattle.warg_witness.specs.declared.paths.growth.Growth.{Growth}
+use Rattle.warg_witness.specs.declared.trees.Trees.{Trees}
 use Rattle.warg_witness.specs.declared.divergence.Divergence.TheVariants.{Target, Branch}
 use Rattle.warg_witness.proofs.ClimbLemmas.{parts_placed}
 use Rattle.warg_witness.proofs.CutLemmas.{leaves_count}
@@ -70,20 +74,21 @@ pub front_some : (n : ℕ) → 1 < n → 0 < front_of n
 front_some n more = let f = front_is_greatest n more in rw f.0.1 (pow_pos f.0.0)
 
 -- a range around a place, not all of whose leaves are old, has more of them, and more than one leaf
-pub still_more : {place a m n l : ℕ} → IsAround place 1 a m → m ≤ n → (m ≡ l → ⊥) → l ≡ n → (0 < m) × (m < n) × (1 < n)
+pub still_more : {place a m n l : ℕ} → IsAround (leaves_from place 1) (leaves_from a m) → m ≤ n → (m ≡ l → ⊥) → l ≡ n → (0 < m) × (m < n) × (1 < n)
 still_more {m = m} {n = n} around order other is = let more : 0 < m = omega arith in let wide : m < n = grind arith in
     (more, wide, omega arith)
 
 -- what holds of a range around a place, not all of whose leaves are old, holds of the part in which the old leaves end
-module _ {place a m n k old new : ℕ} (more : m < n) (front_is : k ≡ front_of n) (around : IsAround place 1 a m)
-    (aligned : IsAligned a n) (in_old : a + m ≤ old) (in_new : a + n ≤ new) where
+module _ {place a m n k old new : ℕ} (more : m < n) (front_is : k ≡ front_of n)
+    (around : IsAround (leaves_from place 1) (leaves_from a m)) (aligned : IsAligned a n) (in_old : a + m ≤ old)
+    (in_new : a + n ≤ new) where
   pub front_takes : m ≤ k → (m ≤ front_of n)
-      × (IsAround place 1 a m × (IsAligned a (front_of n) × ((a + m ≤ old) × (a + front_of n ≤ new))))
+      × (IsAround (leaves_from place 1) (leaves_from a m) × (IsAligned a (front_of n) × ((a + m ≤ old) × (a + front_of n ≤ new))))
   front_takes low = let f = front_is_greatest n (omega arith) in
       (omega arith, (around, (front_aligned aligned (omega arith), (in_old, omega arith))))
 
   pub rest_takes : {e : ℕ} → e ≡ a + front_of n → k < m → e ≤ place
-      → (m - k ≤ n - front_of n) × (IsAround place 1 (a + front_of n) (m - k)
+      → (m - k ≤ n - front_of n) × (IsAround (leaves_from place 1) (leaves_from (a + front_of n) (m - k))
       × (IsAligned (a + front_of n) (n - front_of n)
       × ((a + front_of n + (m - k) ≤ old) × (a + front_of n + (n - front_of n) ≤ new))))
   rest_takes rest_is high right =
@@ -111,27 +116,25 @@ all_old H known m n digests o w equal is = one (one_root known digests) (ends di
     one (Some root) is = let both = pair_parts (root, root) (o, w) is in sym both.0 ∙ both.1
 
 -- the plain input at more than one leaf is the tree's
-plain_is : (H : Digest) (entries tree : List (List ℕ)) (a n : ℕ) → tree ≡ leaves_of H entries → 1 < n
-    → tree_input H tree a n ≡ plain_input H entries a n
-plain_is H entries tree a n is more = rw (lt-leb n 1 more, is) refl
+plain_is : (H : Digest) (entries tree : List (List ℕ)) (range : Range) → tree ≡ leaves_of H entries → 1 < range.count
+    → tree_input H tree range ≡ plain_input H entries range.start range.count
+plain_is H entries tree range is more = rw (lt-leb range.count 1 more, is) refl
 
 -- at a range, all of whose leaves are old, both roots are that of a range which both trees share
-pub growth_starts : {D : Type 0} (H : Digest) (old_tree new_tree : List (List ℕ)) (place : ℕ) (known : Option (List ℕ))
-    (m a n : ℕ) (path : List (List ℕ)) {b k : ℕ} {r r' o o' v v' : List ℕ} {p q : Divergence D} → m ≡ n
-    → IsAround place 1 a m → roots_down H known m n (reverse path) ≡ Some (r, r') → (b ≡ a) × (k ≡ n)
-    → (o ≡ r) × (v ≡ r) → o' ≡ root_over H old_tree a n → v' ≡ root_over H new_tree a n
-    → (p ≡ Target) × (q ≡ Target) → IsGrowth H old_tree new_tree place known m a n (reverse path) b k o o' p v v' q
-growth_starts H old_tree new_tree place known m a n path {r = r} {r' = r'} all around leads range first old_is new_is
-    targets =
-    let same : r ≡ r' = all_old H known m n (reverse path) r r' all leads in
-    rw (range.0, range.1, first.0, first.1, targets.0, targets.1, all) (record {
-      roots = rw all at leads ∙ ap (λ z. Some (r, z)) (sym same);
+pub growth_starts : {D V A : Type 0} (H : Digest) (trees : Trees D V A) (place : ℕ) (known : Option (List ℕ)) (m : ℕ)
+    (range : Range) (ds : List (List ℕ)) {r r' : List ℕ} {growth : Growth D} → m ≡ range.count
+    → IsAround (leaves_from place 1) (leaves_from range.start m)
+    → roots_down H known range.count range.count ds ≡ Some (r, r') → growth ≡ growth_from H trees range r
+    → IsGrowth H trees place (descent known m range ds) growth
+growth_starts H trees place known m range ds {r} {r'} all around leads is =
+    let same : r ≡ r' = all_old H known range.count range.count ds r r' refl leads in rw (is, all) (record {
+      roots = leads ∙ ap (λ z. Some (r, z)) (sym same);
       around = rw all at around;
-      old_part = part_whole;
-      new_part = part_whole;
+      in_old = part_whole;
+      in_new = part_whole;
       digest = r;
-      old = record { is = old_is; parts = λ e. e ∙ old_is };
-      new = record { is = new_is; parts = λ e. e ∙ new_is };
+      old = record { is = refl; parts = λ e. e };
+      new = record { is = refl; parts = λ e. e };
     })
 
 -- at a range, not all of whose leaves are old
@@ -147,72 +150,76 @@ module _ (H : Digest) (known : Option (List ℕ)) (m n : ℕ) (top : List ℕ) (
   rest_turn high = rw (ne_eqb m n (λ e. omega arith), lt-leb m (front_of n) high) refl
 
   -- where what is below the topmost digest leads nowhere, so does the path
-  module _ {ds : List (List ℕ)} (digests : ds ≡ top ∷ below) where
-    pub front_lacks : {j l : ℕ} → j ≡ front_of n → l ≡ front_of n → m ≤ j → roots_down H known m l below ≡ None
-        → roots_down H known m n ds ≡ None
-    front_lacks turn is low none = rw (digests, front_turn (rw turn at low), rw is at none) refl
+  pub front_lacks : {j l : ℕ} → j ≡ front_of n → l ≡ front_of n → m ≤ j → roots_down H known m l below ≡ None
+      → roots_down H known m n (top ∷ below) ≡ None
+  front_lacks turn is low none = rw (front_turn (rw turn at low), rw is at none) refl
 
-    pub rest_lacks : {j l : ℕ} → j ≡ front_of n → l ≡ n - front_of n → j < m → roots_down H None (m - j) l below ≡ None
-        → roots_down H known m n ds ≡ None
-    rest_lacks turn is high none = rw (digests, rest_turn (rw turn at high), rw (turn, is) at none) refl
+  pub rest_lacks : {j l : ℕ} → j ≡ front_of n → l ≡ n - front_of n → j < m → roots_down H None (m - j) l below ≡ None
+      → roots_down H known m n (top ∷ below) ≡ None
+  rest_lacks turn is high none = rw (rest_turn (rw turn at high), rw (turn, is) at none) refl
 
-module _ (H : Digest) (old_tree new_tree : List (List ℕ)) (place : ℕ) (known : Option (List ℕ)) (m a n : ℕ)
-    (top : List ℕ) (below : List (List ℕ)) (some : 0 < m) (more : m < n) where
+module _ {D V A : Type 0} (H : Digest) (trees : Trees D V A) (place : ℕ) (known : Option (List ℕ)) (m : ℕ)
+    (range : Range) (top : List ℕ) (below : List (List ℕ)) (some : 0 < m) (more : m < range.count) where
+  abbrev n : ℕ
+  n = range.count
+
+  abbrev here : Descent
+  here = descent known m range (top ∷ below)
+
   -- what stands below stands here
-  widened : {known' : Option (List ℕ)} {m' a' n' : ℕ} → ((known₀ : Option (List ℕ)) (m₀ n₀ : ℕ) (ds₀ : List (List ℕ))
-      → IsOnGrowth known₀ m₀ n₀ ds₀ known m a n (top ∷ below) → IsOnGrowth known₀ m₀ n₀ ds₀ known' m' a' n' below)
-      → IsPart a m a' m' → IsPart a n a' n'
-      → (first second : List ℕ) → PlacedOnGrowth H old_tree new_tree place known' m' a' n' below first second
-      → PlacedOnGrowth H old_tree new_tree place known m a n (top ∷ below) first second
-  widened down old_part new_part first second is path old new way = is path old new (record {
+  widened : (d : Descent) → ((known₀ : Option (List ℕ)) (m₀ n₀ : ℕ) (ds₀ : List (List ℕ))
+      → IsOnGrowth known₀ m₀ n₀ ds₀ known m range.start n (top ∷ below)
+      → IsOnGrowth known₀ m₀ n₀ ds₀ d.known d.old_count d.range.start d.range.count d.digests)
+      → IsPart range.start m d.range.start d.old_count → IsPart range.start n d.range.start d.range.count
+      → (first second : List ℕ) → PlacedOnGrowth H trees place d first second
+      → PlacedOnGrowth H trees place here first second
+  widened d down in_old in_new first second is path old new way = is path old new (record {
     old_is = way.old_is;
     new_is = way.new_is;
     differ = way.differ;
     on_way = down _ _ _ _ way.on_way;
-    old_part = IsPart-trans way.old_part old_part;
-    new_part = IsPart-trans way.new_part new_part;
+    in_old = IsPart-trans way.in_old in_old;
+    in_new = IsPart-trans way.in_new in_new;
   })
 
   -- where inputs of the evaluation and of a tree at the range stand
-  old_here : {i j : List ℕ} → front_of n < m → old_turn_input H m n top below ≡ Some i → j ≡ tree_input H old_tree a m
-      → PlacedOnGrowth H old_tree new_tree place known m a n (top ∷ below) i j
-  old_here high evaluation plain path old new way =
+  old_here : {i : List ℕ} → front_of n < m → old_turn_input H m n top below ≡ Some i → (j : List ℕ)
+      → j ≡ tree_input H trees.old (leaves_from range.start m) → PlacedOnGrowth H trees place here i j
+  old_here high evaluation j plain path old new way =
       let split = front_some n (omega arith) in
-      let is = plain ∙ plain_is H old old_tree a m way.old_is (omega arith) in
-      let turn : IsTurn H path old new known m a n top below = record { on_way = way.on_way; more = more } in
-      inl (search (turn, high, evaluation, is))
+      let is = plain ∙ plain_is H old trees.old (leaves_from range.start m) way.old_is (omega arith) in
+      let turn : IsTurn H path old new known m range.start n top below =
+      record { on_way = way.on_way; more = more } in inl (search (turn, high, evaluation, is))
 
-  new_here : {i j : List ℕ} → new_turn_input H known m n top below ≡ Some i → j ≡ tree_input H new_tree a n
-      → PlacedOnGrowth H old_tree new_tree place known m a n (top ∷ below) i j
-  new_here evaluation plain path old new way = let is = plain ∙ plain_is H new new_tree a n way.new_is (omega arith) in
+  new_here : {i : List ℕ} → new_turn_input H known m n top below ≡ Some i → (j : List ℕ)
+      → j ≡ tree_input H trees.new range → PlacedOnGrowth H trees place here i j
+  new_here evaluation j plain path old new way =
+      let is = plain ∙ plain_is H new trees.new range way.new_is (omega arith) in
       inr (inl (search (way, more, evaluation, is)))
 
-  module _ (in_old : a + m ≤ length old_tree) (in_new : a + n ≤ length new_tree) where
+  module _ (in_old : range.start + m ≤ length trees.old) (in_new : range.start + n ≤ length trees.new) where
     -- up from the first part
-    pub front_up : {D : Type 0} {f l e i b k : ℕ} {ds : List (List ℕ)} {o o' v v' z w w' : List ℕ}
-        {p q q' : Divergence D} → ds ≡ top ∷ below → (f ≡ a) × (l ≡ front_of n) → (e ≡ a + front_of n)
-        × (i ≡ n - front_of n)
-        → m ≤ front_of n → IsGrowth H old_tree new_tree place known m f l below b k o o' p v v' q
-        → z ≡ root_over H new_tree e i → IsUp H false v top v' z q w w' q'
-        → IsGrowth H old_tree new_tree place known m a n ds b k o o' p w w' q'
-    front_up {p = p} digests front_is rest_is low below_is z_is up =
-        let growth = rw (front_is.0, front_is.1) at below_is in
-        let new_part = part_front a n part_whole (omega arith) in
-        let down = widened (λ _ _ _ _ way. front _ _ _ _ _ _ way more low) part_whole new_part in rw digests (record {
-          roots = front_turn H known m n top below more low ∙ ap (λ roots. grown H roots top) growth.roots
+    pub front_up : m ≤ front_of n → {growth : Growth D} {up : Climb D}
+        → IsGrowth H trees place (descent known m (front_part range) below) growth
+        → IsUp H false growth.new top (root_at H trees.new (rest_part range)) up
+        → IsGrowth H trees place here (record { shared = growth.shared; old = growth.old; new = up })
+    front_up low {growth} is up =
+        let part = part_front range.start n part_whole (omega arith) in
+        let down = widened (descent known m (front_part range) below) (λ _ _ _ _ way. front _ _ _ _ _ _ way more low)
+        part_whole part in record {
+          roots = front_turn H known m n top below more low ∙ ap (λ roots. grown H roots top) is.roots
               ∙ rw up.first_is refl;
-          around = growth.around;
-          old_part = growth.old_part;
-          new_part = IsPart-trans new_part growth.new_part;
-          digest = growth.digest;
+          around = is.around;
+          in_old = is.in_old;
+          in_new = IsPart-trans part is.in_new;
+          digest = is.digest;
           old = record {
-            is = growth.old.is;
-            parts = λ same. parts_placed H p down (λ meets. meets)
-                (growth.old.parts same);
+            is = is.old.is;
+            parts = λ same. parts_placed H growth.old.divergence down (λ meets. meets) (is.old.parts same);
           };
-          new = beside_up new_tree (omega arith) in_new (search rules) growth.new (rw (rest_is.0, rest_is.1) at z_is) up
-              down (λ meets. meets) (new_here (rw (le-leb m (front_of n) low, growth.roots) refl));
-        })
+          new = beside_up trees.new false range (omega arith) in_new refl refl is.new refl up down
+              (new_here (rw (le-leb m (front_of n) low, is.roots) refl));
+        }
 
     -- where the old leaves end in the rest
     module _ (high : front_of n < m) where
@@ -222,127 +229,122 @@ module _ (H : Digest) (old_tree new_tree : List (List ℕ)) (place : ℕ) (known
       old_wide : 1 < m
       old_wide = let f = front_some n (omega arith) in omega arith
 
-      -- up from there
-      pub rest_up : {D : Type 0} {j f l e i b k b' k' : ℕ} {ds : List (List ℕ)} {o o' v v' u u' w w' : List ℕ}
-          {p p' q q' : Divergence D} → ds ≡ top ∷ below → j ≡ front_of n → (f ≡ a) × (l ≡ front_of n)
-          → (e ≡ a + front_of n) × (i ≡ n - front_of n) → IsGrowth H old_tree new_tree place None
-          (m - j) e i below b k o o' p v v' q → (b' ≡ b) × (k' ≡ k)
-          → IsUp H true o top o' (root_over H old_tree f l) p u u' p'
-          → IsUp H true v top v' (root_over H new_tree f l) q w w' q'
-          → IsGrowth H old_tree new_tree place known m a n ds b' k' u u' p' w w' q'
-      rest_up digests turn front_is rest_is below_is shared old_up new_up =
-          let growth = rw (turn, rest_is.0, rest_is.1) at below_is in
-          let old_part = rw split at (part_rest a m part_whole old_wide) in
-          let new_part = part_rest a n part_whole (omega arith) in
-          let down = widened (λ _ _ _ _ way. rest _ _ _ _ _ _ way more high) old_part new_part in
-          let sides : AreSides true a m (a + front_of n) (m - front_of n) a (front_of n) =
-          rw (← split) (search rules) in rw (digests, shared.0, shared.1) (record {
-            roots = rest_turn H known m n top below more high ∙ ap (both_over H top) growth.roots
+      -- The old leaves, and those in the rest.
+      abbrev old_range : Range
+      old_range = leaves_from range.start m
+
+      abbrev pub old_rest : Range
+      old_rest = leaves_from (range.start + front_of n) (m - front_of n)
+
+      -- up from the rest
+      pub rest_up : {growth after : Growth D}
+          → IsGrowth H trees place (descent None (m - front_of n) (rest_part range) below) growth
+          → after.shared ≡ growth.shared → IsUp H true growth.old top (root_at H trees.old (front_part range)) after.old
+          → IsUp H true growth.new top (root_at H trees.new (front_part range)) after.new
+          → IsGrowth H trees place here after
+      rest_up {after = after} is shared old_up new_up =
+          let old_in = rw split at (part_rest range.start m part_whole old_wide) in
+          let new_in = part_rest range.start n part_whole (omega arith) in
+          let down = widened (descent None (m - front_of n) (rest_part range) below)
+          (λ _ _ _ _ way. rest _ _ _ _ _ _ way more high) old_in new_in in
+          subst (λ s. IsGrowth H trees place here (record { shared = s; old = after.old; new = after.new })) (sym shared)
+          (record {
+            roots = rest_turn H known m n top below more high ∙ ap (both_over H top) is.roots
                 ∙ rw (old_up.first_is, new_up.first_is) refl;
-            around = growth.around;
-            old_part = IsPart-trans old_part growth.old_part;
-            new_part = IsPart-trans new_part growth.new_part;
-            digest = growth.digest;
-            old = beside_up old_tree old_wide in_old sides growth.old refl (rw (front_is.0, front_is.1) at old_up) down
-                (λ meets. meets) (old_here high (rw growth.roots refl));
-            new = beside_up new_tree (omega arith) in_new (search rules) growth.new refl
-                (rw (front_is.0, front_is.1) at new_up) down (λ meets. meets)
-                (new_here (rw (lt-leb m (front_of n) high, growth.roots) refl));
+            around = is.around;
+            in_old = IsPart-trans old_in is.in_old;
+            in_new = IsPart-trans new_in is.in_new;
+            digest = is.digest;
+            old = beside_up trees.old true old_range old_wide in_old (rw split refl) (rw split refl) is.old refl old_up
+                down (old_here high (rw is.roots refl));
+            new = beside_up trees.new true range (omega arith) in_new refl refl is.new refl new_up down
+                (new_here (rw (lt-leb m (front_of n) high, is.roots) refl));
           })
 
       -- up from the first part, which both trees share
-      pub shared_up : {D : Type 0} {j b k b' k' e f i : ℕ} {ds : List (List ℕ)} {o v x x' s s' u u' w w' : List ℕ}
-          {p p' q q' : Divergence D} → ds ≡ top ∷ below → j ≡ front_of n → (b ≡ a) × (k ≡ front_of n)
-          → e ≡ a + front_of n → (f ≡ a + front_of n) × (i ≡ n - front_of n) → a ≤ place → place < e
-          → roots_down H None (m - front_of n) (n - front_of n) below ≡ Some (o, v) → (b' ≡ b) × (k' ≡ k)
-          → (x ≡ top) × (x' ≡ top) → s ≡ root_over H old_tree b k → s' ≡ root_over H new_tree b k → (p ≡ Target)
-          × (q ≡ Target)
-          → IsUp H false x o s (root_over H old_tree e (m - j)) p u u' p'
-          → IsUp H false x' v s' (root_over H new_tree f i) q w w' q'
-          → IsGrowth H old_tree new_tree place known m a n ds b' k' u u' p' w w' q'
-      shared_up {o = o} {v = v} digests turn front_is start rest_is low left led shared first old_is new_is targets
-          old_up new_up =
-          let sides : AreSides false a m a (front_of n) (a + front_of n) (m - front_of n) =
-          rw (← split) (search rules) in
-          let old_up' = rw (first.0, targets.0, turn, start) at old_up in
-          let new_up' = rw (first.1, targets.1, rest_is.0, rest_is.1) at new_up in
-          rw (digests, shared.0, shared.1, front_is.0, front_is.1) (record {
+      pub shared_up : {growth after : Growth D} {o v : List ℕ} → growth ≡ growth_from H trees (front_part range) top
+          → range.start ≤ place → place < range.start + front_of n
+          → roots_down H None (m - front_of n) (n - front_of n) below ≡ Some (o, v) → after.shared ≡ growth.shared
+          → IsUp H false growth.old o (root_at H trees.old old_rest) after.old
+          → IsUp H false growth.new v (root_at H trees.new (rest_part range)) after.new
+          → IsGrowth H trees place here after
+      shared_up {after = after} is low left led shared old_after new_after =
+          let old_up = rw is at old_after in
+          let new_up = rw is at new_after in
+          let both : after.shared ≡ front_part range = rw is at shared in
+          subst (λ s. IsGrowth H trees place here (record { shared = s; old = after.old; new = after.new })) (sym both)
+          (record {
             roots = rest_turn H known m n top below more high ∙ ap (both_over H top) led
-                ∙ rw (old_up'.first_is, new_up'.first_is) refl;
+                ∙ rw (old_up.first_is, new_up.first_is) refl;
             around = record { starts = low; ends = omega arith };
-            old_part = rw split at (part_front a m part_whole old_wide);
-            new_part = part_front a n part_whole (omega arith);
+            in_old = rw split at (part_front range.start m part_whole old_wide);
+            in_new = part_front range.start n part_whole (omega arith);
             digest = top;
-            old = beside_up old_tree old_wide in_old sides (here old_tree (rw (front_is.0, front_is.1) at old_is)) refl
-                old_up' (λ _ _ is. is) (λ meets. meets) (old_here high (rw led refl));
-            new = beside_up new_tree (omega arith) in_new (search rules)
-                (here new_tree (rw (front_is.0, front_is.1) at new_is)) refl new_up' (λ _ _ is. is) (λ meets. meets)
-                (new_here (rw (lt-leb m (front_of n) high, led) refl));
+            old = beside_up trees.old false old_range old_wide in_old (rw split refl) (rw split refl)
+                (at_front trees.old) refl old_up (λ _ _ is. is) (old_here high (rw led refl));
+            new = beside_up trees.new false range (omega arith) in_new refl refl (at_front trees.new) refl new_up
+                (λ _ _ is. is) (new_here (rw (lt-leb m (front_of n) high, led) refl));
           })
         where
-          here : {D : Type 0} {d : List ℕ} (tree : List (List ℕ)) → d ≡ root_over H tree a (front_of n)
-              → IsBeside {D = D} H tree (PlacedOnGrowth H old_tree new_tree place known m a n (top ∷ below))
-              (top ≡ root_over H tree a (front_of n)) a (front_of n) top d Target
-          here tree is = record { is = is; parts = λ same. same ∙ is }
+          at_front : (tree : List (List ℕ)) → IsBesideTree {D = D} H tree (PlacedOnGrowth H trees place here)
+              (top ≡ root_at H tree (front_part range)) (front_part range)
+              (at_bottom top (root_at H tree (front_part range)))
+          at_front tree = record { is = refl; parts = λ same. same }
 
 -- what a divergence from the old tree or from the new one shows
-module _ {D : Type 0} {H : Digest} {old_tree new_tree : List (List ℕ)} {place : ℕ} {known : Option (List ℕ)} {m a n : ℕ}
-    {ds : List (List ℕ)} {b k : ℕ} {o o' v v' : List ℕ} {p q : Divergence D}
-    (growth : IsGrowth H old_tree new_tree place known m a n ds b k o o' p v v' q)
-    (leads : LeadsOver H old_tree new_tree known m a n ds) where
-  tree_shown : {tree : List (List ℕ)} {meet : Type 0} {c : ℕ} {d e : List ℕ} {r : Divergence D} {branches : Branches D}
-      → IsBeside H tree (PlacedOnGrowth H old_tree new_tree place known m a n ds) meet a c d e r
-      → d ≡ root_over H tree a c → r ≡ Branch branches → IsTreeDivergence H old_tree new_tree place known m a n ds r
-  tree_shown beside root is = λ path old new way. let shows = rw is at (beside.parts (root ∙ sym beside.is)) in
-      rw is (record { collides = shows.collides; placed = shows.placed path old new way })
+module _ {D V A : Type 0} {H : Digest} {trees : Trees D V A} {place : ℕ} {d : Descent} {growth : Growth D}
+    (is : IsGrowth H trees place d growth) (leads : LeadsOver H trees d) where
+  tree_shown : {tree : List (List ℕ)} {meet : Type 0} {range : Range} {climb : Climb D} {branches : Branches D}
+      → IsBesideTree H tree (PlacedOnGrowth H trees place d) meet range climb → climb.first ≡ root_at H tree range
+      → climb.divergence ≡ Branch branches → IsTreeDivergence H trees place d climb.divergence
+  tree_shown beside root split = λ path old new way.
+      let shows = rw split at (beside.parts (root ∙ sym beside.is)) in
+      rw split (record { collides = shows.collides; placed = shows.placed path old new way })
 
-  pub old_shown : {branches : Branches D} → p ≡ Branch branches
-      → IsTreeDivergence H old_tree new_tree place known m a n ds p
-  old_shown is = tree_shown growth.old (pair_parts _ _ (sym growth.roots ∙ leads)).0 is
+  pub old_shown : {branches : Branches D} → growth.old.divergence ≡ Branch branches
+      → IsTreeDivergence H trees place d growth.old.divergence
+  old_shown split = tree_shown is.old (pair_parts _ _ (sym is.roots ∙ leads)).0 split
 
-  pub new_shown : {branches : Branches D} → q ≡ Branch branches
-      → IsTreeDivergence H old_tree new_tree place known m a n ds q
-  new_shown is = tree_shown growth.new (pair_parts _ _ (sym growth.roots ∙ leads)).1 is
+  pub new_shown : {branches : Branches D} → growth.new.divergence ≡ Branch branches
+      → IsTreeDivergence H trees place d growth.new.divergence
+  new_shown split = tree_shown is.new (pair_parts _ _ (sym is.roots ∙ leads)).1 split
 
   -- where it diverges from neither, both have one digest at the shared range
-  pub shared_same : p ≡ Target → q ≡ Target → root_over H old_tree b k ≡ root_over H new_tree b k
+  pub shared_same : growth.old.divergence ≡ Target → growth.new.divergence ≡ Target
+      → root_at H trees.old growth.shared ≡ root_at H trees.new growth.shared
   shared_same old_is new_is =
-      let roots = pair_parts _ _ (sym growth.roots ∙ leads) in
-      sym (rw old_is at (growth.old.parts (roots.0 ∙ sym growth.old.is)))
-      ∙ rw new_is at (growth.new.parts (roots.1 ∙ sym growth.new.is))
+      let roots = pair_parts _ _ (sym is.roots ∙ leads) in
+      sym (rw old_is at (is.old.parts (roots.0 ∙ sym is.old.is)))
+      ∙ rw new_is at (is.new.parts (roots.1 ∙ sym is.new.is))
 
--- what a divergence of both trees below a shared range shows
-pub shared_shown : {D E : Type 0} {H : Digest} {old_tree new_tree : List (List ℕ)} {place : ℕ} {known : Option (List ℕ)}
-    {m a n : ℕ} {ds : List (List ℕ)} {b k : ℕ} {o o' v v' : List ℕ} {p q : Divergence D}
-    → IsGrowth H old_tree new_tree place known m a n ds b k o o' p v v' q → (r : Divergence E)
-    → IsDivergence H (own_digest H old_tree) (root_over H old_tree place 1) (own_digest H new_tree)
-    (root_over H new_tree place 1) place 1 b k r → IsTreeDivergence H old_tree new_tree place known m a n ds r
-shared_shown {H = H} {place = place} {b = b} {k = k} growth r diverges = λ path old new way.
-    let pair = both_shown H old new place b k (IsPart-trans way.old_part growth.old_part)
-    (IsPart-trans way.new_part growth.new_part) r (rw (way.old_is, way.new_is) at diverges) way.differ in
-    record { collides = pair.collides; placed = inr (inr pair.placed) }
+  -- what a divergence of both trees below that range shows
+  pub shared_shown : (r : Divergence D)
+      → IsDivergence H (with_own H trees.old (leaves_from place 1)) (with_own H trees.new (leaves_from place 1))
+      growth.shared r → IsTreeDivergence H trees place d r
+  shared_shown r diverges = λ path old new way.
+      let pair = both_shown H old new place growth.shared (IsPart-trans way.in_old is.in_old)
+      (IsPart-trans way.in_new is.in_new) r (rw (way.old_is, way.new_is) at diverges) way.differ in
+      record { collides = pair.collides; placed = inr (inr pair.placed) }
 
 -- a path that leads to the roots of the trees over entries leads to them over all leaves, and what a divergence from
 -- there shows
-module _ (H : Digest) (path old new old_tree new_tree : List (List ℕ))
-    (meeting : IsTreeMeeting H path old new old_tree new_tree) where
-  pub whole_growth : LeadsOver H old_tree new_tree (Some (root_of H old_tree)) (length old_tree) 0 (length new_tree)
-      (reverse path)
+module _ {D V A : Type 0} (H : Digest) (path old new : List (List ℕ)) (trees : Trees D V A)
+    (meeting : IsTreeMeeting H path old new trees) where
+  pub whole_growth : LeadsOver H trees (whole_descent H trees path)
   whole_growth =
       rw (meeting.old_is, meeting.new_is, leaves_count H old, leaves_count H new, plain_root H old, plain_root H new)
       (sym (subproof_is H (Some (root_of H (leaves_of H old))) _ _ path meeting.some meeting.order) ∙ meeting.met)
 
-  pub growth_shown : {D : Type 0} (place : ℕ) (p : Divergence D) → DiffersFirst old new place
-      → IsTreeDivergence H old_tree new_tree place (Some (root_of H old_tree)) (length old_tree) 0 (length new_tree)
-      (reverse path) p
+  pub growth_shown : (place : ℕ) (p : Divergence D) → DiffersFirst old new place
+      → IsTreeDivergence H trees place (whole_descent H trees path) p
       → Shows H (IsTreePlaced H path old new) (inputs_of p (0 ∷ get_or old place []) (0 ∷ get_or new place []))
   growth_shown place p differs diverges = diverges path old new (record {
     old_is = meeting.old_is;
     new_is = meeting.new_is;
     differ = differs.differ;
     on_way = rw (meeting.old_is, meeting.new_is, leaves_count H old, leaves_count H new) whole;
-    old_part = rw (meeting.old_is, leaves_count H old) part_whole;
-    new_part = rw (meeting.new_is, leaves_count H new) part_whole;
+    in_old = rw (meeting.old_is, leaves_count H old) part_whole;
+    in_new = rw (meeting.new_is, leaves_count H new) part_whole;
   })
 
 -- the roots to which a path leads, where it leads to those of the trees over entries, and what the trees are then
@@ -353,9 +355,9 @@ module _ (H : Digest) (old new : List (List ℕ)) {m n : ℕ} {plain o v : List 
   tree_roots met = let both = pair_parts _ _ (led ∙ rw (← old_count, ← new_count, plain_is) met) in
       (both.0 ∙ sym plain_is, both.1)
 
-  pub trees_met : {old_tree new_tree : List (List ℕ)} → o ≡ plain → v ≡ root_of H (leaves_of H new) → (0 < m) × (m ≤ n)
-      → n ≤ 2 ^ 63 → old_tree ≡ leaves_of H old → new_tree ≡ leaves_of H new
-      → IsTreeMeeting H path old new old_tree new_tree
+  pub trees_met : {D V A : Type 0} {trees : Trees D V A} → o ≡ plain → v ≡ root_of H (leaves_of H new)
+      → (0 < m) × (m ≤ n) → n ≤ 2 ^ 63 → trees.old ≡ leaves_of H old → trees.new ≡ leaves_of H new
+      → IsTreeMeeting H path old new trees
   trees_met old_root new_root order fits old_is new_is = record {
     some = rw old_count order.0;
     order = rw (old_count, new_count) order.1;

@@ -9,6 +9,7 @@ use Rattle.warg_witness.specs.MapInputs.{fork_input}
 use Rattle.warg_witness.specs.Private.MapMeeting.{MeetsOnPath, IsAlike, IsKeyMeeting, key_inputs}
 use Rattle.warg_witness.specs.Private.Turns.{Turn, climbed, AreTaken, IsTurnDivergence, IsClimb, bit_turns, IsUp}
 use Rattle.warg_witness.proofs.TurnLemmas.{turn_up}
+use Rattle.warg_witness.specs.declared.divergence.Climb.{Climb}
 use Rattle.warg_witness.specs.declared.divergence.Divergence.{Divergence}
 use Rattle.warg_witness.specs.declared.divergence.Divergence.TheVariants.{Target, Branch}
 use Rattle.warg_witness.proofs.ClimbLemmas.{parts_placed, shown}
@@ -71,15 +72,15 @@ module _ (H : List ℕ → List ℕ) where
         on_bits bits first second below in (b ∷ above, bit, left, ap (λ q. b ∷ q) split, first_is, second_is)
 
     -- one bit up, and where both come to one value, they meet
-    pub bit_up : {D : Type 0} {b : Bool} (bits : List Bool) {u v d e f g : List ℕ} {p q : Divergence D}
+    pub bit_up : {D : Type 0} {b : Bool} (bits : List Bool) {u v : List ℕ} {before after : Climb D}
         → peer_of H P (length bits) ≡ u → peer_of H Q (length bits) ≡ v
-        → IsClimb H x (bit_turns H P bits) y (bit_turns H Q bits) d e p → IsUp H b d u e v p f g q
-        → IsClimb H x (bit_turns H P (b ∷ bits)) y (bit_turns H Q (b ∷ bits)) f g q
+        → IsClimb H x (bit_turns H P bits) y (bit_turns H Q bits) before → IsUp H b before u v after
+        → IsClimb H x (bit_turns H P (b ∷ bits)) y (bit_turns H Q (b ∷ bits)) after
     bit_up bits at at' climb up = turn_up climb (rw (← at, ← at') at up)
 
-    pub keys_met : {D : Type 0} (bits : List Bool) {first second : List ℕ} {p : Divergence D}
-        → IsClimb H x (bit_turns H P bits) y (bit_turns H Q bits) first second p → (met : Option (Divergence D))
-        → MatchOption met (¬ (first ≡ second)) (λ q. (first ≡ second) × (q ≡ p))
+    pub keys_met : {D : Type 0} (bits : List Bool) {top : Climb D}
+        → IsClimb H x (bit_turns H P bits) y (bit_turns H Q bits) top → (met : Option (Divergence D))
+        → MatchOption met (¬ (top.first ≡ top.second)) (λ q. (top.first ≡ top.second) × (q ≡ top.divergence))
         → MatchOption met (proof_value H P x bits ≡ proof_value H Q y bits → ⊥) (MeetsOnPath H P x Q y bits)
     keys_met bits climb None apart = λ same. apart (climb.first_is ∙ bit_leads P x bits ∙ same
         ∙ sym (climb.second_is ∙ bit_leads Q y bits))

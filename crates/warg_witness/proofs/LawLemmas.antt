@@ -1,16 +1,18 @@
 -- What the laws state: a claim that is met and isn't true gives a collision.
 use Rattle.std.proofs.Common.{◌≡◌, ℕ, zero, suc, ◌+◌, ◌<◌, ◌≤◌, ◌⊎◌, inl, inr, List, [], ◌∷◌, length, get_or, refl, sym, ap, ◌∙◌, arith, ◌^◌, Some, Bool, true, false, not, ◌++◌, Option, unwrap_or, append_assoc, length-append, reverse}
 use Rattle.warg_crypto.proofs.ForCallers.{same_or_not, HasSize, sizes, branch_parts}
-use Rattle.warg_log.specs.Tree.{leaves_of, root_of, root_over, own_digest}
+use Rattle.warg_log.specs.Tree.{leaves_of, root_of, root_over}
 use Rattle.warg_log.specs.Cut.{Evaluation, with_target, cut_over}
 use Rattle.warg_witness.specs.Ranges.{IsAround}
 use Rattle.warg_witness.specs.Claims.{Begins, IsMet, IsEntry, IsRootBelow, IsAgreement}
 use Rattle.warg_crypto.specs.Collisions.{GivesHashes, SomeCollision}
-use Rattle.warg_log.specs.Ranges.{leaves_from, range_of, IsAligned}
-use Rattle.warg_witness.specs.Private.Ranges.{IsNodeRange}
-use Rattle.warg_witness.specs.Private.Divergence.{HaveOneDigest, IsDivergence, Parts, Shows, inputs, IsRangeClimb}
+use Rattle.warg_log.specs.Ranges.{Range, leaves_from, range_of, IsAligned}
+use Rattle.warg_witness.specs.Private.Ranges.{IsNodeRange, side_of}
+use Rattle.warg_witness.specs.Private.Divergence.{at_bottom, HaveOneDigest, IsDivergence, Parts, Shows, inputs, IsRangeClimb}
+use Rattle.warg_witness.specs.Private.Meeting.{DivergesFromTree}
+use Rattle.warg_witness.specs.declared.divergence.Climb.{Climb}
 use Rattle.warg_witness.specs.declared.divergence.Divergence.{Divergence}
-use Rattle.warg_witness.proofs.RangeLemmas.{Digest, node_range, Data, node_some, wider, sides_aligned, side_around, whole_aligned}
+use Rattle.warg_witness.proofs.RangeLemmas.{Digest, node_range, Data, node_some, same_or_above, side_around, whole_aligned}
 use Rattle.warg_witness.proofs.ClimbLemmas.{shown, up_somewhere}
 use Rattle.warg_witness.proofs.CutLemmas.{ranges_start, sides_there, ranges_up, leaves_count, have_root, plain_digest_is}
 use Rattle.warg_log.specs.Nodes.{height_of, start_of}
@@ -39,10 +41,6 @@ use Rattle.warg_map.proofs.ForCallers.{all_bits, last_held, root_at_prefix, repl
 use Rattle.std.proofs.lemmas.List.{append-nil, map-append, length-reverse}
 use Rattle.warg_witness.specs.UpdateClaims.{IsUpdated, Step, insertions_of, LeadThrough, CollidesAtStep}
 
--- a range is the target or not
-target_or_other : (s w a n : ℕ) → ((a ≡ s) × (n ≡ w)) ⊎ (a ≡ s → n ≡ w → ⊥)
-target_or_other s w a n = grind arith
-
 -- Where two evaluations with one digest at a range diverge.
 abbrev pub SomeDivergence : Type 0
 SomeDivergence = Divergence (Unit {0})
@@ -58,43 +56,40 @@ difference (x ∷ old) (y ∷ new) order other = elim (same_or_not x y) [
 ]
 
 -- two evaluations with digests at a range go up to it
-module _ (H : Digest) (F : Data) (x : List ℕ) (G : Data) (y : List ℕ) (s w : ℕ) (gives : HasSize H)
-    (size : length x ≡ length y) (node : IsNodeRange s w) where
+module _ (H : Digest) (F : Data) (x : List ℕ) (G : Data) (y : List ℕ) (target : Range) (gives : HasSize H)
+    (size : length x ≡ length y) (node : IsNodeRange target) where
   abbrev e : Evaluation
-  e = with_target F (leaves_from s w) x
+  e = with_target F target x
 
   abbrev f : Evaluation
-  f = with_target G (leaves_from s w) y
+  f = with_target G target y
 
-  climbed : (k a n : ℕ) → n ≤ k → IsAligned a n → IsAround s w a n → (p q : List ℕ) → cut_over H e (leaves_from a n)
-      ≡ Some p → cut_over H f (leaves_from a n) ≡ Some q
-      → (first : List ℕ) × (second : List ℕ) × (p : SomeDivergence) × IsRangeClimb H F x G y s w a n first second p
-      × (length first ≡ length second)
-  climbed zero a n le aligned around p q is is' = let some = node_some node in absurd (omega arith)
-  climbed (suc k) a n le aligned around p q is is' = elim (target_or_other s w a n) [
-    | inl here ↦ (x, y, Target, ranges_start here.0 here.1 refl refl refl, size)
-    | inr other ↦
-        let more : 1 < n = let wide = wider around other in let some = node_some node in omega arith in
-        let (right, b, m, c, j, sides, at, smaller) = side_around node aligned around other in
-        let first = sides_there H (node_some node) around other F x sides is in
-        let second = sides_there H (node_some node) around other G y sides is' in
-        let below = climbed k b m (omega arith) (sides_aligned sides aligned more) at first.0 second.0 first.2
-        second.2 in
-        let step = up_somewhere right below.2 below.4 in (
-          H _,
-          H _,
+  climbed : (k : ℕ) (range : Range) → range.count ≤ k → IsAligned range.start range.count → IsAround target range
+      → (p q : List ℕ) → cut_over H e range ≡ Some p → cut_over H f range ≡ Some q
+      → (climb : Climb (Unit {0})) × IsRangeClimb H e f range climb × (length climb.first ≡ length climb.second)
+  climbed zero range le aligned around p q is is' = let some = node_some node in absurd (omega arith)
+  climbed (suc k) range le aligned around p q is is' = elim (same_or_above target range around) [
+    | inl here ↦ (at_bottom x y, ranges_start H F x G y target range here refl, size)
+    | inr over ↦
+        let (right, (smaller, side, at)) = side_around node aligned over in
+        let first = sides_there H e range node over right is in
+        let second = sides_there H f range node over right is' in
+        let below = climbed k (side_of right range) (omega arith) side at first.0 second.0 first.2 second.2 in
+        let step = up_somewhere {H = H} right below.0 first.1 second.1 below.2 in (
           step.0,
-          ranges_up H (node_some node) around other F x G y sides below.3 first.3 second.3 step.1,
-          gives _ ∙ sym (gives _),
+          ranges_up H F x G y target range node over right below.1 first.3 second.3 step.1,
+          ap length step.1.first_is ∙ gives _ ∙ sym (ap length step.1.second_is ∙ gives _),
         )
   ]
 
   -- so two with one digest there diverge somewhere
-  pub diverged : {a n : ℕ} → IsAligned a n → IsAround s w a n → HaveOneDigest H F x G y s w a n → (p : SomeDivergence)
-      × IsDivergence H F x G y s w a n p
-  diverged {a} {n} aligned around one =
-      let climb = climbed n a n (omega arith) aligned around one.digest one.digest one.first one.second in
-      (climb.2, climb.3.diverges (cc (climb.3.first_is, climb.3.second_is)))
+  pub diverged : (range : Range) → IsAligned range.start range.count → IsAround target range
+      → HaveOneDigest H e f range → (p : SomeDivergence) × IsDivergence H e f range p
+  diverged range aligned around one =
+      let climb = climbed range.count range (omega arith) aligned around one.digest one.digest one.first one.second in
+      let same : Some climb.0.first ≡ Some climb.0.second =
+      sym climb.1.first_is ∙ one.first ∙ sym one.second ∙ climb.1.second_is in
+      (climb.0.divergence, climb.1.diverges (cc))
 
 -- what is shown is a collision
 pub shown_collides : {H : Digest} {P : List ℕ → List ℕ → Type 0} (pair : List ℕ × List ℕ) → Shows H P pair
@@ -115,17 +110,17 @@ module _ (H : Digest) where
   root_size entries a n gives some within = grind (arith, plain_digest_is H entries a n some, leaves_count H entries)
 
   -- an evaluation that leads to the root of a tree, and that tree
-  from_tree : {F : Data} {x : List ℕ} (entries : List (List ℕ)) {s w : ℕ} → HasSize H → length x ≡ 32 → IsNodeRange s w
-      → s + w ≤ length (leaves_of H entries) → cut_over H (with_target F (leaves_from s w) x)
-      (leaves_from 0 (length (leaves_of H entries))) ≡ Some (root_of H (leaves_of H entries))
-      → (p : SomeDivergence) × IsDivergence H F x (own_digest H (leaves_of H entries))
-      (root_over H (leaves_of H entries) s w) s w 0 (length (leaves_of H entries)) p
-  from_tree {F} {x} entries {s} {w} gives size node within leads =
+  from_tree : (F : Data) (x : List ℕ) (entries : List (List ℕ)) (target : Range) → HasSize H → length x ≡ 32
+      → IsNodeRange target → target.start + target.count ≤ length (leaves_of H entries)
+      → cut_over H (with_target F target x) (leaves_from 0 (length (leaves_of H entries)))
+      ≡ Some (root_of H (leaves_of H entries))
+      → (p : SomeDivergence) × DivergesFromTree H (with_target F target x) (leaves_of H entries) p
+  from_tree F x entries target gives size node within leads =
       let ds = leaves_of H entries in
       let n = length ds in
       let some = node_some node in
-      diverged _ _ _ _ _ _ _ gives (size ∙ sym (root_size entries s w gives some within)) node (whole_aligned n refl)
-      (omega arith) (have_root H ds s w leads (omega arith))
+      diverged H F x _ _ target gives (size ∙ sym (root_size entries target.start target.count gives some within)) node
+      (leaves_from 0 n) (whole_aligned n refl) (omega arith) (have_root H ds leads (omega arith))
 
   -- a claim that is met leads to the root of the tree
   leads_to : {F : Data} {p : InclusionClaim} {digest : List ℕ} {entries : List (List ℕ)} → IsMet H F p digest entries
@@ -140,7 +135,7 @@ module _ (H : Digest) where
       → ¬ (IsEntry value p.leaf.0 entries) → SomeCollision H (IsValuePlaced H F value p.leaf.0 entries)
   value_collides F p value entries digests met untrue =
       let leads = leads_to met in
-      let (at, diverges) = from_tree entries (sizes digests) (sizes digests (0 ∷ value))
+      let (at, diverges) = from_tree F _ entries (range_of p.leaf.0) (sizes digests) (sizes digests (0 ∷ value))
       (node_range p.leaf.0) leads.0 leads.1 in
       shown_collides _ (shown at (value_placed H F entries _ refl p.leaf.0 value) _ _
       (value_meets H F entries _ refl p.leaf.0 value (λ is. untrue (entry_from p.leaf.0 is))) diverges)
@@ -150,7 +145,8 @@ module _ (H : Digest) where
       → ¬ (IsRootBelow H hash p.leaf.0 entries) → SomeCollision H (IsHashPlaced H F hash p.leaf.0 entries)
   hash_collides F p hash entries digests size met untrue =
       let leads = leads_to met in
-      let (at, diverges) = from_tree entries (sizes digests) size (node_range p.leaf.0) leads.0 leads.1 in
+      let (at, diverges) = from_tree F hash entries (range_of p.leaf.0) (sizes digests) size (node_range p.leaf.0)
+      leads.0 leads.1 in
       some_collision at (hash_placed H F entries _ refl p.leaf.0 hash) (λ meets. absurd (untrue meets.same)) diverges
 
   pub agreement_collides : (p : InclusionClaim) (F : Data) (value : List ℕ) (G : Data) (other : List ℕ) → GivesHashes H
@@ -160,9 +156,9 @@ module _ (H : Digest) where
       let n = p.log_length in
       let first = (inclusion_leads H F p _ met.root).0 met.first_is in
       let second = (inclusion_leads H G p _ met.root).0 met.second_is in
-      let (at, diverges) = diverged _ _ _ _ _ _ _ (sizes digests)
+      let (at, diverges) = diverged H F _ G _ (range_of p.leaf.0) (sizes digests)
       (sizes digests (0 ∷ value) ∙ sym (sizes digests (0 ∷ other))) (node_range p.leaf.0)
-      (whole_aligned n refl) (omega arith) (record { digest = met.root; first = first.1; second = second.1 }) in
+      (leaves_from 0 n) (whole_aligned n refl) (omega arith) (record { digest = met.root; first = first.1; second = second.1 }) in
       shown_collides _ (agreement_shown H F value G other p.leaf.0 n at untrue diverges)
 
 -- what is evaluated has 32 bytes

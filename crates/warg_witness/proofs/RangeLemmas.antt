@@ -1,16 +1,16 @@
 -- Ranges of the tree's recursion and their sides, and balanced roots by that recursion.
-use Rattle.std.proofs.Common.{◌≡◌, ℕ, suc, ◌+◌, ◌-◌, ◌*◌, ◌^◌, ◌<◌, ◌≤◌, ◌⊎◌, Bool, false, true, List, Option, inl, inr, ap, ◌∙◌, arith, rules, refl}
+use Rattle.std.proofs.Common.{◌≡◌, ℕ, suc, ◌+◌, ◌-◌, ◌*◌, ◌^◌, ◌<◌, ◌≤◌, ◌⊎◌, Bool, false, true, List, Option, inl, inr, ap, ◌∙◌, arith, refl}
 use Rattle.std.proofs.lemmas.Nat.{pow-add, pow_pos, pow_below, row_fits, mul-le}
 use Rattle.std.proofs.lemmas.Bool.{cases_lt, cases_eq}
-use Rattle.warg_log.specs.Cut.{IsFull}
-use Rattle.warg_log.specs.Nodes.{height_of, place_of, start_of, node_over, balanced_over}
+use Rattle.warg_log.specs.Cut.{is_target, IsFull}
+use Rattle.warg_log.specs.Nodes.{height_of, place_of, node_over, balanced_over}
 use Rattle.warg_log.specs.Tree.{front_of}
 use Rattle.warg_witness.specs.Ranges.{IsPart, IsAround}
 use Rattle.warg_witness.specs.Ranges.IsPart.{whole, front, rest}
-use Rattle.warg_log.specs.Ranges.{IsAligned}
-use Rattle.warg_witness.specs.Private.Ranges.{IsNodeRange, IsRootOf, AreSides}
+use Rattle.warg_log.specs.Ranges.{Range, leaves_from, range_of, front_part, rest_part, IsAligned}
+use Rattle.warg_witness.specs.Private.Ranges.{IsNodeRange, IsAbove, IsRootOf, side_of}
 use Rattle.warg_witness.specs.Private.Ranges.IsRootOf.{all_leaves, at_front, in_rest}
-use Rattle.warg_log.proofs.ForCallers.{below_pow, front_is_greatest, balanced_full, balanced_parts, over_at, pow_below_pow}
+use Rattle.warg_log.proofs.ForCallers.{same_range, starts, target_decides, below_pow, front_is_greatest, balanced_full, balanced_parts, over_at, pow_below_pow}
 use Rattle.std.specs.List.{Contains}
 
 -- A digest function, and digests by node, as data holds them.
@@ -30,28 +30,39 @@ pub more_than_one : (n : ℕ) → 0 < n → (IsFull n → ⊥) → 1 < n
 more_than_one n some not_full = grind arith
 
 -- one leaf is a node's range, and such a range and the whole of a log are aligned
-pub leaf_node : {a n : ℕ} → n ≡ 1 → IsNodeRange a n
-leaf_node {a} one = record { height = 0; place = a; start = omega arith; count = one }
+pub leaf_node : {range : Range} → range.count ≡ 1 → IsNodeRange range
+leaf_node {range} one = record { height = 0; place = range.start; start = omega arith; count = one }
 
-pub node_aligned : {s w : ℕ} → IsNodeRange s w → IsAligned s w
+pub node_aligned : {range : Range} → IsNodeRange range → IsAligned range.start range.count
 node_aligned node = record { height = node.height; place = node.place; start = node.start; most = omega arith }
 
 -- a node's leaves are a node's range
-pub node_range : (node : ℕ) → IsNodeRange (start_of node) (2 ^ height_of node)
+pub node_range : (node : ℕ) → IsNodeRange (range_of node)
 node_range node = record { height = height_of node; place = place_of node; start = refl; count = refl }
 
 pub leaf_aligned : {a n : ℕ} → n ≡ 1 → IsAligned a n
-leaf_aligned one = node_aligned (leaf_node one)
+leaf_aligned {a} {n} one = node_aligned (leaf_node {range = leaves_from a n} one)
 
 pub whole_aligned : {a : ℕ} (n : ℕ) → a ≡ 0 → IsAligned a n
 whole_aligned n start = record { height = n; place = 0; start = omega arith; most = omega (arith, below_pow n) }
 
-pub node_some : {s w : ℕ} → IsNodeRange s w → 0 < w
+pub node_some : {range : Range} → IsNodeRange range → 0 < range.count
 node_some node = rw node.count (pow_pos node.height)
 
--- a range around a target that is not the target's own has more leaves
-pub wider : {s w a n : ℕ} → IsAround s w a n → (a ≡ s → n ≡ w → ⊥) → w < n
-wider {s} {w} {a} {n} around other = grind arith
+-- a range around another is the same or above it
+pub same_or_above : (inner outer : Range) → IsAround inner outer → (outer ≡ inner) ⊎ IsAbove inner outer
+same_or_above inner outer around = elim (cases_lt inner.count outer.count) [
+  | inl less ↦ inr (record { around = around; more = less })
+  | inr most ↦ inl (same_range outer inner (omega arith) (omega arith))
+]
+
+-- so it is above it, where the code tells them apart
+pub above : {inner outer : Range} → IsAround inner outer → (same : Bool) → same ≡ is_target inner outer → same ≡ false
+    → IsAbove inner outer
+above {inner} {outer} around same told apart = elim (same_or_above inner outer around) [
+  | inl is ↦ let yes = (target_decides inner outer).1 is in absurd (cc)
+  | inr it ↦ it
+]
 
 -- the parts of a part are parts
 pub IsPart-trans : {a₀ n₀ a n b m : ℕ} → IsPart a₀ n₀ a n → IsPart a n b m → IsPart a₀ n₀ b m
@@ -59,10 +70,10 @@ IsPart-trans outer whole = outer
 IsPart-trans outer (front c k part more) = front c k (IsPart-trans outer part) more
 IsPart-trans outer (rest c k part more) = rest c k (IsPart-trans outer part) more
 
-pub sides_part : {right : Bool} {a₀ n₀ a n b m c k : ℕ} → AreSides right a n b m c k → IsPart a₀ n₀ a n → 1 < n
-    → IsPart a₀ n₀ b m
-sides_part {right = false} sides part more = rw (sides.start, sides.count) (front _ _ part more)
-sides_part {right = true} sides part more = rw (sides.start, sides.count) (rest _ _ part more)
+pub side_part : (right : Bool) {a₀ n₀ : ℕ} (range : Range) → IsPart a₀ n₀ range.start range.count → 1 < range.count
+    → IsPart a₀ n₀ (side_of right range).start (side_of right range).count
+side_part false range part more = front _ _ part more
+side_part true range part more = rest _ _ part more
 
 -- an aligned range splits at a multiple of each power of two below its count, so its parts are aligned
 split_place : {a n : ℕ} → IsAligned a n → 1 < n → (k : ℕ) → 2 ^ k < n → (q : ℕ) × (a + front_of n ≡ q * 2 ^ k)
@@ -88,49 +99,39 @@ rest_aligned {n = n} aligned more =
     let at = split_place aligned more f.0.0 (omega arith) in
     record { height = f.0.0; place = at.0; start = at.1; most = omega arith }
 
-pub sides_aligned : {right : Bool} {a n b m c k : ℕ} → AreSides right a n b m c k → IsAligned a n → 1 < n
-    → IsAligned b m
-sides_aligned {right = false} {n = n} sides aligned more = let f = front_is_greatest n more in
-    rw (sides.start, sides.count) (front_aligned aligned (omega arith))
-sides_aligned {right = true} sides aligned more = rw (sides.start, sides.count) (rest_aligned aligned more)
+-- of the sides of a range above a target, the one in which the target begins is around it, shorter and aligned
+module _ {target range : Range} (node : IsNodeRange target) (aligned : IsAligned range.start range.count)
+    (over : IsAbove target range) where
+  -- What is so of that side.
+  abbrev pub IsSide : Range → Type 0
+  IsSide side = (side.count < range.count) × IsAligned side.start side.count × IsAround target side
 
--- so is what begins behind the first part and isn't longer than the rest
-pub beside_aligned : {a n b m : ℕ} → IsAligned a n → 1 < n → b ≡ a + front_of n → m ≤ n - front_of n → IsAligned b m
-beside_aligned aligned more start shorter = rw start (front_aligned (rest_aligned aligned more) shorter)
+  pub above_one : 1 < range.count
+  above_one = omega (arith, node_some node, over.more)
 
--- of the sides of a range around a target, the one in which the target begins is around it
-pub front_around : {s w a n : ℕ} → IsNodeRange s w → IsAligned a n → IsAround s w a n → (a ≡ s → n ≡ w → ⊥)
-    → s < a + front_of n → s + w ≤ a + front_of n
-front_around {s} {w} {a} {n} node aligned around other left =
-    let more = wider around other in
-    let some = node_some node in
-    let at = split_place aligned (omega arith) node.height (omega arith) in
-    elim (cases_lt node.place at.0) [
-      | inl less ↦ omega (arith, row_fits node.place (2 ^ node.height) at.0 (2 ^ node.height) less (omega arith))
-      | inr le ↦ omega (arith, mul-le at.0 (2 ^ node.height) node.place (2 ^ node.height) le (omega arith))
-    ]
+  pub front_side : target.start < range.start + front_of range.count → IsSide (front_part range)
+  front_side left =
+      let f = front_is_greatest range.count above_one in
+      let at = split_place aligned above_one node.height (omega (arith, over.more)) in
+      let ends : target.start + target.count ≤ range.start + front_of range.count = elim (cases_lt node.place at.0) [
+        | inl less ↦ omega (arith, row_fits node.place (2 ^ node.height) at.0 (2 ^ node.height) less (omega arith))
+        | inr le ↦ omega (arith, mul-le at.0 (2 ^ node.height) node.place (2 ^ node.height) le (omega arith))
+      ] in
+      (f.1, front_aligned aligned (omega arith), record { starts = over.around.starts; ends = ends })
 
--- both its sides are aligned
-pub parts_aligned : {s w a n : ℕ} → IsNodeRange s w → IsAligned a n → IsAround s w a n → (a ≡ s → n ≡ w → ⊥)
-    → IsAligned a (front_of n) × IsAligned (a + front_of n) (n - front_of n)
-parts_aligned {n = n} node aligned around other =
-    let wide = wider around other in
-    let some = node_some node in
-    let f = front_is_greatest n (omega arith) in
-    (front_aligned aligned (omega arith), rest_aligned aligned (omega arith))
+  pub rest_side : range.start + front_of range.count ≤ target.start → IsSide (rest_part range)
+  rest_side right =
+      let f = front_is_greatest range.count above_one in (
+        omega arith,
+        rest_aligned aligned above_one,
+        record { starts = right; ends = omega (arith, over.around.ends) },
+      )
 
--- so one side of a range is around the target
-pub side_around : {s w a n : ℕ} → IsNodeRange s w → IsAligned a n → IsAround s w a n → (a ≡ s → n ≡ w → ⊥)
-    → (right : Bool) × (b : ℕ) × (m : ℕ) × (c : ℕ) × (k : ℕ) × AreSides right a n b m c k × IsAround s w b m × (m < n)
-side_around {s} {w} {a} {n} node aligned around other =
-    let more = wider around other in
-    let some = node_some node in
-    let f = front_is_greatest n (omega arith) in
-    elim (cases_lt s (a + front_of n)) [
-      | inl left ↦ let ends = front_around node aligned around other left in
-          (false, a, front_of n, a + front_of n, n - front_of n, search rules, omega arith, f.1)
-      | inr right ↦ (true, a + front_of n, n - front_of n, a, front_of n, search rules, omega arith, omega arith)
-    ]
+  pub side_around : (right : Bool) × IsSide (side_of right range)
+  side_around = elim (cases_lt target.start (range.start + front_of range.count)) [
+    | inl left ↦ (false, front_side left)
+    | inr right ↦ (true, rest_side right)
+  ]
 
 -- the parts of an aligned range lie within it and are aligned, and so are those of a whole log
 pub part_within : {a n b m : ℕ} → IsAligned a n → IsPart a n b m → (b + m ≤ a + n) × IsAligned b m
@@ -144,7 +145,7 @@ pub part_in : {n b m : ℕ} → IsPart 0 n b m → (b + m ≤ n) × IsAligned b 
 part_in {n} part = let at = part_within (whole_aligned n refl) part in (omega arith, at.1)
 
 -- a power of two of leaves that begins at a multiple of a greater one is a node's
-pub full_node : {s w : ℕ} → IsAligned s w → IsFull w → IsNodeRange s w
+pub full_node : {range : Range} → IsAligned range.start range.count → IsFull range.count → IsNodeRange range
 full_node aligned is =
     let low : is.0 ≤ aligned.height = grind (arith, pow_below) in
     record {
@@ -171,54 +172,70 @@ full_or_not n some =
     ]
 
 -- the first part of an aligned range is a node's
-pub front_node : (a n : ℕ) → IsAligned a n → 1 < n → IsNodeRange a (front_of n)
-front_node a n aligned more = let f = front_is_greatest n more in full_node (front_aligned aligned (omega arith)) f.0
+pub front_node : (range : Range) → IsAligned range.start range.count → 1 < range.count
+    → IsNodeRange (front_part range)
+front_node range aligned more = let f = front_is_greatest range.count more in
+    full_node (front_aligned aligned (omega arith)) f.0
 
 pub ruleset root_parts = (all_leaves, at_front, in_rest)
 
 -- the leaves below the node over a range
-pub node_bounds : {s w : ℕ} → IsNodeRange s w → (start_of (node_over s w) ≡ s) × (2 ^ height_of (node_over s w) ≡ w)
-node_bounds node = grind (arith, over_at node.height node.place)
+pub node_bounds : {range : Range} → IsNodeRange range → range_of (node_over range.start range.count) ≡ range
+node_bounds {range} node =
+    let at = over_at node.height node.place in
+    same_range (range_of (node_over range.start range.count)) range (grind arith) (grind arith)
 
 -- a balanced root is among those of the range
-pub root_contained : {s w a n : ℕ} → IsRootOf s w a n → Contains (balanced_over a n) (node_over s w)
-root_contained {s} {w} (all_leaves is) = rw (balanced_full s w is) (0, omega arith, refl)
-root_contained {s} (at_front n more not_full is) = rw (balanced_parts s n more not_full, is) (0, omega arith, refl)
-root_contained {s} {w} (in_rest a n more not_full root) = let below = root_contained root in
-    rw (balanced_parts a n more not_full) (suc below.0, omega arith, below.2)
+pub root_contained : {root range : Range} → IsRootOf root range
+    → Contains (balanced_over range.start range.count) (node_over root.start root.count)
+root_contained {root} (all_leaves is) = rw (balanced_full root.start root.count is) (0, omega arith, refl)
+root_contained (at_front range more not_full is) = rw (balanced_parts range.start range.count more not_full, is)
+    (0, omega arith, refl)
+root_contained (in_rest range more not_full root) = let below = root_contained root in
+    rw (balanced_parts range.start range.count more not_full) (suc below.0, omega arith, below.2)
 
--- The w leaves from s on are a node's, and a range of the recursion over the n leaves from a on.
-pub record Stands (s w a n : ℕ) : Type 0 where
-  pub node : IsNodeRange s w
-  pub around : IsAround s w a n
-  pub part : IsPart a n s w
+-- The root is a node's range, and one of the recursion over the range.
+pub record Stands (root range : Range) : Type 0 where
+  pub node : IsNodeRange root
+  pub around : IsAround root range
+  pub part : IsPart range.start range.count root.start root.count
 
-pub root_stands : {s w a n : ℕ} → IsRootOf s w a n → IsAligned a n → Stands s w a n
+pub root_stands : {root range : Range} → IsRootOf root range → IsAligned range.start range.count → Stands root range
 root_stands (all_leaves is) aligned = record { node = full_node aligned is; around = omega arith; part = whole }
-root_stands {s} (at_front n more not_full is) aligned =
-    let f = front_is_greatest n more in
-    rw is (record { node = front_node s n aligned more; around = omega arith; part = front s n whole more })
-root_stands (in_rest a n more not_full root) aligned =
-    let f = front_is_greatest n more in
+root_stands (at_front range more not_full is) aligned =
+    let f = front_is_greatest range.count more in
+    rw is (record {
+      node = front_node range aligned more;
+      around = omega arith;
+      part = front range.start range.count whole more;
+    })
+root_stands (in_rest range more not_full root) aligned =
+    let f = front_is_greatest range.count more in
     let below = root_stands root (rest_aligned aligned more) in
-    record { node = below.node; around = omega arith; part = IsPart-trans (rest a n whole more) below.part }
+    record {
+      node = below.node;
+      around = omega arith;
+      part = IsPart-trans (rest range.start range.count whole more) below.part;
+    }
 
 -- a part around a balanced root has it as a balanced root
-root_in_front : {s w a n : ℕ} → IsRootOf s w a n → IsAligned a n → 1 < n → IsAround s w a (front_of n)
-    → IsRootOf s w a (front_of n)
+root_in_front : {root range : Range} → IsRootOf root range → IsAligned range.start range.count → 1 < range.count
+    → IsAround root (front_part range) → IsRootOf root (front_part range)
 root_in_front (all_leaves is) aligned more around = let f = front_is_greatest _ more in absurd (omega arith)
-root_in_front {s} (at_front n _ not_full is) aligned more around = let f = front_is_greatest n more in
-    rw (← is) (all_leaves (rw (← is) at f.0))
-root_in_front (in_rest a n _ not_full root) aligned more around =
+root_in_front (at_front range _ not_full is) aligned more around = let f = front_is_greatest range.count more in
+    rw is (all_leaves f.0)
+root_in_front (in_rest range _ not_full root) aligned more around =
     let below = root_stands root (rest_aligned aligned more) in let some = node_some below.node in absurd (omega arith)
 
-root_in_rest : {s w a n : ℕ} → IsRootOf s w a n → 1 < n → IsAround s w (a + front_of n) (n - front_of n)
-    → IsRootOf s w (a + front_of n) (n - front_of n)
+root_in_rest : {root range : Range} → IsRootOf root range → 1 < range.count → IsAround root (rest_part range)
+    → IsRootOf root (rest_part range)
 root_in_rest (all_leaves is) more around = let f = front_is_greatest _ more in absurd (omega arith)
-root_in_rest (at_front n _ not_full is) more around = let f = front_is_greatest n more in absurd (omega arith)
-root_in_rest (in_rest a n _ not_full root) more around = root
+root_in_rest (at_front range _ not_full is) more around = let f = front_is_greatest range.count more in
+    absurd (omega (arith, starts is))
+root_in_rest (in_rest range _ not_full root) more around = root
 
-pub root_at_part : {s w m a n : ℕ} → IsRootOf s w 0 m → IsPart 0 m a n → IsAround s w a n → IsRootOf s w a n
+pub root_at_part : {root : Range} {m a n : ℕ} → IsRootOf root (leaves_from 0 m) → IsPart 0 m a n
+    → IsAround root (leaves_from a n) → IsRootOf root (leaves_from a n)
 root_at_part root whole around = root
 root_at_part root (front b k part more) around = let f = front_is_greatest k more in
     root_in_front (root_at_part root part (omega arith)) (part_in part).1 more around

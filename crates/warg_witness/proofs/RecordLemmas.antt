@@ -1,5 +1,5 @@
 -- Where paths lead, turn by turn, two evaluations along paths of one place, and a tree's own path.
-use Rattle.std.proofs.Common.{◌≡◌, ◌⊎◌, inl, inr, ℕ, zero, suc, ◌+◌, ◌-◌, ◌==◌, ◌<◌, ◌≤◌, Bool, true, false, List, [], ◌∷◌, ◌++◌, length, map, reverse, get_or, Option, Some, None, if◌then◌else◌, refl, sym, ap, ◌∙◌, arith}
+use Rattle.std.proofs.Common.{◌≡◌, ◌⊎◌, inl, inr, ℕ, zero, suc, ◌+◌, ◌-◌, ◌==◌, ◌<◌, ◌≤◌, Bool, true, false, not, List, [], ◌∷◌, ◌++◌, length, map, reverse, get_or, Option, Some, None, if◌then◌else◌, refl, sym, ap, ◌∙◌, arith}
 use Rattle.std.specs.Option.{MatchOption}
 use Rattle.std.proofs.lemmas.Bool.Decides.{nat_tests}
 use Rattle.std.proofs.lemmas.Bool.{cases_lt, cases_Bool, lt-leb, le-leb, lt-ltb, le-ltb, eqb-true}
@@ -18,12 +18,12 @@ use Rattle.warg_witness.specs.Inputs.{plain_input}
 use Rattle.warg_witness.specs.PathClaims.{IsRecord}
 use Rattle.warg_witness.specs.PathPlaced.{record_input, IsRecordAgreementPlaced, IsRecordPlaced}
 use Rattle.warg_witness.specs.Private.Turns.{IsUp, Turn, climbed, is_right, leaf_in, count_in, path_turns, AreTaken}
-use Rattle.warg_witness.specs.Private.Divergence.{Shows, inputs_of}
-use Rattle.warg_witness.specs.Private.PathClimbs.{LeadNowhere, IsPathClimb, NeverMeet, IsPathsMeeting}
-use Rattle.warg_witness.specs.Private.TreeDivergence.{IsBeside, tree_input}
-use Rattle.warg_witness.specs.Private.Ranges.{AreSides}
+use Rattle.warg_witness.specs.Private.Divergence.{Shows, at_bottom, inputs_of}
+use Rattle.warg_witness.specs.Private.PathClimbs.{path_from, LeadNowhere, IsPathClimb, NeverMeet, IsPathsMeeting}
+use Rattle.warg_witness.specs.Private.TreeDivergence.{IsBesideTree, tree_input}
+use Rattle.warg_witness.specs.Private.Ranges.{root_at, side_of}
+use Rattle.warg_witness.specs.declared.divergence.Climb.{Climb}
 use Rattle.warg_witness.specs.declared.divergence.Divergence.{Divergence}
-use Rattle.warg_witness.specs.declared.divergence.Divergence.TheVariants.{Target}
 use Rattle.warg_witness.proofs.ClimbLemmas.{parts_placed, shown, up_parts}
 use Rattle.warg_witness.proofs.CutLemmas.{leaves_count, plain_digest_is}
 use Rattle.warg_witness.proofs.RangeLemmas.{Digest, front_aligned, rest_aligned, whole_aligned}
@@ -158,39 +158,37 @@ pub plain_root : (H : Digest) (entries : List (List ℕ)) → root_over H (leave
     ≡ root_of H (leaves_of H entries)
 plain_root H entries = rw leaves_count at (whole_root H (leaves_of H entries))
 
--- the branch over the roots of both sides of a range is the tree's
-tree_beside : (H : Digest) (tree : List (List ℕ)) (right : Bool) {a n b k c j : ℕ} {e z : List ℕ}
-    → AreSides right a n b k c j → e ≡ root_over H tree b k → z ≡ root_over H tree c j → input_beside right z e
-    ≡ tree_input H tree a n
-tree_beside H tree false sides near far = rw (near, far, sides.start, sides.count, sides.other_start, sides.other_count)
-    refl
-tree_beside H tree true sides near far = rw (near, far, sides.start, sides.count, sides.other_start, sides.other_count)
-    refl
-
--- one branch up beside a tree
-pub beside_up : {D : Type 0} {H : Digest} (tree : List (List ℕ)) {P Q : List ℕ → List ℕ → Type 0} {A B : Type 0}
-    {right : Bool} {a n b k c j : ℕ} {d e u z f g : List ℕ} {p q : Divergence D}
-    → 1 < n → a + n ≤ length tree → AreSides right a n b k c j → IsBeside H tree P A b k d e p
-    → z ≡ root_over H tree c j → IsUp H right d u e z p f g q → ((i j : List ℕ) → P i j → Q i j) → (A → B)
-    → (input_beside right z e ≡ tree_input H tree a n → Q (input_beside right u d) (input_beside right z e))
-    → IsBeside H tree Q B a n f g q
-beside_up {H = H} tree {Q = Q} {B = B} {right} {a} {n} {p = p} more within sides below z_is up widen meet here =
-    let plain = tree_beside H tree right sides below.is z_is in record {
-      is = up.second_is ∙ ap H plain ∙ sym (root_over_parts H tree a n more within);
-      parts = up_parts Q B up (λ same _. parts_placed H p widen meet (below.parts same)) (here plain);
+-- one branch up beside a tree: from one side of a range, with the other beside it
+pub beside_up : {D : Type 0} {H : Digest} (tree : List (List ℕ)) {P Q : List ℕ → List ℕ → Type 0} {A : Type 0}
+    (right : Bool) (range : Range) {near far : Range} {before after : Climb D} {u z : List ℕ} → 1 < range.count
+    → range.start + range.count ≤ length tree → near ≡ side_of right range → far ≡ side_of (not right) range
+    → IsBesideTree H tree P A near before → z ≡ root_at H tree far → IsUp H right before u z after
+    → ((i j : List ℕ) → P i j → Q i j) → ((j : List ℕ) → j ≡ tree_input H tree range → Q (input_beside right u before.first) j)
+    → IsBesideTree H tree Q A range after
+beside_up {H = H} tree {Q = Q} {A = A} right range {near} {far} {before} {z = z} more within near_is far_is below z_is
+    up widen here =
+    let plain = made right near_is far_is in record {
+      is = up.second_is ∙ ap H plain ∙ sym (root_over_parts H tree range.start range.count more within);
+      parts = up_parts Q A up (λ same _. parts_placed H before.divergence widen (λ meets. meets) (below.parts same))
+          (here _ plain);
     }
+  where
+    made : (right : Bool) → near ≡ side_of right range → far ≡ side_of (not right) range
+        → input_beside right z before.second ≡ tree_input H tree range
+    made false near_is far_is = rw (z_is, below.is, near_is, far_is) refl
+    made true near_is far_is = rw (z_is, below.is, near_is, far_is) refl
 
 -- both evaluations at a leaf, and one turn up
 module _ {D : Type 0} (H : Digest) (x y : List ℕ) where
-  pub leaf_climb : {m n : ℕ} {first second : List ℕ} {p : Divergence D} (path other : List (List ℕ)) → n ≡ 1
-      → length path ≡ 0 → length other ≡ 0 → first ≡ x → second ≡ y → p ≡ Target
-      → IsPathClimb H x (reverse path) y (reverse other) m n first second p
-  leaf_climb {m} path other one none others first second target =
-      rw (one, first, second, target)
+  pub leaf_climb : {m n : ℕ} {climb : Climb D} (path other : List (List ℕ)) → n ≡ 1 → length path ≡ 0
+      → length other ≡ 0 → climb ≡ at_bottom x y
+      → IsPathClimb H (path_from x (reverse path)) (path_from y (reverse other)) m n climb
+  leaf_climb {m} path other one none others bottom =
+      rw (one, bottom)
       (record {
         first_led = root_one H m x path none;
         second_led = root_one H m y other others;
-        climb = rw (empty path none, empty other others) (no_turns refl refl refl);
+        turns = rw (empty path none, empty other others) (no_turns refl);
       })
     where
       empty : (path : List (List ℕ)) → length path ≡ 0 → reverse path ≡ []
@@ -198,41 +196,46 @@ module _ {D : Type 0} (H : Digest) (x y : List ℕ) where
       empty (d ∷ path) is = absurd (omega arith)
 
   module _ {t u : List ℕ} {ds es : List (List ℕ)} (m n : ℕ) (more : 1 < n) where
-    pub part_up : {d e f g : List ℕ} {p q : Divergence D} → IsPathClimb H x ds y es (leaf_in m n) (count_in m n) d e p
-        → IsUp H (is_right m n) d t e u p f g q → IsPathClimb H x (t ∷ ds) y (u ∷ es) m n f g q
+    pub part_up : {before after : Climb D}
+        → IsPathClimb H (path_from x ds) (path_from y es) (leaf_in m n) (count_in m n) before
+        → IsUp H (is_right m n) before t u after
+        → IsPathClimb H (path_from x (t ∷ ds)) (path_from y (u ∷ es)) m n after
     part_up climb up = record {
       first_led = leads_up H m n x t _ ds more climb.first_led ∙ ap Some (sym up.first_is);
       second_led = leads_up H m n y u _ es more climb.second_led ∙ ap Some (sym up.second_is);
-      climb = turn_up climb.climb up;
+      turns = turn_up climb.turns up;
     }
 
 -- where one leads nowhere in the part that has the leaf, it leads nowhere
 pub part_nowhere : (H : Digest) (x y t u : List ℕ) (ds es : List (List ℕ)) (m n : ℕ)
-    → LeadNowhere H x ds y es (leaf_in m n) (count_in m n) → LeadNowhere H x (t ∷ ds) y (u ∷ es) m n
+    → LeadNowhere H (path_from x ds) (path_from y es) (leaf_in m n) (count_in m n)
+    → LeadNowhere H (path_from x (t ∷ ds)) (path_from y (u ∷ es)) m n
 part_nowhere H x y t u ds es m n nowhere = λ first second is other. nowhere _ _ (led_down H m n x first t ds is).led
     (led_down H m n y second u es other).led
 
 -- two paths of which one leads nowhere, that lead to two digests, and that lead to one
 module _ (H : Digest) (x y : List ℕ) (path other : List (List ℕ)) (m n : ℕ) where
-  pub nowhere_never : LeadNowhere H x (reverse path) y (reverse other) m n → NeverMeet H x path y other m n
+  pub nowhere_never : LeadNowhere H (path_from x (reverse path)) (path_from y (reverse other)) m n
+      → NeverMeet H (path_from x path) (path_from y other) m n
   nowhere_never nowhere = λ root first second. nowhere root root (leads_inside H m n x root path first).1
       (leads_inside H m n y root other second).1
 
-  module _ {D : Type 0} {first second : List ℕ} {p : Divergence D}
-      (climb : IsPathClimb H x (reverse path) y (reverse other) m n first second p) where
-    pub paths_met : m < n → (met : Option (Divergence D))
-        → MatchOption met (¬ (first ≡ second)) (λ q. (first ≡ second) × (q ≡ p))
-        → MatchOption met (NeverMeet H x path y other m n) (IsPathsMeeting H x path y other m n)
-    paths_met inside None apart = λ root is other_is.
-        let one : Some first ≡ Some root = sym climb.first_led ∙ (leads_inside H m n x root path is).1 in
-        let two : Some second ≡ Some root = sym climb.second_led ∙ (leads_inside H m n y root other other_is).1 in
-        apart (cc)
-    paths_met inside (Some q) is = rw is.1 (record {
-      root = first;
-      first_is = inside_leads H m n x path inside ∙ climb.first_led;
-      second_is = inside_leads H m n y other inside ∙ climb.second_led ∙ ap Some (sym is.0);
-      diverges = climb.climb.diverges is.0;
-    })
+  pub paths_met : {D : Type 0} {top : Climb D}
+      → IsPathClimb H (path_from x (reverse path)) (path_from y (reverse other)) m n top → m < n
+      → (met : Option (Divergence D))
+      → MatchOption met (¬ (top.first ≡ top.second)) (λ q. (top.first ≡ top.second) × (q ≡ top.divergence))
+      → MatchOption met (NeverMeet H (path_from x path) (path_from y other) m n)
+      (IsPathsMeeting H (path_from x path) (path_from y other) m n)
+  paths_met {top = top} climb inside None apart = λ root is other_is.
+      let one : Some top.first ≡ Some root = sym climb.first_led ∙ (leads_inside H m n x root path is).1 in
+      let two : Some top.second ≡ Some root = sym climb.second_led ∙ (leads_inside H m n y root other other_is).1 in
+      apart (cc)
+  paths_met {top = top} climb inside (Some q) is = rw is.1 (record {
+    root = top.first;
+    first_is = inside_leads H m n x path inside ∙ climb.first_led;
+    second_is = inside_leads H m n y other inside ∙ climb.second_led ∙ ap Some (sym is.0);
+    diverges = climb.turns.diverges is.0;
+  })
 
 -- a path that leads to a root leads to it by its turns
 pub path_leads : (H : Digest) (m n : ℕ) (x root : List ℕ) (ds : List (List ℕ)) → root_down H m n x ds ≡ Some root
@@ -322,7 +325,7 @@ module _ (H : Digest) (index count : ℕ) (path : List (List ℕ)) (v : List ℕ
 
   -- what a divergence of two paths shows, where the values differ
   pub record_agreement_shown : {D : Type 0} (p : Divergence D) → (v ≡ u → ⊥)
-      → IsPathsMeeting H (H (0 ∷ v)) path (H (0 ∷ u)) other_path index count p
+      → IsPathsMeeting H (path_from (H (0 ∷ v)) path) (path_from (H (0 ∷ u)) other_path) index count p
       → Shows H (IsRecordAgreementPlaced H index count path v other_path u) (inputs_of p (0 ∷ v) (0 ∷ u))
   record_agreement_shown p apart met =
       shown p (λ first second take. agreement_placed first second met.first_is met.second_is (inl take)) _ _
@@ -496,7 +499,7 @@ module _ (H : Digest) (index : ℕ) (path : List (List ℕ)) (value : List ℕ) 
 
     -- what a divergence of both shows, where the claim is false
     pub record_shown : {D : Type 0} (p : Divergence D) → (IsRecord index value entries → ⊥)
-        → IsPathsMeeting H (H (0 ∷ value)) path (H (0 ∷ entry)) own index (length entries) p
+        → IsPathsMeeting H (path_from (H (0 ∷ value)) path) (path_from (H (0 ∷ entry)) own) index (length entries) p
         → Shows H (IsRecordPlaced H index path value entries) (inputs_of p (0 ∷ value) (0 ∷ entry))
     record_shown p untrue met =
         let pair = record_agreement_shown H index (length entries) path value own entry p (λ e. untrue (sym e)) met in

@@ -1,9 +1,9 @@
 -- What proofs show of given entries, where they diverge from the trees over them.
-use Rattle.std.proofs.Common.{◌≡◌, ℕ, ◌^◌, ◌<◌, ◌≤◌, List, [], ◌∷◌, Option, Some, None, Ok, refl, sym, ◌∙◌, arith, inl, inr, ap, length, map, get_or}
+use Rattle.std.proofs.Common.{◌≡◌, ℕ, ◌^◌, ◌<◌, ◌≤◌, List, [], ◌∷◌, Option, Some, None, Ok, refl, sym, subst, ◌∙◌, arith, inl, inr, ap, length, map, get_or}
 use Rattle.std.proofs.lemmas.Nat.{pow_pos}
 use Rattle.std.proofs.lemmas.Bool.Decides.{nat_tests}
 use Rattle.warg_log.specs.Nodes.{height_of, start_of, node_over, balanced_roots}
-use Rattle.warg_log.specs.Tree.{leaves_of, root_of, root_over, own_digest}
+use Rattle.warg_log.specs.Tree.{leaves_of, root_of}
 use Rattle.warg_log.specs.Claims.{InclusionClaim}
 use Rattle.std.specs.Option.{MatchOption}
 use Rattle.warg_witness.specs.Claims.{IsEntry, Begins, IsConsistencyMet}
@@ -13,15 +13,15 @@ use Rattle.warg_witness.specs.Private.Compared.{IsAt, DiffersFirst}
 use Rattle.warg_witness.specs.Private.Meeting.{IsMeeting, IsConsistencyMeeting, LeadsToBoth}
 use Rattle.warg_witness.specs.Private.Divergence.{IsDivergence, Shows, inputs_of}
 use Rattle.warg_witness.specs.declared.divergence.Divergence.{Divergence}
-use Rattle.warg_witness.proofs.RangeLemmas.{Digest, Data, part_in, IsPart-trans, wider, whole_aligned, node_some, node_bounds, rest_aligned, root_contained, root_stands, root_at_part}
-use Rattle.warg_witness.specs.Private.Ranges.{IsRootOf}
+use Rattle.warg_witness.proofs.RangeLemmas.{Digest, Data, part_in, IsPart-trans, whole_aligned, node_some, node_bounds, rest_aligned, root_contained, root_stands, root_at_part}
+use Rattle.warg_witness.specs.Private.Ranges.{IsAbove, IsRootOf}
 use Rattle.warg_witness.specs.Private.Ranges.IsRootOf.{all_leaves, at_front, in_rest}
 use Rattle.warg_witness.proofs.ClimbLemmas.{shown}
 use Rattle.warg_witness.proofs.CutLemmas.{leaves_count, DivergesFrom, Meets, plain_digest_is, own_second, own_input}
 use Rattle.warg_log.proofs.ForCallers.{starts, counts, pow_below_pow, cut_old, cut_parts, cut_target, front_is_greatest, old_full, old_parts, consistency_only, consistency_then}
-use Rattle.warg_log.specs.Cut.{Evaluation, with_target, cut_over, old_over, IsFull}
+use Rattle.warg_log.specs.Cut.{Evaluation, with_target, with_own, cut_over, old_over, IsFull}
 use Rattle.warg_witness.specs.Ranges.{IsPart}
-use Rattle.warg_log.specs.Ranges.{Range, leaves_from, front_part, rest_part, IsAligned}
+use Rattle.warg_log.specs.Ranges.{Range, leaves_from, range_of, front_part, rest_part, IsAligned}
 use Rattle.std.proofs.lemmas.List.{length-map, get_or-map, get_or-take}
 use Rattle.std.proofs.lemmas.List.Elements.{All-from_recursion, All-contains}
 use Rattle.warg_log.specs.Consistency.{LeadsTo, IsConsistent, consistency}
@@ -49,25 +49,29 @@ leaf_same : (H : Digest) (value : List ℕ) (entries : List (List ℕ)) (s w : �
 leaf_same H value entries s w some e = grind (arith, nat_tests)
 
 -- the evaluation's input around a value, at the value and elsewhere
-value_here : (H : Digest) (F : Data) (v : List ℕ) (s w : ℕ) → value_input H F (leaves_from s w) v (leaves_from s w)
-    ≡ Some (0 ∷ v)
-value_here H F v s w = grind (arith, nat_tests)
+value_here : (H : Digest) (F : Data) (v : List ℕ) (target : Range) → value_input H F target v target ≡ Some (0 ∷ v)
+value_here H F v target = grind (arith, nat_tests)
 
-value_above : (H : Digest) (F : Data) (v : List ℕ) (s w a n : ℕ) → (a ≡ s → n ≡ w → ⊥)
-    → value_input H F (leaves_from s w) v (leaves_from a n) ≡ cut_input H (with_target F (leaves_from s w) (H (0 ∷ v)))
-    (leaves_from a n)
-value_above H F v s w a n other = grind (arith, nat_tests)
+value_above : (H : Digest) (F : Data) (v : List ℕ) (target range : Range) → IsAbove target range
+    → value_input H F target v range ≡ cut_input H (with_target F target (H (0 ∷ v))) range
+value_above H F v target range over = let more = over.more in grind (arith, nat_tests)
 
 module _ (H : Digest) (F : Data) (entries ds : List (List ℕ)) (is : ds ≡ leaves_of H entries) (node : ℕ) where
-  pub value_placed : (value first second : List ℕ) → DivergesFrom H F (H (0 ∷ value)) ds (start_of node)
-      (2 ^ height_of node) first second → IsValuePlaced H F value node entries first second
+  pub value_placed : (value first second : List ℕ)
+      → DivergesFrom H (with_target F (range_of node) (H (0 ∷ value))) ds first second
+      → IsValuePlaced H F value node entries first second
   value_placed value first second diverges =
-      let own = own_second H entries ds is (pow_pos (height_of node)) diverges in
-      let here = value_above H F value (start_of node) (2 ^ height_of node) diverges.from diverges.count diverges.other
-      ∙ diverges.first_input in search (own, here, diverges)
+      let own = own_second H entries ds is (pow_pos (height_of node)) diverges in record {
+        from = diverges.range.start;
+        count = diverges.range.count;
+        part = own.0;
+        around = diverges.above.around;
+        evaluation = value_above H F value (range_of node) diverges.range diverges.above ∙ diverges.first_input;
+        plain = own.1;
+      }
 
   pub value_meets : (value : List ℕ) → (IsAt value entries (start_of node) (2 ^ height_of node) → ⊥)
-      → Meets H (H (0 ∷ value)) ds (start_of node) (2 ^ height_of node) → Shows H (IsValuePlaced H F value node entries)
+      → Meets H (with_target F (range_of node) (H (0 ∷ value))) ds → Shows H (IsValuePlaced H F value node entries)
       (0 ∷ value, plain_input H entries (start_of node) (2 ^ height_of node))
   value_meets value other meets =
       let part = rw (is, leaves_count H entries) at meets.part in
@@ -77,50 +81,73 @@ module _ (H : Digest) (F : Data) (entries ds : List (List ℕ)) (is : ds ≡ lea
           differ = λ e. other (leaf_same H value entries _ _ (pow_pos (height_of node)) e);
           same = plain;
         };
-        placed = search (part, value_here, arith);
+        placed = record {
+          from = start_of node;
+          count = 2 ^ height_of node;
+          part = part;
+          around = omega arith;
+          evaluation = value_here H F value (range_of node);
+          plain = refl;
+        };
       }
 
-  pub hash_placed : (hash first second : List ℕ) → DivergesFrom H F hash ds (start_of node)
-      (2 ^ height_of node) first second → IsHashPlaced H F hash node entries first second
-  hash_placed hash first second diverges = let own = own_second H entries ds is (pow_pos (height_of node)) diverges in
-      search (own, diverges)
+  pub hash_placed : (hash first second : List ℕ) → DivergesFrom H (with_target F (range_of node) hash) ds first second
+      → IsHashPlaced H F hash node entries first second
+  hash_placed hash first second diverges =
+      let own = own_second H entries ds is (pow_pos (height_of node)) diverges in record {
+        from = diverges.range.start;
+        count = diverges.range.count;
+        part = own.0;
+        around = diverges.above.around;
+        other = λ _ same. let more = diverges.above.more in omega arith;
+        evaluation = diverges.first_input;
+        plain = own.1;
+      }
 
 -- what a meeting shows, where the claim is false
-module _ {D : Type 0} {H : Digest} {F : Data} {proof : InclusionClaim} {entries tree : List (List ℕ)} {start count : ℕ}
-    {plain : List ℕ} {p : Divergence D} where
-  pub value_shown : {value : List ℕ} → IsMeeting H F proof (H (0 ∷ value)) entries tree start count plain p
-      → (IsAt value entries start count → ⊥)
-      → Shows H (IsValuePlaced H F value proof.leaf.0 entries)
-      (inputs_of p (0 ∷ value) (plain_input H entries start count))
-  value_shown {value} met other =
-      let apart = rw (met.start_is, met.count_is) at other in
-      rw (met.start_is, met.count_is) (shown p (value_placed H F entries tree met.tree_is proof.leaf.0 value) _ _
-      (value_meets H F entries tree met.tree_is proof.leaf.0 value apart) met.diverges)
+pub value_shown : {D : Type 0} {H : Digest} {F : Data} {proof : InclusionClaim} {value : List ℕ}
+    {entries tree : List (List ℕ)} {target : Range} {p : Divergence D} → target ≡ range_of proof.leaf.0
+    → IsMeeting H F proof (H (0 ∷ value)) entries tree p → (IsAt value entries target.start target.count → ⊥)
+    → Shows H (IsValuePlaced H F value proof.leaf.0 entries)
+    (inputs_of p (0 ∷ value) (plain_input H entries target.start target.count))
+value_shown {H = H} {F} {proof} {value} {entries} {tree} {p = p} here met other =
+    rw here (shown p (value_placed H F entries tree met.tree_is proof.leaf.0 value) _ _
+    (value_meets H F entries tree met.tree_is proof.leaf.0 value (rw here at other)) met.diverges)
 
-  -- the claim is that the value is the entry of the lone leaf
-  pub value_held : {value : List ℕ} → IsMeeting H F proof (H (0 ∷ value)) entries tree start count plain p
-      → IsAt value entries start count → IsEntry value proof.leaf.0 entries
-  value_held met at = entry_from proof.leaf.0 (rw (met.start_is, met.count_is) at at)
+-- the claim is that the value is the entry of the lone leaf
+pub value_held : {value : List ℕ} {entries : List (List ℕ)} {target : Range} {node : ℕ} → target ≡ range_of node
+    → IsAt value entries target.start target.count → IsEntry value node entries
+value_held {node = node} here at = entry_from node (rw here at at)
 
-  pub value_from : {value : List ℕ} → IsMeeting H F proof (H (0 ∷ value)) entries tree start count plain p
-      → IsEntry value proof.leaf.0 entries → IsAt value entries start count
-  value_from met is = (met.count_is ∙ ap (λ h. 2 ^ h) is.leaf, ap (λ s. get_or entries s []) met.start_is ∙ is.same)
+pub value_from : {value : List ℕ} {entries : List (List ℕ)} {target : Range} {node : ℕ} → target ≡ range_of node
+    → IsEntry value node entries → IsAt value entries target.start target.count
+value_from here is = rw here (ap (λ h. 2 ^ h) is.leaf, is.same)
 
 -- two evaluations that diverge, of other values
 pub agreement_shown : {D : Type 0} (H : Digest) (F : Data) (v : List ℕ) (G : Data) (u : List ℕ) (node n : ℕ)
-    (p : Divergence D) → (v ≡ u → ⊥) → IsDivergence H F (H (0 ∷ v)) G (H (0 ∷ u)) (start_of node)
-    (2 ^ height_of node) 0 n p
+    (p : Divergence D) → (v ≡ u → ⊥) → IsDivergence H (with_target F (range_of node) (H (0 ∷ v)))
+    (with_target G (range_of node) (H (0 ∷ u))) (leaves_from 0 n) p
     → Shows H (IsAgreementPlaced H F v G u node n) (inputs_of p (0 ∷ v) (0 ∷ u))
 agreement_shown H F v G u node n p other = shown p
-    (λ _ _ diverges.
-    let first_is = value_above H F v (start_of node) (2 ^ height_of node) diverges.from diverges.count diverges.other
-    ∙ diverges.first_input in
-    let second_is = value_above H G u (start_of node) (2 ^ height_of node) diverges.from diverges.count diverges.other
-    ∙ diverges.second_input in search (first_is, second_is, diverges))
+    (λ _ _ diverges. record {
+      from = diverges.range.start;
+      count = diverges.range.count;
+      part = diverges.part;
+      around = diverges.above.around;
+      first_evaluation = value_above H F v (range_of node) diverges.range diverges.above ∙ diverges.first_input;
+      second_evaluation = value_above H G u (range_of node) diverges.range diverges.above ∙ diverges.second_input;
+    })
     _ _
     (λ meets. record {
       collides = record { differ = λ e. other (cc); same = meets.same };
-      placed = search (meets, value_here, arith);
+      placed = record {
+        from = start_of node;
+        count = 2 ^ height_of node;
+        part = meets.part;
+        around = omega arith;
+        first_evaluation = value_here H F v (range_of node);
+        second_evaluation = value_here H G u (range_of node);
+      };
     })
 
 -- The cut root and the old root of a range are one, and so are their inputs, unless it is the target; then it isn't
@@ -130,65 +157,74 @@ ReadAlike H e r = (old_over H e.held r ≡ cut_over H e r)
     × ((r ≡ e.target → ⊥) → (IsFull r.count → ⊥) × (old_input H e.held r ≡ cut_input H e r))
 
 -- so are those around a balanced root, with the digest that is held for it
-module _ (H : Digest) (F : Data) (x : List ℕ) (s w : ℕ) where
-  abbrev e : Evaluation
-  e = with_target F (leaves_from s w) x
-
-  both_sides : (r : Range) → 1 < r.count → (IsFull r.count → ⊥) → (r ≡ e.target → ⊥) → old_over H F (front_part r)
-      ≡ cut_over H e (front_part r)
-      → old_over H F (rest_part r) ≡ cut_over H e (rest_part r) → ReadAlike H e r
+module _ (H : Digest) (e : Evaluation) where
+  both_sides : (r : Range) → 1 < r.count → (IsFull r.count → ⊥) → (r ≡ e.target → ⊥)
+      → old_over H e.held (front_part r) ≡ cut_over H e (front_part r)
+      → old_over H e.held (rest_part r) ≡ cut_over H e (rest_part r) → ReadAlike H e r
   both_sides r more not_full other left right =
-      grind (arith, old_parts H F r more not_full, cut_parts H e r more other (λ is _. not_full is))
+      grind (arith, old_parts H e.held r more not_full, cut_parts H e r more other (λ is _. not_full is))
 
-  pub old_is_cut : F (node_over s w) ≡ Some x → {a n : ℕ} → IsRootOf s w a n → IsAligned a n
-      → ReadAlike H e (leaves_from a n)
+  pub old_is_cut : e.held (node_over e.target.start e.target.count) ≡ Some e.digest → {range : Range}
+      → IsRootOf e.target range → IsAligned range.start range.count → ReadAlike H e range
   old_is_cut held (all_leaves is) aligned = (
-    old_full H F e.target is ∙ held ∙ sym (cut_target H e),
+    old_full H e.held e.target is ∙ held ∙ sym (cut_target H e),
     λ other. absurd (other refl),
   )
-  old_is_cut held (at_front n more not_full is) aligned =
-      let f = front_is_greatest n more in
-      let here = old_full H F e.target (f.0.0, is ∙ f.0.1) ∙ held ∙ sym (cut_target H e) in
-      both_sides (leaves_from s n) more not_full (λ same. omega (arith, counts same)) (rw (← is) here)
-      (sym (cut_old H e _ (omega arith) (omega arith) (inr (omega arith))))
-  old_is_cut held (in_rest a n more not_full root) aligned =
-      let f = front_is_greatest n more in
+  old_is_cut held (at_front range more not_full is) aligned =
+      let f = front_is_greatest range.count more in
+      let here = old_full H e.held e.target (rw is f.0) ∙ held ∙ sym (cut_target H e) in
+      both_sides range more not_full (λ same. omega (arith, counts same, counts is))
+      (subst (λ r. old_over H e.held r ≡ cut_over H e r) is here)
+      (sym (cut_old H e _ (omega (arith, counts is)) (omega arith) (inr (omega (arith, starts is, counts is)))))
+  old_is_cut held (in_rest range more not_full root) aligned =
+      let f = front_is_greatest range.count more in
       let at = root_stands root (rest_aligned aligned more) in
       let starts_at = at.around.starts in
-      both_sides (leaves_from a n) more not_full (λ same. omega (arith, starts same))
+      both_sides range more not_full (λ same. omega (arith, starts same))
       (sym (cut_old H e _ (node_some at.node) (omega arith) (inl starts_at)))
       (old_is_cut held root (rest_aligned aligned more)).0
 
 -- a digest is held for each balanced root, and leads to both roots
-pub root_leads : {H : Digest} {F : Data} {old_tree new_tree : List (List ℕ)} {s w : ℕ}
+pub root_leads : {H : Digest} {F : Data} {old_tree new_tree : List (List ℕ)} {root : Range}
     → IsConsistent H F (length old_tree) (length new_tree) (root_of H old_tree) (root_of H new_tree)
-    → IsRootOf s w 0 (length old_tree) → (x : List ℕ) × LeadsToBoth H F old_tree new_tree s w x
-root_leads {H} {F} {old_tree} {new_tree} {s} {w} is root =
+    → IsRootOf root (leaves_from 0 (length old_tree))
+    → (x : List ℕ) × LeadsToBoth H (with_target F root x) old_tree new_tree
+root_leads {H} {F} {old_tree} {new_tree} {root} is at =
     let aligned = whole_aligned (length old_tree) refl in
-    let at = root_stands root aligned in
-    let numbers = node_bounds at.node in
+    let stands = root_stands at aligned in
     let P = LeadsTo H F (length new_tree) (root_of H new_tree) in
-    let leads = All-contains P (balanced_roots (length old_tree)) (node_over s w)
-    (All-from_recursion P (balanced_roots (length old_tree)) is.new_root_is) (root_contained root) in
-    let to_old = sym (old_is_cut H F leads.0 s w leads.1 root aligned).0 ∙ is.old_root_is in
-    let to_new = rw (numbers.0, numbers.1) at leads.2 in
-    (leads.0, search (root, at, is.order, leads.1, to_old, to_new, arith))
+    let leads = All-contains P (balanced_roots (length old_tree)) (node_over root.start root.count)
+    (All-from_recursion P (balanced_roots (length old_tree)) is.new_root_is) (root_contained at) in (
+      leads.0,
+      record {
+        root = at;
+        node = stands.node;
+        in_old = omega (arith, stands.around);
+        in_new = omega (arith, stands.around, is.order);
+        held = leads.1;
+        to_old = sym (old_is_cut H (with_target F root leads.0) leads.1 at aligned).0 ∙ is.old_root_is;
+        to_new = rw (node_bounds stands.node) at leads.2;
+      },
+    )
 
 -- two trees of one digest at a range of both show where they diverge below it, or a place at which the entries differ
-pub both_shown : {D : Type 0} (H : Digest) (old new : List (List ℕ)) (place a n : ℕ) → IsPart 0 (length old) a n
-    → IsPart 0 (length new) a n → (p : Divergence D)
-    → IsDivergence H (own_digest H (leaves_of H old)) (root_over H (leaves_of H old) place 1)
-    (own_digest H (leaves_of H new)) (root_over H (leaves_of H new) place 1) place 1 a n p
-    → (get_or old place [] ≡ get_or new place [] → ⊥)
+pub both_shown : {D : Type 0} (H : Digest) (old new : List (List ℕ)) (place : ℕ) (range : Range)
+    → IsPart 0 (length old) range.start range.count → IsPart 0 (length new) range.start range.count
+    → (p : Divergence D) → IsDivergence H (with_own H (leaves_of H old) (leaves_from place 1))
+    (with_own H (leaves_of H new) (leaves_from place 1)) range p → (get_or old place [] ≡ get_or new place [] → ⊥)
     → Shows H (IsPlacedInBoth H old new) (inputs_of p (0 ∷ get_or old place []) (0 ∷ get_or new place []))
-both_shown H old new place a n in_old in_new p diverges differ = shown p
+both_shown H old new place range in_old in_new p diverges differ = shown p
     (λ first second at.
-    let more = wider at.around at.other in
+    let more = at.above.more in
     let old_part = IsPart-trans in_old at.part in
-    let new_part = IsPart-trans in_new at.part in
-    let old_plain = own_input H old place 1 first old_part more at.first_input in
-    let new_plain = own_input H new place 1 second new_part more at.second_input in
-    search (old_part, new_part, old_plain, new_plain))
+    let new_part = IsPart-trans in_new at.part in record {
+      from = at.range.start;
+      count = at.range.count;
+      old_part = old_part;
+      new_part = new_part;
+      old_plain = own_input H old (leaves_from place 1) at.range first old_part more at.first_input;
+      new_plain = own_input H new (leaves_from place 1) at.range second new_part more at.second_input;
+    })
     _ _
     (λ meets.
     let old_part = IsPart-trans in_old meets.part in
@@ -204,36 +240,40 @@ both_shown H old new place a n in_old in_new p diverges differ = shown p
     })
     diverges
 
-module _ {H : Digest} {F : Data} {old new old_tree new_tree : List (List ℕ)} (old_is : old_tree ≡ leaves_of H old)
-    (new_is : new_tree ≡ leaves_of H new)
-    {s w : ℕ} {x : List ℕ} (at : LeadsToBoth H F old_tree new_tree s w x) where
+module _ {H : Digest} {e : Evaluation} {old new old_tree new_tree : List (List ℕ)} (old_is : old_tree ≡ leaves_of H old)
+    (new_is : new_tree ≡ leaves_of H new) (at : LeadsToBoth H e old_tree new_tree) where
   -- where the evaluation diverges from the old tree or from the new one
-  pub old_placed : (first second : List ℕ) → DivergesFrom H F x old_tree s w first second
-      → IsConsistencyPlaced H F old new first second
+  pub old_placed : (first second : List ℕ) → DivergesFrom H e old_tree first second
+      → IsConsistencyPlaced H e.held old new first second
   old_placed first second diverges =
-      let here = root_at_part at.root diverges.part diverges.around in
-      let same = (old_is_cut H F x s w at.held here (part_in diverges.part).1).1
-      (λ e. diverges.other (starts e) (counts e)) in
-      let own = own_second H old old_tree old_is (node_some at.node) diverges in
-      let evaluation = same.1 ∙ diverges.first_input in inl (search (own, same.0, evaluation))
+      let here = root_at_part at.root diverges.part diverges.above.around in
+      let same = (old_is_cut H e at.held here (part_in diverges.part).1).1
+      (λ is. let count = counts is in omega (arith, diverges.above.more)) in
+      let own = own_second H old old_tree old_is (node_some at.node) diverges in inl (record {
+        from = diverges.range.start;
+        count = diverges.range.count;
+        part = own.0;
+        split = same.0;
+        evaluation = same.1 ∙ diverges.first_input;
+        plain = own.1;
+      })
 
-  pub new_placed : (first second : List ℕ) → DivergesFrom H F x new_tree s w first second
-      → IsConsistencyPlaced H F old new first second
+  pub new_placed : (first second : List ℕ) → DivergesFrom H e new_tree first second
+      → IsConsistencyPlaced H e.held old new first second
   new_placed first second diverges =
-      let numbers = node_bounds at.node in
       let is_root = rw (old_is, leaves_count H old) at (root_contained at.root) in
-      let hashed = hash_placed H F new new_tree new_is (node_over s w) x first second
-      (rw (numbers.0, numbers.1) diverges) in inr (inl (search (is_root, at.held, hashed)))
+      let hashed = hash_placed H e.held new new_tree new_is (node_over e.target.start e.target.count) e.digest first
+      second (subst (λ t. DivergesFrom H (with_target e.held t e.digest) new_tree first second)
+      (sym (node_bounds at.node)) diverges) in inr (inl (search (is_root, at.held, hashed)))
 
   -- where both trees have one digest at the root's range
-  pub below_shown : {D : Type 0} (place : ℕ) → IsPart 0 (length new_tree) s w
+  pub below_shown : {D : Type 0} (place : ℕ) → IsPart 0 (length new_tree) e.target.start e.target.count
       → (get_or old place [] ≡ get_or new place [] → ⊥) → (p : Divergence D)
-      → IsDivergence H (own_digest H old_tree) (root_over H old_tree place 1) (own_digest H new_tree)
-      (root_over H new_tree place 1) place 1 s w p
-      → Shows H (IsConsistencyPlaced H F old new) (inputs_of p (0 ∷ get_or old place []) (0 ∷ get_or new place []))
+      → IsDivergence H (with_own H old_tree (leaves_from place 1)) (with_own H new_tree (leaves_from place 1)) e.target p
+      → Shows H (IsConsistencyPlaced H e.held old new) (inputs_of p (0 ∷ get_or old place []) (0 ∷ get_or new place []))
   below_shown place new_part differ p diverges =
       let old_part = (root_stands at.root (whole_aligned (length old_tree) refl)).part in
-      let pair = both_shown H old new place s w (rw (old_is, leaves_count H old) at old_part)
+      let pair = both_shown H old new place e.target (rw (old_is, leaves_count H old) at old_part)
       (rw (new_is, leaves_count H new) at new_part) p (rw (old_is, new_is) at diverges) differ in
       record { collides = pair.collides; placed = inr (inr pair.placed) }
 
@@ -254,17 +294,19 @@ pub consistency_met : {X : Type 0} (H : Digest) (F : Data) {m n : ℕ} (old new 
     (λ t. (old_of t ≡ leaves_of H old) × (new_of t ≡ leaves_of H new) × (x ≡ root_of H (leaves_of H old))
     × (y ≡ root_of H (leaves_of H new)))
     → MatchOption met (IsConsistencyMet H F m n old new → ⊥)
-    (λ t. IsConsistencyMeeting H F m n old new (old_of t) (new_of t))
+    (λ t. IsConsistencyMet H F m n old new × IsConsistencyMeeting H F old new (old_of t) (new_of t))
 consistency_met H F old new {x} {y} old_of new_of old_count new_count fits leads None other = λ met.
     let ok = consistency_then H F _ _ _ _ met.roots in
     let same : ◌≡◌ {A = List ℕ × List ℕ} (x, y) (root_of H (leaves_of H old), root_of H (leaves_of H new)) = cc in
     other (ap (λ (two : List ℕ × List ℕ). two.0) same, ap (λ (two : List ℕ × List ℕ). two.1) same)
 consistency_met H F {m} {n} old new old_of new_of old_count new_count fits leads (Some t) is =
     let roots : IsConsistent H F m n (root_of H (leaves_of H old)) (root_of H (leaves_of H new)) =
-    rw (← is.2, ← is.3) (consistency_only H F _ _ _ _ leads) in record {
-      met = record { old_count = old_count; new_count = new_count; roots = roots };
-      old_is = is.0;
-      new_is = is.1;
-      fits = fits;
-      roots = rw (is.0, is.1, leaves_count H old, leaves_count H new, old_count, new_count) roots;
-    }
+    rw (← is.2, ← is.3) (consistency_only H F _ _ _ _ leads) in (
+      record { old_count = old_count; new_count = new_count; roots = roots },
+      record {
+        old_is = is.0;
+        new_is = is.1;
+        fits = fits;
+        roots = rw (is.0, is.1, leaves_count H old, leaves_count H new, old_count, new_count) roots;
+      },
+    )

@@ -6,6 +6,7 @@ use Rattle.std.proofs.lemmas.Bool.{cases_lt, lt-leb, le-leb, ne_eqb}
 use Rattle.warg_crypto.specs.Collisions.{GivesHashes, SomeCollision}
 use Rattle.warg_crypto.specs.Tree.{branch_input, where_both}
 use Rattle.warg_crypto.proofs.ForCallers.{branch_parts, sizes as sizes_of}
+use Rattle.warg_log.specs.Ranges.{leaves_from}
 use Rattle.warg_log.specs.Tree.{front_of, leaves_of, root_of, root_over}
 use Rattle.warg_log.proofs.ForCallers.{front_is_greatest}
 use Rattle.warg_paths.specs.Paths.{roots_down, subproof_roots, grown, both_over}
@@ -109,7 +110,7 @@ module _ (H : List ℕ → List ℕ) (gives : GivesHashes H) (path old new : Lis
   ]
 
   module _ (place : ℕ) (differ : slice_index_or old place [] ≡ slice_index_or new place [] → ⊥) where
-    level : (digests : List (List ℕ)) (known : Option (List ℕ)) (m a n : ℕ) → n ≡ m → IsAround place 1 a m
+    level : (digests : List (List ℕ)) (known : Option (List ℕ)) (m a n : ℕ) → n ≡ m → IsAround (leaves_from place 1) (leaves_from a m)
         → IsPart 0 (length old) a m → IsPart 0 (length new) a n → roots_down H known m n digests
         ≡ Some (over H old a m, over H new a n) → Collide
     level digests known m a n equal around old_part new_part leads =
@@ -117,7 +118,7 @@ module _ (H : List ℕ → List ℕ) (gives : GivesHashes H) (path old new : Lis
         both_collide H Placed gives old new place a m (λ _ _ both. inr (inr both)) around differ old_part
         (subst (λ k. IsPart 0 (length new) a k) equal new_part) (one ∙ ap (over H new a) equal)
 
-    down : (digests : List (List ℕ)) (known : Option (List ℕ)) (m a n : ℕ) → m ≤ n → IsAround place 1 a m
+    down : (digests : List (List ℕ)) (known : Option (List ℕ)) (m a n : ℕ) → m ≤ n → IsAround (leaves_from place 1) (leaves_from a m)
         → IsPart 0 (length old) a m → IsPart 0 (length new) a n → OnWay known m a n digests
         → roots_down H known m n digests ≡ Some (over H old a m, over H new a n) → Collide
     down [] known m a n order around old_part new_part way leads = elim (cases_lt m n) [

@@ -4,21 +4,20 @@ use Rattle.warg_crypto.specs.Collisions.{SomeCollision}
 use Rattle.warg_crypto.specs.Tree.{input_beside}
 use Rattle.warg_crypto.proofs.ForCallers.{HasSize, same_or_not}
 use Rattle.warg_witness.specs.Private.Turns.{IsUp, Turn, taken, climbed, AreTaken, IsClimb}
-use Rattle.warg_witness.specs.declared.divergence.Divergence.{Divergence}
-use Rattle.warg_witness.specs.declared.divergence.Divergence.TheVariants.{Target}
+use Rattle.warg_witness.specs.Private.Divergence.{at_bottom}
+use Rattle.warg_witness.specs.declared.divergence.Climb.{Climb}
 use Rattle.warg_witness.proofs.ClimbLemmas.{beside_parts, parts_placed, up_parts}
 
 -- at the bottom
-pub no_turns : {D : Type 0} {H : List ℕ → List ℕ} {x y first second : List ℕ} {p : Divergence D} → first ≡ x
-    → second ≡ y → p ≡ Target → IsClimb H x [] y [] first second p
-no_turns first second target = rw (first, second, target)
-    (record { first_is = refl; second_is = refl; diverges = λ same. (same, refl) })
+pub no_turns : {D : Type 0} {H : List ℕ → List ℕ} {x y : List ℕ} {climb : Climb D} → climb ≡ at_bottom x y
+    → IsClimb H x [] y [] climb
+no_turns bottom = rw bottom (record { first_is = refl; second_is = refl; diverges = λ same. (same, refl) })
 
 -- one turn up
-pub turn_up : {D : Type 0} {H : List ℕ → List ℕ} {b : Bool} {x y u v d e f g : List ℕ} {ss ts : List Turn}
-    {p q : Divergence D} → IsClimb H x ss y ts d e p → IsUp H b d u e v p f g q
-    → IsClimb H x (record { right = b; beside = u } ∷ ss) y (record { right = b; beside = v } ∷ ts) f g q
-turn_up {H = H} {b} {x} {y} {u} {v} {ss = ss} {ts} {p} climb up =
+pub turn_up : {D : Type 0} {H : List ℕ → List ℕ} {b : Bool} {x y u v : List ℕ} {ss ts : List Turn}
+    {before after : Climb D} → IsClimb H x ss y ts before → IsUp H b before u v after
+    → IsClimb H x (record { right = b; beside = u } ∷ ss) y (record { right = b; beside = v } ∷ ts) after
+turn_up {H = H} {b} {x} {y} {u} {v} {ss} {ts} {before} climb up =
     let first = ap (λ d. input_beside b u d) climb.first_is in
     let second = ap (λ e. input_beside b v e) climb.second_is in
     let s : Turn = record { right = b; beside = u } in
@@ -26,7 +25,7 @@ turn_up {H = H} {b} {x} {y} {u} {v} {ss = ss} {ts} {p} climb up =
       first_is = up.first_is ∙ ap H first;
       second_is = up.second_is ∙ ap H second;
       diverges = up_parts (AreTaken H x (s ∷ ss) y (t ∷ ts)) ((x ≡ y) × ((s ∷ ss) ≡ (t ∷ ts))) up
-          (λ same beside. parts_placed H p (λ _ _ is. inr is)
+          (λ same beside. parts_placed H before.divergence (λ _ _ is. inr is)
           (λ is. (is.0, ap (λ (u : List ℕ). record { right = b; beside = u } ∷ ss) beside ∙ ap (λ ts. t ∷ ts) is.1))
           (climb.diverges same)) (inl (first, second));
     }

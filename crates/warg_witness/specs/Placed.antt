@@ -12,7 +12,7 @@ pub record IsValuePlaced (H : List ℕ → List ℕ) (F : ℕ → Option (List �
   pub from : ℕ
   pub count : ℕ
   pub part : IsPart 0 (length entries) from count
-  pub around : IsAround (start_of node) (2 ^ height_of node) from count
+  pub around : IsAround (range_of node) (leaves_from from count)
   pub evaluation : value_input H F (range_of node) value (leaves_from from count) ≡ Some first
   pub plain : second ≡ plain_input H entries from count
 
@@ -21,7 +21,7 @@ pub record IsHashPlaced (H : List ℕ → List ℕ) (F : ℕ → Option (List �
   pub from : ℕ
   pub count : ℕ
   pub part : IsPart 0 (length entries) from count
-  pub around : IsAround (start_of node) (2 ^ height_of node) from count
+  pub around : IsAround (range_of node) (leaves_from from count)
   pub other : from ≡ start_of node → count ≡ 2 ^ height_of node → ⊥
   pub evaluation : cut_input H (with_target F (range_of node) hash) (leaves_from from count) ≡ Some first
   pub plain : second ≡ plain_input H entries from count
@@ -31,7 +31,7 @@ pub record IsAgreementPlaced (H : List ℕ → List ℕ) (F : ℕ → Option (Li
   pub from : ℕ
   pub count : ℕ
   pub part : IsPart 0 n from count
-  pub around : IsAround (start_of node) (2 ^ height_of node) from count
+  pub around : IsAround (range_of node) (leaves_from from count)
   pub first_evaluation : value_input H F (range_of node) value (leaves_from from count) ≡ Some first
   pub second_evaluation : value_input H G (range_of node) other_value (leaves_from from count) ≡ Some second
 
@@ -55,7 +55,7 @@ pub record IsPlacedInNew (H : List ℕ → List ℕ) (F : ℕ → Option (List �
   pub from : ℕ
   pub count : ℕ
   pub part : IsPart 0 (length new) from count
-  pub around : IsAround (start_of root) (2 ^ height_of root) from count
+  pub around : IsAround (range_of root) (leaves_from from count)
   pub other : from ≡ start_of root → count ≡ 2 ^ height_of root → ⊥
   pub evaluation : cut_input H (with_target F (range_of root) digest) (leaves_from from count) ≡ Some first
   pub plain : second ≡ plain_input H new from count

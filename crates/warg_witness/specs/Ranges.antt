@@ -1,5 +1,6 @@
 -- The ranges of the tree's recursion.
 use Rattle.std.specs.Prelude.{ℕ, ◌+◌, ◌-◌, ◌<◌, ◌≤◌}
+use Rattle.warg_log.specs.Ranges.{Range}
 use Rattle.warg_log.specs.Tree.{front_of}
 
 -- The ranges of the recursion of RFC 6962, section 2.1, from n₀ leaves from a₀ on: these themselves, and
@@ -10,7 +11,7 @@ pub data IsPart (a₀ n₀ : ℕ) : ℕ → ℕ → Type 0 where
   front : (a n : ℕ) → IsPart a₀ n₀ a n → 1 < n → IsPart a₀ n₀ a (front_of n)
   rest : (a n : ℕ) → IsPart a₀ n₀ a n → 1 < n → IsPart a₀ n₀ (a + front_of n) (n - front_of n)
 
--- The range of n leaves from a on has all the w leaves from s on.
-pub record IsAround (s w a n : ℕ) : Type 0 where
-  pub starts : a ≤ s
-  pub ends : s + w ≤ a + n
+-- The second range has all leaves of the first.
+pub record IsAround (inner outer : Range) : Type 0 where
+  pub starts : outer.start ≤ inner.start
+  pub ends : inner.start + inner.count ≤ outer.start + outer.count

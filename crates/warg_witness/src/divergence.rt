@@ -4,7 +4,7 @@ ghost use Rattle.std.specs.Prelude.{◌≡◌, None, Ok, IfOk, IfSome, MatchOpti
 ghost use Rattle.warg_crypto.specs.Collisions.{Collides};
 ghost use Rattle.warg_crypto.specs.Tree.{input_beside, leaf_input};
 ghost use Rattle.warg_witness.specs.Private.Turns.{IsUp};
-ghost use Rattle.warg_witness.specs.Private.Divergence.{inputs, inputs_of};
+ghost use Rattle.warg_witness.specs.Private.Divergence.{inputs, inputs_of, at_bottom};
 ghost use Rattle.warg_witness.specs.Private.Agreement.{IsCompared};
 
 use crate::collision::{Collision, Finding};
@@ -103,9 +103,7 @@ pub(crate) struct Climb<D> {
 impl<D: SupportedDigest> Climb<D> {
     /// Both evaluations at the bottom.
     pub(crate) fn new(first: Hash<D>, second: Hash<D>) -> Climb<D>
-        ensures first { result.first ≡ first }
-        ensures second { result.second ≡ second }
-        ensures divergence { result.divergence ≡ Divergence.Target }
+        ensures { result ≡ at_bottom first second }
     {
         Climb {
             first,
@@ -116,8 +114,7 @@ impl<D: SupportedDigest> Climb<D> {
 
     /// One branch up: on the right of the digests beside them, or on the left.
     pub(crate) fn up(self, right: bool, first_beside: &Hash<D>, second_beside: &Hash<D>) -> Climb<D>
-        ensures { IsUp D.digest right self.first first_beside.now self.second second_beside.now
-            self.divergence result.first result.second result.divergence }
+        ensures { IsUp D.digest right self first_beside.now second_beside.now result }
     {
         prove_eq!(self.first.len(), self.second.len());
         prove_eq!(first_beside.len(), second_beside.len());

@@ -15,7 +15,7 @@ ghost use Rattle.warg_witness.specs.Inputs.{plain_input};
 ghost use Rattle.warg_witness.specs.Private.Compared.{IsAt};
 ghost use Rattle.warg_witness.specs.Private.Agreement.{IsFoundAt};
 ghost use Rattle.warg_witness.specs.Private.Divergence.{Parts, inputs_of};
-ghost use Rattle.warg_witness.specs.Private.Meeting.{IsMeeting};
+ghost use Rattle.warg_witness.specs.Private.Meeting.{IsMeeting, IsPlainAt};
 
 mod consistency;
 
@@ -55,9 +55,9 @@ fn meet_entries<D: SupportedDigest, V: VisitBytes, L: LogData<D, V>, A: Allocato
     ensures met { IfOk result (λ met. MatchOption met
         (¬ (IsMet D.digest (L.digest_at hashes.now) proof.now hash.now
         (map V.bytes entries.now)))
-        (λ m. IsMeeting D.digest (L.digest_at hashes.now) proof.now hash.now
-        (map V.bytes entries.now)
-        m.tree m.target.start m.target.count m.plain m.divergence)) }
+        (λ m. IsPlainAt D.digest proof.now.leaf.0 m.tree m.target m.plain
+        × IsMeeting D.digest (L.digest_at hashes.now) proof.now hash.now (map V.bytes entries.now)
+        m.tree m.divergence)) }
 {
     if entries.len() != proof.log_length() {
         return Ok(None);
@@ -80,8 +80,8 @@ fn meet_tree<D: SupportedDigest, V: VisitBytes, L: LogData<D, V>, A: Allocator>(
     requires exists { ExistsAt proof.now.leaf.0 proof.now.log_length }
     ensures { (entries : List (List ℕ)) → tree ≡ leaves_of D.digest entries → MatchOption result
         (¬ (IsMet D.digest (L.digest_at hashes.now) proof.now hash.now entries))
-        (λ m. IsMeeting D.digest (L.digest_at hashes.now) proof.now hash.now entries
-        m.tree m.target.start m.target.count m.plain m.divergence) }
+        (λ m. IsPlainAt D.digest proof.now.leaf.0 m.tree m.target m.plain
+        × IsMeeting D.digest (L.digest_at hashes.now) proof.now hash.now entries m.tree m.divergence) }
 {
     let target = proof.leaf().leaf_range();
     let whole = LeafRange::new(0, proof.log_length());

@@ -1,8 +1,9 @@
 //! Given entries, the tree over them, and its digests by ranges.
 
 ghost use Rattle.std.specs.Prelude.{◌≡◌, ◌+◌, ◌<◌, ◌≤◌, [], length, map, IfOk, MatchOption, slice_index_or};
-ghost use Rattle.warg_log.specs.Tree.{leaves_of, root_of, root_over};
+ghost use Rattle.warg_log.specs.Tree.{leaves_of, root_of};
 ghost use Rattle.warg_log.specs.Ranges.{IsAligned};
+ghost use Rattle.warg_witness.specs.Private.Ranges.{root_at};
 
 use std::alloc::{AllocError, Allocator};
 use warg_crypto::{Hash, SupportedDigest, VisitBytes};
@@ -59,7 +60,7 @@ pub(crate) fn plain_digest<D: SupportedDigest, V: VisitBytes, A: Allocator>(
 ) -> Hash<D>
     requires aligned { IsAligned range.now.start range.now.count }
     requires within { range.now.start + range.now.count ≤ length tree.now }
-    ensures { result ≡ root_over D.digest tree.now range.now.start range.now.count }
+    ensures { result ≡ root_at D.digest tree.now range.now }
 {
     match stored_root::<D, V, VecLog<D, V, A>>(tree, range) {
         Some(digest) => digest,

@@ -1,9 +1,10 @@
 //! Two evaluations over the ranges of a log's tree, side by side.
 
-ghost use Rattle.std.specs.Prelude.{◌≡◌, ◌+◌, ◌<◌, ◌≤◌, MatchOption};
+ghost use Rattle.std.specs.Prelude.{◌≡◌, ◌<◌, not, MatchOption};
+ghost use Rattle.warg_log.specs.Cut.{with_target};
 ghost use Rattle.warg_log.specs.Ranges.{IsAligned};
 ghost use Rattle.warg_witness.specs.Private.Divergence.{HaveOneDigest, LackDigest, IsRangeClimb, IsRangesMeeting};
-ghost use Rattle.warg_witness.specs.Private.Ranges.{IsNodeRange, AreSides};
+ghost use Rattle.warg_witness.specs.Private.Ranges.{IsNodeRange, IsAbove, side_of};
 ghost use Rattle.warg_witness.specs.Ranges.{IsAround};
 
 use crate::divergence::{Climb, Divergence};
@@ -11,20 +12,15 @@ use warg_crypto::{Hash, SupportedDigest, VisitBytes};
 use warg_log::{LeafRange, LogData, range_root};
 
 /// The part of a larger range that has the target, the part beside it, and whether the first is the one on the right.
-#[tactic(auto, using(crate::proofs::RangeLemmas::beside_aligned))]
 pub(crate) fn sides_around(target: &LeafRange, range: &LeafRange) -> (LeafRange, LeafRange, bool)
-    requires node { IsNodeRange target.now.start target.now.count }
+    requires node { IsNodeRange target.now }
     requires aligned { IsAligned range.now.start range.now.count }
-    requires around { IsAround target.now.start target.now.count range.now.start range.now.count }
-    requires other { range.now.start ≡ target.now.start → range.now.count ≡ target.now.count → ⊥ }
+    requires above { IsAbove target.now range.now }
+    ensures side { result.0 ≡ side_of result.2 range.now }
+    ensures beside { result.1 ≡ side_of (not result.2) range.now }
     ensures smaller { result.0.count < range.now.count }
-    ensures within { (result.0.start + result.0.count ≤ range.now.start + range.now.count)
-        × (result.1.start + result.1.count ≤ range.now.start + range.now.count) }
-    ensures aligned { IsAligned result.0.start result.0.count
-        × IsAligned result.1.start result.1.count }
-    ensures around { IsAround target.now.start target.now.count result.0.start result.0.count }
-    ensures sides { AreSides result.2 range.now.start range.now.count
-        result.0.start result.0.count result.1.start result.1.count }
+    ensures aligned { IsAligned result.0.start result.0.count }
+    ensures around { IsAround target.now result.0 }
 {
     let (front, rest) = range.split();
     if target.start < rest.start {
@@ -44,17 +40,12 @@ fn climb_ranges<D: SupportedDigest, V: VisitBytes, L: LogData<D, V>, M: LogData<
     target: &LeafRange,
     range: &LeafRange,
 ) -> Option<Climb<D>>
-    requires node { IsNodeRange target.now.start target.now.count }
+    requires node { IsNodeRange target.now }
     requires aligned { IsAligned range.now.start range.now.count }
-    requires around { IsAround target.now.start target.now.count range.now.start range.now.count }
-    ensures { MatchOption result
-        (LackDigest D.digest (L.digest_at first.now) first_hash.now
-        (M.digest_at second.now) second_hash.now
-        target.now.start target.now.count range.now.start range.now.count)
-        (λ climb. IsRangeClimb D.digest (L.digest_at first.now) first_hash.now
-        (M.digest_at second.now) second_hash.now
-        target.now.start target.now.count range.now.start range.now.count
-        climb.first climb.second climb.divergence) }
+    requires around { IsAround target.now range.now }
+    ensures { let e = with_target (L.digest_at first.now) target.now first_hash.now in
+        let f = with_target (M.digest_at second.now) target.now second_hash.now in
+        MatchOption result (LackDigest D.digest e f range.now) (IsRangeClimb D.digest e f range.now) }
 {
     if range == target {
         return Some(Climb::new(first_hash.copied(), second_hash.copied()));
@@ -76,16 +67,13 @@ pub(crate) fn meet_ranges<D: SupportedDigest, V: VisitBytes, L: LogData<D, V>, M
     target: &LeafRange,
     range: &LeafRange,
 ) -> Option<Divergence<D>>
-    requires node { IsNodeRange target.now.start target.now.count }
+    requires node { IsNodeRange target.now }
     requires aligned { IsAligned range.now.start range.now.count }
-    requires around { IsAround target.now.start target.now.count range.now.start range.now.count }
-    ensures { MatchOption result
-        (¬ (HaveOneDigest D.digest (L.digest_at first.now) first_hash.now
-        (M.digest_at second.now) second_hash.now
-        target.now.start target.now.count range.now.start range.now.count))
-        (IsRangesMeeting D.digest (L.digest_at first.now) first_hash.now
-        (M.digest_at second.now) second_hash.now
-        target.now.start target.now.count range.now.start range.now.count) }
+    requires around { IsAround target.now range.now }
+    ensures { let e = with_target (L.digest_at first.now) target.now first_hash.now in
+        let f = with_target (M.digest_at second.now) target.now second_hash.now in
+        MatchOption result (¬ (HaveOneDigest D.digest e f range.now))
+        (IsRangesMeeting D.digest e f range.now) }
 {
     climb_ranges(first, first_hash, second, second_hash, target, range)?.met()
 }

@@ -2,11 +2,13 @@
 
 ghost use Rattle.std.specs.Prelude.{◌≡◌, ◌+◌, ◌<◌, ◌≤◌, ◌↔◌, [], length, map, IfOk, IsTrue, MatchOption, slice_index_or};
 ghost use Rattle.warg_crypto.specs.Tree.{leaf_digest};
-ghost use Rattle.warg_log.specs.Tree.{leaves_of, root_of, root_over, own_digest};
+ghost use Rattle.warg_log.specs.Tree.{leaves_of, root_of};
+ghost use Rattle.warg_log.specs.Cut.{with_own};
 ghost use Rattle.warg_witness.specs.Ranges.{IsAround};
-ghost use Rattle.warg_log.specs.Ranges.{IsAligned};
+ghost use Rattle.warg_log.specs.Ranges.{leaves_from, IsAligned};
 ghost use Rattle.warg_witness.specs.Private.Compared.{IsFirstDifference};
 ghost use Rattle.warg_witness.specs.Private.Divergence.{IsDivergence};
+ghost use Rattle.warg_witness.specs.Private.Ranges.{root_at};
 
 use crate::divergence::Divergence;
 use crate::plain::{plain_digest, tree_with_root};
@@ -106,15 +108,12 @@ pub(crate) fn divergence_below<D: SupportedDigest, V: VisitBytes, A: Allocator>(
     place: usize,
 ) -> Divergence<D>
     requires aligned { IsAligned range.now.start range.now.count }
-    requires around { IsAround place 1 range.now.start range.now.count }
+    requires around { IsAround (leaves_from place 1) range.now }
     requires in_old { range.now.start + range.now.count ≤ length trees.now.old }
     requires in_new { range.now.start + range.now.count ≤ length trees.now.new }
-    requires same { root_over D.digest trees.now.old range.now.start range.now.count
-        ≡ root_over D.digest trees.now.new range.now.start range.now.count }
-    ensures { IsDivergence D.digest (own_digest D.digest trees.now.old)
-        (root_over D.digest trees.now.old place 1) (own_digest D.digest trees.now.new)
-        (root_over D.digest trees.now.new place 1)
-        place 1 range.now.start range.now.count result }
+    requires same { root_at D.digest trees.now.old range.now ≡ root_at D.digest trees.now.new range.now }
+    ensures { IsDivergence D.digest (with_own D.digest trees.now.old (leaves_from place 1))
+        (with_own D.digest trees.now.new (leaves_from place 1)) range.now result }
 {
     prove!(range.start <= place);
     let leaf = LeafRange::new(place, 1);

@@ -1,12 +1,14 @@
 -- Where two trees that have one digest at a range diverge, on the way down to a target in both.
-use Rattle.std.specs.Prelude.{◌≡◌, ℕ, List, Option, Some}
-use Rattle.warg_log.specs.Ranges.{leaves_from}
-use Rattle.warg_log.specs.Cut.{with_target, cut_over}
-use Rattle.warg_witness.specs.Ranges.{IsPart, IsAround}
+use Rattle.std.specs.Prelude.{◌≡◌, ℕ, List, Some}
+use Rattle.warg_log.specs.Ranges.{Range}
+use Rattle.warg_log.specs.Cut.{Evaluation, cut_over}
+use Rattle.warg_witness.specs.Private.Ranges.{IsAbove}
+use Rattle.warg_witness.specs.Ranges.{IsPart}
 use Rattle.warg_crypto.specs.Collisions.{Collides}
 use Rattle.warg_crypto.specs.Tree.{input_beside}
 use Rattle.warg_witness.specs.Inputs.{cut_input}
 use Rattle.warg_witness.specs.declared.divergence.Branches.{Branches}
+use Rattle.warg_witness.specs.declared.divergence.Climb.{Climb}
 use Rattle.warg_witness.specs.declared.divergence.Divergence.{Divergence}
 use Rattle.warg_witness.specs.declared.divergence.Divergence.TheVariants.{Target, Branch}
 
@@ -30,42 +32,44 @@ abbrev pub Parts : {D : _} → (List ℕ → List ℕ) → (List ℕ → List �
 Parts H P meet Target = meet
 Parts H P meet (Branch branches) = Shows H P (inputs branches)
 
--- Two evaluations have one digest at a range.
-pub record HaveOneDigest (H : List ℕ → List ℕ) (F : ℕ → Option (List ℕ)) (x : List ℕ) (G : ℕ → Option (List ℕ)) (y : List ℕ) (s w a n : ℕ) : Type 0 where
-  pub digest : List ℕ
-  pub first : cut_over H (with_target F (leaves_from s w) x) (leaves_from a n) ≡ Some digest
-  pub second : cut_over H (with_target G (leaves_from s w) y) (leaves_from a n) ≡ Some digest
+-- Both evaluations at the bottom, with these digests.
+abbrev pub at_bottom : {D : _} → List ℕ → List ℕ → Climb D
+at_bottom first second = record { first = first; second = second; divergence = Target }
 
--- The two evaluations' inputs at a range that is not the target's own.
-pub record DivergesAt (H : List ℕ → List ℕ) (F : ℕ → Option (List ℕ)) (x : List ℕ) (G : ℕ → Option (List ℕ)) (y : List ℕ) (s w a₀ n₀ : ℕ) (first second : List ℕ) : Type 0 where
-  pub from : ℕ
-  pub count : ℕ
-  pub part : IsPart a₀ n₀ from count
-  pub around : IsAround s w from count
-  pub other : from ≡ s → count ≡ w → ⊥
-  pub first_input : cut_input H (with_target F (leaves_from s w) x) (leaves_from from count) ≡ Some first
-  pub second_input : cut_input H (with_target G (leaves_from s w) y) (leaves_from from count) ≡ Some second
+-- Two evaluations have one digest at a range.
+pub record HaveOneDigest (H : List ℕ → List ℕ) (e f : Evaluation) (range : Range) : Type 0 where
+  pub digest : List ℕ
+  pub first : cut_over H e range ≡ Some digest
+  pub second : cut_over H f range ≡ Some digest
+
+-- The inputs of two evaluations with one target at a range above it, of the recursion over the leaves of all.
+pub record DivergesAt (H : List ℕ → List ℕ) (e f : Evaluation) (all : Range) (first second : List ℕ) : Type 0 where
+  pub range : Range
+  pub part : IsPart all.start all.count range.start range.count
+  pub above : IsAbove e.target range
+  pub first_input : cut_input H e range ≡ Some first
+  pub second_input : cut_input H f range ≡ Some second
 
 -- The two evaluations have one digest at the target, which is a range of the recursion.
-pub record MeetAt (x y : List ℕ) (s w a₀ n₀ : ℕ) : Type 0 where
-  pub same : x ≡ y
-  pub part : IsPart a₀ n₀ s w
+pub record MeetAt (e f : Evaluation) (all : Range) : Type 0 where
+  pub same : e.digest ≡ f.digest
+  pub part : IsPart all.start all.count e.target.start e.target.count
 
--- The trees diverge nowhere, and have one digest at the target, or they diverge at such a range.
-abbrev pub IsDivergence : {D : _} → (List ℕ → List ℕ) → (ℕ → Option (List ℕ)) → List ℕ → (ℕ → Option (List ℕ)) → List ℕ → ℕ → ℕ → ℕ → ℕ → Divergence D → Type 0
-IsDivergence H F x G y s w a₀ n₀ p = Parts H (DivergesAt H F x G y s w a₀ n₀) (MeetAt x y s w a₀ n₀) p
+-- The evaluations diverge nowhere, and have one digest at the target, or they diverge at such a range.
+abbrev pub IsDivergence : {D : _} → (List ℕ → List ℕ) → Evaluation → Evaluation → Range → Divergence D → Type 0
+IsDivergence H e f all p = Parts H (DivergesAt H e f all) (MeetAt e f all) p
 
 -- One of the two evaluations has no digest at a range.
-abbrev pub LackDigest : (List ℕ → List ℕ) → (ℕ → Option (List ℕ)) → List ℕ → (ℕ → Option (List ℕ)) → List ℕ → ℕ → ℕ → ℕ → ℕ → Type 0
-LackDigest H F x G y s w a n = (first second : List ℕ) → cut_over H (with_target F (leaves_from s w) x) (leaves_from a n) ≡ Some first → cut_over H (with_target G (leaves_from s w) y) (leaves_from a n) ≡ Some second → ⊥
+abbrev pub LackDigest : (List ℕ → List ℕ) → Evaluation → Evaluation → Range → Type 0
+LackDigest H e f range = (first second : List ℕ) → cut_over H e range ≡ Some first → cut_over H f range ≡ Some second → ⊥
 
--- They have these digests there, and diverge as said if the two are one.
-pub record IsRangeClimb {D : _} (H : List ℕ → List ℕ) (F : ℕ → Option (List ℕ)) (x : List ℕ) (G : ℕ → Option (List ℕ)) (y : List ℕ) (s w a n : ℕ) (first second : List ℕ) (p : Divergence D) : Type 0 where
-  pub first_is : cut_over H (with_target F (leaves_from s w) x) (leaves_from a n) ≡ Some first
-  pub second_is : cut_over H (with_target G (leaves_from s w) y) (leaves_from a n) ≡ Some second
-  pub diverges : first ≡ second → IsDivergence H F x G y s w a n p
+-- They have the climb's digests there, and diverge as it says if the two are one.
+pub record IsRangeClimb {D : _} (H : List ℕ → List ℕ) (e f : Evaluation) (range : Range) (climb : Climb D) : Type 0 where
+  pub first_is : cut_over H e range ≡ Some climb.first
+  pub second_is : cut_over H f range ≡ Some climb.second
+  pub diverges : climb.first ≡ climb.second → IsDivergence H e f range climb.divergence
 
 -- They have one digest there, and diverge as said.
-pub record IsRangesMeeting {D : _} (H : List ℕ → List ℕ) (F : ℕ → Option (List ℕ)) (x : List ℕ) (G : ℕ → Option (List ℕ)) (y : List ℕ) (s w a n : ℕ) (p : Divergence D) : Type 0 where
-  pub one : HaveOneDigest H F x G y s w a n
-  pub diverges : IsDivergence H F x G y s w a n p
+pub record IsRangesMeeting {D : _} (H : List ℕ → List ℕ) (e f : Evaluation) (range : Range) (p : Divergence D) : Type 0 where
+  pub one : HaveOneDigest H e f range
+  pub diverges : IsDivergence H e f range p

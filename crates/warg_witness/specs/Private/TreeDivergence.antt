@@ -1,69 +1,102 @@
 -- Where the evaluation of a consistency path and the trees over the old and the new entries diverge. The digests of a
 -- path are given from the topmost down.
-use Rattle.std.specs.Prelude.{◌≡◌, ℕ, ◌<◌, ◌≤◌, ◌^◌, List, [], ◌∷◌, length, reverse, Option, Some, slice_index_or, ◌+◌, ◌-◌}
-use Rattle.warg_log.specs.Tree.{leaves_of, root_of, root_over, front_of}
+use Rattle.std.specs.Prelude.{◌≡◌, ℕ, ◌<◌, ◌≤◌, ◌^◌, List, [], ◌∷◌, length, reverse, Option, Some, slice_index_or}
+use Rattle.warg_log.specs.Tree.{leaves_of, root_of}
+use Rattle.warg_log.specs.Ranges.{Range, leaves_from, front_part, rest_part}
 use Rattle.warg_paths.specs.Paths.{roots_down}
+use Rattle.warg_paths.specs.Ways.{IsOnGrowth}
 use Rattle.warg_witness.specs.PathClaims.{IsTreeMet}
 use Rattle.warg_witness.specs.Ranges.{IsPart, IsAround}
-use Rattle.warg_paths.specs.Ways.{IsOnGrowth}
 use Rattle.warg_witness.specs.TreePlaced.{IsTreePlaced}
-use Rattle.warg_witness.specs.Private.Divergence.{Shows, inputs_of, Parts}
+use Rattle.warg_witness.specs.Private.Divergence.{Shows, at_bottom, inputs_of, Parts}
+use Rattle.warg_witness.specs.Private.Ranges.{root_at}
+use Rattle.warg_witness.specs.declared.divergence.Climb.{Climb}
 use Rattle.warg_witness.specs.declared.divergence.Divergence.{Divergence}
+use Rattle.warg_witness.specs.declared.paths.growth.Growth.{Growth}
+use Rattle.warg_witness.specs.declared.trees.Trees.{Trees}
 use Rattle.warg_crypto.specs.Tree.{branch_input}
 
--- A tree's input at the branch over n leaves from a on.
-abbrev pub tree_input : (List ℕ → List ℕ) → List (List ℕ) → ℕ → ℕ → List ℕ
-tree_input H tree a n = branch_input (root_over H tree a (front_of n)) (root_over H tree (a + front_of n) (n - front_of n))
+-- A tree's input at the branch over a range.
+abbrev pub tree_input : (List ℕ → List ℕ) → List (List ℕ) → Range → List ℕ
+tree_input H tree range = branch_input (root_at H tree (front_part range)) (root_at H tree (rest_part range))
 
--- A tree has the digest e over the n leaves from a on; where an evaluation comes to it there, with the digest d, both diverge
--- nowhere, and meet at the bottom as said, or they diverge at branches that collide and stand where P says.
-pub record IsBeside {D : _} (H : List ℕ → List ℕ) (tree : List (List ℕ)) (P : List ℕ → List ℕ → Type 0) (meet : Type 0) (a n : ℕ) (d e : List ℕ) (p : Divergence D) : Type 0 where
-  pub is : e ≡ root_over H tree a n
-  pub parts : d ≡ e → Parts H P meet p
+-- A climb's second digest is that of a tree over the range; where an evaluation comes to it there, both diverge nowhere,
+-- and meet at the bottom as said, or they diverge at branches that collide and stand where P says.
+pub record IsBesideTree {D : _} (H : List ℕ → List ℕ) (tree : List (List ℕ)) (P : List ℕ → List ℕ → Type 0) (meet : Type 0) (range : Range) (climb : Climb D) : Type 0 where
+  pub is : climb.second ≡ root_at H tree range
+  pub parts : climb.first ≡ climb.second → Parts H P meet climb.divergence
 
 -- The path leads from the root of the tree over the old entries to the roots of both trees, which can be numbered.
-pub record IsTreeMeeting (H : List ℕ → List ℕ) (path old new old_tree new_tree : List (List ℕ)) : Type 0 where
+pub record IsTreeMeeting {D V A : _} (H : List ℕ → List ℕ) (path old new : List (List ℕ)) (trees : Trees D V A) : Type 0 where
   pub some : 0 < length old
   pub order : length old ≤ length new
   pub fits : length new ≤ 2 ^ 63
-  pub old_is : old_tree ≡ leaves_of H old
-  pub new_is : new_tree ≡ leaves_of H new
+  pub old_is : trees.old ≡ leaves_of H old
+  pub new_is : trees.new ≡ leaves_of H new
   pub met : IsTreeMet H path old new
 
--- What is left of a path at the n leaves from a on leads to the root of the first m in the old tree and that of all in
--- the new one.
-abbrev pub LeadsOver : (List ℕ → List ℕ) → List (List ℕ) → List (List ℕ) → Option (List ℕ) → ℕ → ℕ → ℕ → List (List ℕ) → Type 0
-LeadsOver H old_tree new_tree known m a n digests = roots_down H known m n digests ≡ Some (root_over H old_tree a m, root_over H new_tree a n)
+-- Where a path has come to on the way down: at a range of which so many leaves are old, with the root over these, if it is
+-- known, and with the digests that are left.
+pub record Descent : Type 0 where
+  pub known : Option (List ℕ)
+  pub old_count : ℕ
+  pub range : Range
+  pub digests : List (List ℕ)
+
+abbrev pub descent : Option (List ℕ) → ℕ → Range → List (List ℕ) → Descent
+descent known m range digests = record { known = known; old_count = m; range = range; digests = digests }
+
+-- At its top, from the old tree's root over all leaves.
+abbrev pub whole_descent : {D V A : _} → (List ℕ → List ℕ) → Trees D V A → List (List ℕ) → Descent
+whole_descent H trees path = descent (Some (root_of H trees.old)) (length trees.old) (leaves_from 0 (length trees.new)) (reverse path)
+
+-- The range's leaves that are old.
+abbrev pub old_part : Descent → Range
+old_part d = leaves_from d.range.start d.old_count
+
+-- The roots over these and over all, to which what is left of the path leads.
+abbrev pub roots_at : (List ℕ → List ℕ) → Descent → Option (List ℕ × List ℕ)
+roots_at H d = roots_down H d.known d.old_count d.range.count d.digests
+
+-- It leads to those of the old and of the new tree.
+abbrev pub LeadsOver : {D V A : _} → (List ℕ → List ℕ) → Trees D V A → Descent → Type 0
+LeadsOver H trees d = roots_at H d ≡ Some (root_at H trees.old (old_part d), root_at H trees.new d.range)
 
 -- The trees are those over entries that differ at the place, and the range is on a path's way from the old to the new: one of
 -- the new tree, and its old leaves one of the old tree.
-pub record IsOnWayOver (H : List ℕ → List ℕ) (path old new old_tree new_tree : List (List ℕ)) (place : ℕ) (known : Option (List ℕ)) (m a n : ℕ) (digests : List (List ℕ)) : Type 0 where
-  pub old_is : old_tree ≡ leaves_of H old
-  pub new_is : new_tree ≡ leaves_of H new
+pub record IsOnWayOver {D V A : _} (H : List ℕ → List ℕ) (path old new : List (List ℕ)) (trees : Trees D V A) (place : ℕ) (d : Descent) : Type 0 where
+  pub old_is : trees.old ≡ leaves_of H old
+  pub new_is : trees.new ≡ leaves_of H new
   pub differ : slice_index_or old place [] ≡ slice_index_or new place [] → ⊥
-  pub on_way : IsOnGrowth (Some (root_of H (leaves_of H old))) (length old) (length new) (reverse path) known m a n digests
-  pub old_part : IsPart 0 (length old) a m
-  pub new_part : IsPart 0 (length new) a n
+  pub on_way : IsOnGrowth (Some (root_of H (leaves_of H old))) (length old) (length new) (reverse path) d.known d.old_count d.range.start d.range.count d.digests
+  pub in_old : IsPart 0 (length old) d.range.start d.old_count
+  pub in_new : IsPart 0 (length new) d.range.start d.range.count
 
 -- Of all entries and all paths for which it is such a range, the divergence shows a collision, or both entries do.
-abbrev pub IsTreeDivergence : {D : _} → (List ℕ → List ℕ) → List (List ℕ) → List (List ℕ) → ℕ → Option (List ℕ) → ℕ → ℕ → ℕ → List (List ℕ) → Divergence D → Type 0
-IsTreeDivergence H old_tree new_tree place known m a n digests p = (path old new : List (List ℕ)) → IsOnWayOver H path old new old_tree new_tree place known m a n digests
+abbrev pub IsTreeDivergence : {D V A : _} → (List ℕ → List ℕ) → Trees D V A → ℕ → Descent → Divergence D → Type 0
+IsTreeDivergence H trees place d p = (path old new : List (List ℕ)) → IsOnWayOver H path old new trees place d
     → Shows H (IsTreePlaced H path old new) (inputs_of p (0 ∷ slice_index_or old place []) (0 ∷ slice_index_or new place []))
 
 -- Of all entries and all paths for which it is such a range, two byte lists stand where a collision may.
-abbrev pub PlacedOnGrowth : (List ℕ → List ℕ) → List (List ℕ) → List (List ℕ) → ℕ → Option (List ℕ) → ℕ → ℕ → ℕ → List (List ℕ) → List ℕ → List ℕ → Type 0
-PlacedOnGrowth H old_tree new_tree place known m a n digests first second =
-    (path old new : List (List ℕ)) → IsOnWayOver H path old new old_tree new_tree place known m a n digests → IsTreePlaced H path old new first second
+abbrev pub PlacedOnGrowth : {D V A : _} → (List ℕ → List ℕ) → Trees D V A → ℕ → Descent → List ℕ → List ℕ → Type 0
+PlacedOnGrowth H trees place d first second =
+    (path old new : List (List ℕ)) → IsOnWayOver H path old new trees place d → IsTreePlaced H path old new first second
 
--- What is left of a path leads to the roots o and v of the first m of the n leaves from a on and of all, where those of
--- the trees are o' and v'. The k leaves from b on, with the place, are a range of both, and the evaluations of both roots
--- go up from one digest there.
-pub record IsGrowth {D : _} (H : List ℕ → List ℕ) (old_tree new_tree : List (List ℕ)) (place : ℕ) (known : Option (List ℕ)) (m a n : ℕ) (digests : List (List ℕ)) (b k : ℕ)
-    (o o' : List ℕ) (p : Divergence D) (v v' : List ℕ) (q : Divergence D) : Type 0 where
-  pub roots : roots_down H known m n digests ≡ Some (o, v)
-  pub around : IsAround place 1 b k
-  pub old_part : IsPart a m b k
-  pub new_part : IsPart a n b k
+-- Both evaluations, from one digest at a range, and both trees there.
+abbrev pub growth_from : {D V A : _} → (List ℕ → List ℕ) → Trees D V A → Range → List ℕ → Growth D
+growth_from H trees range digest = record {
+  shared = range;
+  old = at_bottom digest (root_at H trees.old range);
+  new = at_bottom digest (root_at H trees.new range);
+}
+
+-- What is left of a path leads to the growth's first digests, beside those of the trees. The shared range, with the place,
+-- is one of both, and the evaluations of both roots go up from one digest there.
+pub record IsGrowth {D V A : _} (H : List ℕ → List ℕ) (trees : Trees D V A) (place : ℕ) (d : Descent) (growth : Growth D) : Type 0 where
+  pub roots : roots_at H d ≡ Some (growth.old.first, growth.new.first)
+  pub around : IsAround (leaves_from place 1) growth.shared
+  pub in_old : IsPart d.range.start d.old_count growth.shared.start growth.shared.count
+  pub in_new : IsPart d.range.start d.range.count growth.shared.start growth.shared.count
   pub digest : List ℕ
-  pub old : IsBeside H old_tree (PlacedOnGrowth H old_tree new_tree place known m a n digests) (digest ≡ root_over H old_tree b k) a m o o' p
-  pub new : IsBeside H new_tree (PlacedOnGrowth H old_tree new_tree place known m a n digests) (digest ≡ root_over H new_tree b k) a n v v' q
+  pub old : IsBesideTree H trees.old (PlacedOnGrowth H trees place d) (digest ≡ root_at H trees.old growth.shared) (old_part d) growth.old
+  pub new : IsBesideTree H trees.new (PlacedOnGrowth H trees place d) (digest ≡ root_at H trees.new growth.shared) d.range growth.new

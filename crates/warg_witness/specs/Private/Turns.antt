@@ -4,6 +4,7 @@ use Rattle.std.specs.Prelude.{◌≡◌, ℕ, ◌-◌, ◌⊎◌, nat_le, if◌t
 use Rattle.warg_crypto.specs.Tree.{input_beside}
 use Rattle.warg_log.specs.Tree.{front_of}
 use Rattle.warg_map.specs.ProofValue.{peer_of}
+use Rattle.warg_witness.specs.declared.divergence.Climb.{Climb}
 use Rattle.warg_witness.specs.declared.divergence.Divergence.{Divergence}
 use Rattle.warg_witness.specs.Private.Divergence.{Parts}
 use Rattle.warg_witness.specs.declared.divergence.Divergence.TheVariants.{Branch}
@@ -32,11 +33,11 @@ AreTaken H x (s ∷ ss) y (t ∷ ts) first second = ((first ≡ taken s (climbed
 abbrev pub IsTurnDivergence : {D : _} → (List ℕ → List ℕ) → List ℕ → List Turn → List ℕ → List Turn → Divergence D → Type 0
 IsTurnDivergence H x ss y ts p = Parts H (AreTaken H x ss y ts) ((x ≡ y) × (ss ≡ ts)) p
 
--- Both ways lead to these digests, and diverge as said if the two are one.
-pub record IsClimb {D : _} (H : List ℕ → List ℕ) (x : List ℕ) (ss : List Turn) (y : List ℕ) (ts : List Turn) (first second : List ℕ) (p : Divergence D) : Type 0 where
-  pub first_is : first ≡ climbed H x ss
-  pub second_is : second ≡ climbed H y ts
-  pub diverges : first ≡ second → IsTurnDivergence H x ss y ts p
+-- Both ways lead to the climb's digests, and diverge as it says if the two are one.
+pub record IsClimb {D : _} (H : List ℕ → List ℕ) (x : List ℕ) (ss : List Turn) (y : List ℕ) (ts : List Turn) (climb : Climb D) : Type 0 where
+  pub first_is : climb.first ≡ climbed H x ss
+  pub second_is : climb.second ≡ climbed H y ts
+  pub diverges : climb.first ≡ climb.second → IsTurnDivergence H x ss y ts climb.divergence
 
 -- Whether leaf m of n is in the rest of them, its number in the part that has it, and that part's count.
 abbrev pub is_right : ℕ → ℕ → Bool
@@ -58,16 +59,16 @@ abbrev pub bit_turns : (List ℕ → List ℕ) → List (Option (List ℕ)) → 
 bit_turns H peers [] = []
 bit_turns H peers (bit ∷ below) = record { right = bit; beside = peer_of H peers (length below) } ∷ bit_turns H peers below
 
--- After a step on the side of a bit, from the digest x with u beside it and from y with v, the evaluations diverge where
+-- After a step on the side of a bit, with u beside the first digest and v beside the second, the evaluations diverge where
 -- they did before, with one digest below and one beside; or the inputs differ, and they diverge here.
-abbrev pub DivergesUp : {D : _} → Bool → List ℕ → List ℕ → List ℕ → List ℕ → Divergence D → Divergence D → Type 0
-DivergesUp bit x u y v before after =
-    ((x ≡ y) × (u ≡ v) × (after ≡ before))
-    ⊎ ((input_beside bit u x ≡ input_beside bit v y → ⊥)
-    × (after ≡ Branch (record { right = bit; first = x; first_beside = u; second = y; second_beside = v })))
+abbrev pub DivergesUp : {D : _} → Bool → Climb D → List ℕ → List ℕ → Divergence D → Type 0
+DivergesUp bit before u v after =
+    ((before.first ≡ before.second) × (u ≡ v) × (after ≡ before.divergence))
+    ⊎ ((input_beside bit u before.first ≡ input_beside bit v before.second → ⊥)
+    × (after ≡ Branch (record { right = bit; first = before.first; first_beside = u; second = before.second; second_beside = v })))
 
 -- Such a step.
-pub record IsUp {D : _} (H : List ℕ → List ℕ) (bit : Bool) (x u y v : List ℕ) (before : Divergence D) (first second : List ℕ) (after : Divergence D) : Type 0 where
-  pub first_is : first ≡ H (input_beside bit u x)
-  pub second_is : second ≡ H (input_beside bit v y)
-  pub diverges : DivergesUp bit x u y v before after
+pub record IsUp {D : _} (H : List ℕ → List ℕ) (bit : Bool) (before : Climb D) (u v : List ℕ) (after : Climb D) : Type 0 where
+  pub first_is : after.first ≡ H (input_beside bit u before.first)
+  pub second_is : after.second ≡ H (input_beside bit v before.second)
+  pub diverges : DivergesUp bit before u v after.divergence

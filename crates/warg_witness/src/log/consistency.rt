@@ -1,7 +1,7 @@
 //! The witness for consistency proofs.
 
 ghost use Rattle.std.specs.Prelude.{◌≡◌, ◌+◌, ◌<◌, ◌≤◌, ◌↔◌, length, map, None, Some, Ok, Err, IfOk, IsTrue, MatchOption, ⊤};
-ghost use Rattle.warg_log.specs.Tree.{leaves_of, root_of, root_over, own_digest};
+ghost use Rattle.warg_log.specs.Tree.{root_of};
 ghost use Rattle.warg_log.specs.Cut.{with_target, cut_over};
 ghost use Rattle.warg_log.specs.Consistency.{IsConsistent, consistency};
 ghost use Rattle.warg_log.specs.declared.consistency.ConsistencyProofError.{ConsistencyProofError};
@@ -11,8 +11,7 @@ ghost use Rattle.warg_witness.specs.Private.Ranges.{IsNodeRange, IsRootOf};
 ghost use Rattle.warg_witness.specs.Findings.{Finds};
 ghost use Rattle.warg_witness.specs.Claims.{Begins, IsConsistencyMet};
 ghost use Rattle.warg_witness.specs.Placed.{IsConsistencyPlaced};
-ghost use Rattle.warg_witness.specs.Private.Divergence.{IsDivergence};
-ghost use Rattle.warg_witness.specs.Private.Meeting.{IsConsistencyDivergence, IsConsistencyMeeting, LeadsToBoth};
+ghost use Rattle.warg_witness.specs.Private.Meeting.{DivergesFromTree, IsConsistencyDivergence, IsConsistencyMeeting, LeadsToBoth};
 
 use crate::collision::Finding;
 use crate::divergence::Divergence;
@@ -48,13 +47,11 @@ fn meet_trees<D: SupportedDigest, V: VisitBytes, L: LogData<D, V>, A: Allocator 
     ensures fails { (fault : ConsistencyProofError)
         → consistency D.digest (L.digest_at hashes.now) proof.now.old_length proof.now.new_length
         ≡ Err fault → result ≡ Ok None }
-    ensures met { IfOk result (λ met. MatchOption met
-        (IsConsistencyMet D.digest
-        (L.digest_at hashes.now) proof.now.old_length proof.now.new_length
-        (map V.bytes old.now) (map V.bytes new.now) → ⊥)
-        (λ trees. IsConsistencyMeeting D.digest
-        (L.digest_at hashes.now) proof.now.old_length proof.now.new_length
-        (map V.bytes old.now) (map V.bytes new.now) trees.old trees.new)) }
+    ensures met { let F = L.digest_at hashes.now in let xs = map V.bytes old.now in
+        let ys = map V.bytes new.now in
+        let met = IsConsistencyMet D.digest F proof.now.old_length proof.now.new_length xs ys in
+        IfOk result (λ found. MatchOption found (¬ met)
+        (λ trees. met × IsConsistencyMeeting D.digest F xs ys trees.old trees.new)) }
 {
     if !have_lengths(proof, old, new) {
         return Ok(None);
@@ -70,8 +67,8 @@ fn meet_trees<D: SupportedDigest, V: VisitBytes, L: LogData<D, V>, A: Allocator 
 fn root_around(place: usize, range: &LeafRange) -> LeafRange
     requires starts { range.now.start ≤ place }
     requires ends { place < range.now.start + range.now.count }
-    ensures root { IsRootOf result.start result.count range.now.start range.now.count }
-    ensures around { IsAround place 1 result.start result.count }
+    ensures root { IsRootOf result range.now }
+    ensures around { IsAround (leaves_from place 1) result }
 {
     if range.is_full() {
         return *range;
@@ -93,10 +90,9 @@ fn held_root<D: SupportedDigest, V: VisitBytes, L: LogData<D, V>, A: Allocator>(
     requires fits { length trees.now.old ≤ GREATEST_LENGTH }
     requires met { IsConsistent D.digest (L.digest_at hashes.now) (length trees.now.old)
         (length trees.now.new) (root_of D.digest trees.now.old) (root_of D.digest trees.now.new) }
-    ensures around { IsAround place 1 result.0.start result.0.count }
-    ensures leads { LeadsToBoth D.digest
-        (L.digest_at
-        hashes.now) trees.now.old trees.now.new result.0.start result.0.count result.1 }
+    ensures around { IsAround (leaves_from place 1) result.0 }
+    ensures leads { LeadsToBoth D.digest (with_target (L.digest_at hashes.now) result.0 result.1)
+        trees.now.old trees.now.new }
 {
     let root = root_around(place, &LeafRange::new(0, trees.old.length()));
     match hashes.hash_for(Node::over(&root)) {
@@ -113,14 +109,13 @@ fn divergence_from<D: SupportedDigest, V: VisitBytes, L: LogData<D, V>, A: Alloc
     node: &LeafRange,
     tree: &VecLog<D, V, A>,
 ) -> Divergence<D>
-    requires node { IsNodeRange node.now.start node.now.count }
+    requires node { IsNodeRange node.now }
     requires within { node.now.start + node.now.count ≤ length tree.now }
     requires fits { length tree.now ≤ GREATEST_LENGTH }
     requires met { cut_over D.digest (with_target (L.digest_at hashes.now) node.now hash.now)
         (leaves_from 0 (length tree.now)) ≡ Some (root_of D.digest tree.now) }
-    ensures { IsDivergence D.digest (L.digest_at hashes.now) hash.now (own_digest D.digest tree.now)
-        (root_over D.digest tree.now node.now.start node.now.count)
-        node.now.start node.now.count 0 (length tree.now) result }
+    ensures { DivergesFromTree D.digest (with_target (L.digest_at hashes.now) node.now hash.now) tree.now
+        result }
 {
     let plain = plain_digest(tree, node);
     let whole = LeafRange::new(0, tree.length());
@@ -210,12 +205,8 @@ fn find_difference<D: SupportedDigest, V: VisitBytes, L: LogData<D, V>, A: Alloc
     new: &[V],
     trees: &Trees<D, V, A>,
 ) -> Result<Finding<D, A>, AllocError>
-    requires order { length old.now ≤ length new.now }
-    requires fits { length new.now ≤ GREATEST_LENGTH }
-    requires old_tree { trees.now.old ≡ leaves_of D.digest (map V.bytes old.now) }
-    requires new_tree { trees.now.new ≡ leaves_of D.digest (map V.bytes new.now) }
-    requires met { IsConsistent D.digest (L.digest_at hashes.now) (length trees.now.old)
-        (length trees.now.new) (root_of D.digest trees.now.old) (root_of D.digest trees.now.new) }
+    requires { IsConsistencyMeeting D.digest (L.digest_at hashes.now) (map V.bytes old.now)
+        (map V.bytes new.now) trees.now.old trees.now.new }
     ensures { IfOk result (Finds ⊤ (Begins (map V.bytes old.now) (map V.bytes new.now))
         (IsConsistencyPlaced D.digest (L.digest_at hashes.now) (map V.bytes old.now)
         (map V.bytes new.now))) }

@@ -2,7 +2,7 @@
 
 ghost use Rattle.std.specs.Prelude.{◌≡◌, ◌<◌, reverse, MatchOption};
 ghost use Rattle.warg_witness.specs.Private.Turns.{is_right, leaf_in, count_in};
-ghost use Rattle.warg_witness.specs.Private.PathClimbs.{LeadNowhere, IsPathClimb, NeverMeet, IsPathsMeeting};
+ghost use Rattle.warg_witness.specs.Private.PathClimbs.{path_from, LeadNowhere, IsPathClimb, NeverMeet, IsPathsMeeting};
 
 use crate::divergence::{Climb, Divergence};
 use warg_crypto::{Hash, SupportedDigest};
@@ -20,11 +20,9 @@ fn climb_paths<D: SupportedDigest>(
     second_path: &[Hash<D>],
 ) -> Option<Climb<D>>
     requires { index < count }
-    ensures { MatchOption result
-        (LeadNowhere D.digest first_leaf.now (reverse first_path.now) second_leaf.now
-        (reverse second_path.now) index count)
-        (λ climb. IsPathClimb D.digest first_leaf.now (reverse first_path.now) second_leaf.now
-        (reverse second_path.now) index count climb.first climb.second climb.divergence) }
+    ensures { let p = path_from first_leaf.now (reverse first_path.now) in
+        let q = path_from second_leaf.now (reverse second_path.now) in
+        MatchOption result (LeadNowhere D.digest p q index count) (IsPathClimb D.digest p q index count) }
 {
     if count == 1 {
         if first_path.is_empty() && second_path.is_empty() {
@@ -73,10 +71,10 @@ pub(crate) fn meet_paths<D: SupportedDigest>(
     second_leaf: &Hash<D>,
     second_path: &[Hash<D>],
 ) -> Option<Divergence<D>>
-    ensures { MatchOption result
-        (NeverMeet D.digest first_leaf.now first_path.now second_leaf.now second_path.now index length)
-        (IsPathsMeeting D.digest first_leaf.now first_path.now second_leaf.now second_path.now
-        index length) }
+    ensures { let p = path_from first_leaf.now first_path.now in
+        let q = path_from second_leaf.now second_path.now in
+        MatchOption result (NeverMeet D.digest p q index length)
+        (IsPathsMeeting D.digest p q index length) }
 {
     if index >= length {
         return None;

@@ -1,12 +1,11 @@
 //! The evaluation of a consistency path and the trees over the old and the new entries, side by side.
 
-ghost use Rattle.std.specs.Prelude.{◌≡◌, ℕ, ◌+◌, ◌-◌, ◌<◌, ◌≤◌, length, reverse, None, Some, MatchOption};
-ghost use Rattle.warg_log.specs.Ranges.{IsAligned};
-ghost use Rattle.warg_log.specs.Tree.{root_of, root_over};
-ghost use Rattle.warg_paths.specs.Paths.{roots_down};
+ghost use Rattle.std.specs.Prelude.{◌≡◌, ◌+◌, ◌<◌, ◌≤◌, length, reverse, None, MatchOption};
+ghost use Rattle.warg_log.specs.Ranges.{leaves_from, IsAligned};
 ghost use Rattle.warg_witness.specs.Ranges.{IsAround};
+ghost use Rattle.warg_witness.specs.Private.Ranges.{root_at};
 ghost use Rattle.warg_witness.specs.Private.Turns.{IsUp};
-ghost use Rattle.warg_witness.specs.Private.TreeDivergence.{LeadsOver, IsGrowth, IsTreeDivergence};
+ghost use Rattle.warg_witness.specs.Private.TreeDivergence.{descent, whole_descent, roots_at, growth_from, LeadsOver, IsGrowth, IsTreeDivergence};
 
 use crate::divergence::{Climb, Divergence};
 use crate::plain::plain_digest;
@@ -41,12 +40,10 @@ impl<D: SupportedDigest> Growth<D> {
         requires new_aligned { IsAligned new_range.now.start new_range.now.count }
         requires new_within { new_range.now.start + new_range.now.count ≤ length trees.now.new }
         ensures shared { result.shared ≡ self.shared }
-        ensures old { IsUp D.digest right self.old.first old_beside.now self.old.second
-            (root_over D.digest trees.now.old old_range.now.start old_range.now.count)
-            self.old.divergence result.old.first result.old.second result.old.divergence }
-        ensures new { IsUp D.digest right self.new.first new_beside.now self.new.second
-            (root_over D.digest trees.now.new new_range.now.start new_range.now.count)
-            self.new.divergence result.new.first result.new.second result.new.divergence }
+        ensures old { IsUp D.digest right self.old old_beside.now
+            (root_at D.digest trees.now.old old_range.now) result.old }
+        ensures new { IsUp D.digest right self.new new_beside.now
+            (root_at D.digest trees.now.new new_range.now) result.new }
     {
         let old_plain = plain_digest(&trees.old, old_range);
         let new_plain = plain_digest(&trees.new, new_range);
@@ -67,14 +64,7 @@ fn growth_at<D: SupportedDigest, V: VisitBytes, A: Allocator>(
     requires aligned { IsAligned shared.now.start shared.now.count }
     requires in_old { shared.now.start + shared.now.count ≤ length trees.now.old }
     requires in_new { shared.now.start + shared.now.count ≤ length trees.now.new }
-    ensures shared { result.shared ≡ shared.now }
-    ensures first { (result.old.first ≡ digest.now) × (result.new.first ≡ digest.now) }
-    ensures old { result.old.second
-        ≡ root_over D.digest trees.now.old shared.now.start shared.now.count }
-    ensures new { result.new.second
-        ≡ root_over D.digest trees.now.new shared.now.start shared.now.count }
-    ensures targets { (result.old.divergence ≡ Divergence.Target)
-        × (result.new.divergence ≡ Divergence.Target) }
+    ensures { result ≡ growth_from D.digest trees.now shared.now digest.now }
 {
     Growth {
         shared: *shared,
@@ -94,16 +84,12 @@ fn climb_growth<D: SupportedDigest, V: VisitBytes, A: Allocator>(
     path: &[Hash<D>],
 ) -> Option<Growth<D>>
     requires order { old_length ≤ range.now.count }
-    requires around { IsAround place 1 range.now.start old_length }
+    requires around { IsAround (leaves_from place 1) (leaves_from range.now.start old_length) }
     requires aligned { IsAligned range.now.start range.now.count }
     requires in_old { range.now.start + old_length ≤ length trees.now.old }
     requires in_new { range.now.start + range.now.count ≤ length trees.now.new }
-    ensures { MatchOption result
-        (roots_down D.digest old_root old_length range.now.count (reverse path.now) ≡ None)
-        (λ growth. IsGrowth D.digest trees.now.old trees.now.new place old_root old_length
-        range.now.start range.now.count (reverse path.now) growth.shared.start growth.shared.count
-        growth.old.first growth.old.second growth.old.divergence
-        growth.new.first growth.new.second growth.new.divergence) }
+    ensures { let d = descent old_root old_length range.now (reverse path.now) in
+        MatchOption result (roots_at D.digest d ≡ None) (IsGrowth D.digest trees.now place d) }
 {
     if old_length == range.count {
         let (root, _) = roots_of_subproof(old_root, range.count, range.count, path)?;
@@ -142,11 +128,9 @@ pub(super) fn growth_divergence<D: SupportedDigest, V: VisitBytes, A: Allocator>
     requires place { place < length trees.now.old }
     requires order { length trees.now.old ≤ length trees.now.new }
     requires fits { length trees.now.new ≤ GREATEST_LENGTH }
-    requires leads { LeadsOver D.digest trees.now.old trees.now.new (Some (root_of D.digest trees.now.old))
-        (length trees.now.old) 0 (length trees.now.new) (reverse path.now) }
-    ensures { IsTreeDivergence D.digest trees.now.old trees.now.new place
-        (Some (root_of D.digest trees.now.old)) (length trees.now.old) 0 (length trees.now.new)
-        (reverse path.now) result }
+    requires leads { LeadsOver D.digest trees.now (whole_descent D.digest trees.now path.now) }
+    ensures { IsTreeDivergence D.digest trees.now place (whole_descent D.digest trees.now path.now)
+        result }
 {
     let (old_root, old_length) = (trees.old.root(), trees.old.length());
     let whole = LeafRange::new(0, trees.new.length());

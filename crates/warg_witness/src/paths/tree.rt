@@ -43,8 +43,7 @@ fn meet_trees<D: SupportedDigest, V: VisitBytes, A: Allocator + Copy>(
     ensures met { IfOk result (λ met. MatchOption met
         (IsTreeMet D.digest path.now (map V.bytes old.now) (map V.bytes new.now)
         → ⊥)
-        (λ trees. IsTreeMeeting D.digest path.now (map V.bytes old.now)
-        (map V.bytes new.now) trees.old trees.new)) }
+        (IsTreeMeeting D.digest path.now (map V.bytes old.now) (map V.bytes new.now))) }
 {
     if !leads(path, old.len(), new.len()) {
         return Ok(None);
@@ -118,8 +117,7 @@ fn find_difference<D: SupportedDigest, V: VisitBytes, A: Allocator + Copy>(
     new: &[V],
     trees: &Trees<D, V, A>,
 ) -> Result<Finding<D, A>, AllocError>
-    requires { IsTreeMeeting D.digest path.now (map V.bytes old.now) (map V.bytes new.now)
-        trees.now.old trees.now.new }
+    requires { IsTreeMeeting D.digest path.now (map V.bytes old.now) (map V.bytes new.now) trees.now }
     ensures { IfOk result (Finds ⊤ (Begins (map V.bytes old.now) (map V.bytes new.now))
         (IsTreePlaced D.digest path.now (map V.bytes old.now)
         (map V.bytes new.now))) }

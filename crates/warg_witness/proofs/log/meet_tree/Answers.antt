@@ -15,7 +15,7 @@ returns-in_err-divergence g c entries is = rw c.from_residual.ensures (λ met.
       c.new-whole.ensures,
       c.log_length.ensures.value ∙ sym c.requires.count,
     ) at c.in_err-divergence.ensures)
-    (have_root _ _ _ _ (rw (c.requires.count, is) leads.1) (rw c.requires.count (omega (arith, leads.0, pow_pos)))))
+    (have_root _ _ (rw (c.requires.count, is) leads.1) (rw c.requires.count (omega (arith, leads.0, pow_pos)))))
 
 pub returns : goal.returns
 returns g c entries is =
@@ -23,20 +23,22 @@ returns g c entries is =
     let all = c.requires.count in
     let met = rw (c.plain_digest-plain.ensures, target, c.new-whole.ensures, c.log_length.ensures.value ∙ sym all) at
     c.in_ok-divergence.ensures in
-    let root = rw (all, is) at (root_led _ _ _ _ met.one (rw all (omega (arith, c.requires.exists, pow_pos)))) in
-    record {
-      met = record {
-        count = sym (leaves_count g.D.SupportedDigest.digest entries) ∙ sym (ap length is) ∙ all;
-        is = (inclusion_leads _ _ c.args.proof.now _ _).1 (c.requires.exists, root);
-      };
-      tree_is = is;
-      start_is = starts target;
-      count_is = counts target;
-      aligned = rw target (node_aligned (node_range _));
-      within = omega (arith, starts target, counts target);
-      plain_is = rw (is, target) at c.plain_digest-plain.ensures;
-      diverges = met.diverges;
-    }
+    let root = rw (all, is) at (root_led _ _ met.one (rw all (omega (arith, c.requires.exists, pow_pos)))) in (
+      record {
+        target_is = target;
+        aligned = rw target (node_aligned (node_range _));
+        within = omega (arith, starts target, counts target);
+        plain_is = c.plain_digest-plain.ensures;
+      },
+      record {
+        met = record {
+          count = sym (leaves_count g.D.SupportedDigest.digest entries) ∙ sym (ap length is) ∙ all;
+          is = (inclusion_leads _ _ c.args.proof.now _ _).1 (c.requires.exists, root);
+        };
+        tree_is = is;
+        diverges = met.diverges;
+      },
+    )
 
 pub meet_ranges-requires-clause-aligned : goal.meet_ranges-requires-clause-aligned
 meet_ranges-requires-clause-aligned g c = rw c.new-whole.ensures (whole_aligned _ refl)

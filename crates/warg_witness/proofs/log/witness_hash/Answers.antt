@@ -5,7 +5,7 @@ use Rattle.warg_witness.proofs.log.witness_hash.Goals as goal
 
 pub find_hash-requires : goal.find_hash-requires
 find_hash-requires g c = let met = rw c.in-Some.is at c.in_ok-met.ensures.met in
-    branches_collide _ c.in-Some.met.divergence _ _ met.diverges
+    branches_collide _ c.in-Some.met.divergence _ _ met.1.diverges
 
 pub returns-clause-count : goal.returns-clause-count
 returns-clause-count g c other = absurd (found_none (c.in_ok-met.ensures.count other) c.in-Some.is)
@@ -15,4 +15,4 @@ returns-clause-fails g c fault is = absurd (found_none (c.in_ok-met.ensures.fail
 
 pub returns-clause-found : goal.returns-clause-found
 returns-clause-found g c = let met = rw c.in-Some.is at c.in_ok-met.ensures.met in
-    IfOk-weaker c.find_hash.result _ _ (hash_found c.in-Some.met.divergence met) c.find_hash.ensures
+    IfOk-weaker c.find_hash.result _ _ (hash_found c.in-Some.met.divergence met.0 met.1) c.find_hash.ensures

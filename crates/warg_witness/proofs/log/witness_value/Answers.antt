@@ -6,7 +6,8 @@ use Rattle.warg_witness.proofs.log.witness_value.Goals as goal
 
 pub find_value-requires-clause-collides : goal.find_value-requires-clause-collides
 find_value-requires-clause-collides g c other =
-    (value_shown (rw (c.in-Some.is, c.hash_leaf-hash.ensures) at c.in_ok-met.ensures.met) other).collides
+    let met = rw (c.in-Some.is, c.hash_leaf-hash.ensures) at c.in_ok-met.ensures.met in
+    (value_shown met.0.target_is met.1 other).collides
 
 pub returns-clause-count : goal.returns-clause-count
 returns-clause-count g c other = absurd (found_none (c.in_ok-met.ensures.count other) c.in-Some.is)
@@ -18,5 +19,6 @@ returns-clause-fails g c fault is =
 pub returns-clause-found : goal.returns-clause-found
 returns-clause-found g c =
     let meeting = rw (c.in-Some.is, c.hash_leaf-hash.ensures) at c.in_ok-met.ensures.met in
-    IfOk-weaker c.find_value.result _ _ (finds_shown meeting.met (value_held meeting) (value_from meeting)
-    (value_shown meeting)) c.find_value.ensures
+    let here = meeting.0.target_is in
+    IfOk-weaker c.find_value.result _ _ (finds_shown meeting.1.met (value_held here) (value_from here)
+    (value_shown here meeting.1)) c.find_value.ensures

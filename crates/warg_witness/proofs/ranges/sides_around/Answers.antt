@@ -1,18 +1,28 @@
 use Rattle.std.proofs.Common.{arith}
-use Rattle.warg_witness.proofs.RangeLemmas.{front_around, parts_aligned}
+use Rattle.warg_witness.proofs.RangeLemmas.{above_one, front_side, rest_side}
 use Rattle.warg_witness.proofs.ranges.sides_around.Goals as goal
 
-pub returns-then-target-rest-clause-around : goal.returns-then-target-rest-clause-around
-returns-then-target-rest-clause-around c =
-    let ends = front_around c.requires.node c.requires.aligned c.requires.around c.requires.other (grind arith) in
-    rw c.split-front.ensures.front (omega arith)
+pub split-front-requires : goal.split-front-requires
+split-front-requires c = above_one c.requires.node c.requires.aligned c.requires.above
 
-pub returns-then-target-rest-clause-aligned : goal.returns-then-target-rest-clause-aligned
-returns-then-target-rest-clause-aligned c =
-    let parts = parts_aligned c.requires.node c.requires.aligned c.requires.around c.requires.other in
-    (rw c.split-front.ensures.front parts.0, rw c.split-front.ensures.rest parts.1)
+pub returns-then-target-rest : goal.returns-then-target-rest
+returns-then-target-rest c =
+    let rest = c.split-front.ensures.rest in
+    let side = front_side c.requires.node c.requires.aligned c.requires.above (grind arith) in record {
+      side = c.split-front.ensures.front;
+      beside = rest;
+      smaller = rw c.split-front.ensures.front side.0;
+      aligned = rw c.split-front.ensures.front side.1;
+      around = rw c.split-front.ensures.front side.2;
+    }
 
-pub returns-else-target-rest-clause-aligned : goal.returns-else-target-rest-clause-aligned
-returns-else-target-rest-clause-aligned c =
-    let parts = parts_aligned c.requires.node c.requires.aligned c.requires.around c.requires.other in
-    (rw c.split-front.ensures.rest parts.1, rw c.split-front.ensures.front parts.0)
+pub returns-else-target-rest : goal.returns-else-target-rest
+returns-else-target-rest c =
+    let front = c.split-front.ensures.front in
+    let side = rest_side c.requires.node c.requires.aligned c.requires.above (grind arith) in record {
+      side = c.split-front.ensures.rest;
+      beside = front;
+      smaller = rw c.split-front.ensures.rest side.0;
+      aligned = rw c.split-front.ensures.rest side.1;
+      around = rw c.split-front.ensures.rest side.2;
+    }

@@ -11,4 +11,7 @@ returns-clause-fails g c fault is = absurd (found_none (c.in_ok-trees.ensures.fa
 
 pub returns-clause-found : goal.returns-clause-found
 returns-clause-found g c = let met = rw c.in-Some.is at c.in_ok-trees.ensures.met in
-    IfOk-weaker c.find_difference.result _ _ (finds_met _ _ met.met) c.find_difference.ensures
+    IfOk-weaker c.find_difference.result _ _ (finds_met _ _ met.0) c.find_difference.ensures
+
+pub find_difference-requires : goal.find_difference-requires
+find_difference-requires g c = (rw c.in-Some.is at c.in_ok-trees.ensures.met).1

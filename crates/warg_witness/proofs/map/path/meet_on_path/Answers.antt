@@ -7,7 +7,7 @@ use Rattle.warg_witness.proofs.map.path.meet_on_path.Goals as goal
 pub loop-height-init : goal.loop-height-init
 loop-height-init g c = (
   c.empty_tree-empty.ensures,
-  rw last_bits-none (no_turns c.new-climb.ensures.first c.new-climb.ensures.second c.new-climb.ensures.divergence),
+  rw last_bits-none (no_turns c.new-climb.ensures),
 )
 
 pub loop-height-preserved : goal.loop-height-preserved

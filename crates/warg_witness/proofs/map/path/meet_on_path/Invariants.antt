@@ -9,5 +9,4 @@ invariant-loop-height g l =
     (l.empty ≡ empty_root g.D.SupportedDigest.digest l.height)
     × IsClimb g.D.SupportedDigest.digest l.fn.first.leaf
     (bit_turns g.D.SupportedDigest.digest l.fn.first.peers.now (last_bits l.key l.height)) l.fn.second.leaf
-    (bit_turns g.D.SupportedDigest.digest l.fn.second.peers.now (last_bits l.key l.height))
-    l.climb.first l.climb.second l.climb.divergence
+    (bit_turns g.D.SupportedDigest.digest l.fn.second.peers.now (last_bits l.key l.height)) l.climb

@@ -5,7 +5,8 @@ use Rattle.warg_witness.proofs.paths.climbing.+climb_paths.Goals as goal
 
 pub returns-then-is_empty-2 : goal.returns-then-is_empty-2
 returns-then-is_empty-2 g t c = leaf_climb _ _ _ c.args.first_path.now c.args.second_path.now (grind (arith, nat_tests))
-    (grind (arith, nat_tests)) (grind (arith, nat_tests)) (grind arith) (grind arith) c.new.ensures.divergence
+    (grind (arith, nat_tests)) (grind (arith, nat_tests))
+    (rw (c.copied.ensures, c.copied-then-is_empty-2.ensures) at c.new.ensures)
 
 pub returns-in_err-below : goal.returns-in_err-below
 returns-in_err-below g t c =

@@ -1,5 +1,4 @@
-use Rattle.std.proofs.Common.{◌≡◌, refl, sym, ap, ◌∙◌, reverse, arith, rules}
-use Rattle.warg_paths.specs.Paths.{roots_down}
+use Rattle.std.proofs.Common.{◌≡◌, refl, sym, ◌∙◌, reverse, arith, rules}
 use Rattle.warg_paths.proofs.ForCallers.{both_short}
 use Rattle.warg_log.specs.Tree.{front_of}
 use Rattle.warg_log.proofs.ForCallers.{starts, counts}
@@ -20,11 +19,8 @@ returns-then-old_length-range g t c =
     let all = c.if-old_length-range.true ∙ counts c.range.view_is in
     let n = c.args.range.now.count in
     let same = subproof_is g.D.SupportedDigest.digest c.args.old_root n n c.args.path.now (omega arith) (omega arith) in
-    let at = c.growth_at.ensures in
-    growth_starts _ c.args.trees.now.old c.args.trees.now.new _ _ _ _ _ c.args.path.now all c.requires.around
-    (ap (λ k. roots_down g.D.SupportedDigest.digest c.args.old_root k n (reverse c.args.path.now)) all ∙ sym same
-    ∙ rw (counts c.range.view_is) at (sym c.in_ok-root.ensures)) (starts at.shared, counts at.shared) at.first
-    at.old at.new at.targets
+    growth_starts _ _ _ _ _ _ (reverse c.args.path.now) all c.requires.around
+    (sym same ∙ rw (counts c.range.view_is) at (sym c.in_ok-root.ensures)) c.growth_at.ensures
 
 pub growth_at-requires-clause-in_old : goal.growth_at-requires-clause-in_old
 growth_at-requires-clause-in_old g t c = let all = c.if-old_length-range.true ∙ counts c.range.view_is in
@@ -35,10 +31,9 @@ returns-then-old_length-front g t c =
     let more = still_more c.requires.around c.requires.order c.if-old_length-range.false (counts c.range.view_is) in
     let front = c.split-front.ensures.front in
     let rest = c.split-front.ensures.rest in
-    front_up _ c.args.trees.now.old c.args.trees.now.new _ _ _ _ _ _ _ more.0 more.1 c.requires.in_old c.requires.in_new
-    (turned _ _ _ c.in_ok-top.ensures.cases.0) (starts front, counts front) (starts rest, counts rest)
-    (rw (counts (c.front.view_is ∙ front)) at c.if-old_length-front.true) c.in_ok-growth.ensures
-    c.plain_digest-new_rest.ensures c.up.ensures
+    rw (turned _ _ _ c.in_ok-top.ensures.cases.0) (front_up _ _ _ _ _ _ _ _ more.0 more.1 c.requires.in_old
+    c.requires.in_new (rw (counts (c.front.view_is ∙ front)) at c.if-old_length-front.true)
+    (rw front at c.in_ok-growth.ensures) (rw (c.plain_digest-new_rest.ensures, rest) at c.up.ensures))
 
 pub returns-then-place-rest : goal.returns-then-place-rest
 returns-then-place-rest g t c =
@@ -47,28 +42,23 @@ returns-then-place-rest g t c =
     let turn : c.front.inside.count ≡ front_of n = counts (c.front.view_is ∙ c.split-front.ensures.front) in
     let front = c.split-front.ensures.front in
     let rest = c.rest.view_is ∙ c.split-front.ensures.rest in
-    let at = c.growth_at-growth.ensures in
     let up = c.up-then-place-rest.ensures in
-    shared_up _ c.args.trees.now.old c.args.trees.now.new _ _ _ _ _ _ _ more.0 more.1 c.requires.in_old
-    c.requires.in_new (rw turn at c.if-old_length-front.false) (turned _ _ _ c.in_ok-top.ensures.cases.0) turn
-    (starts front, counts front)
-    (starts rest) (starts c.split-front.ensures.rest, counts c.split-front.ensures.rest) c.requires.around.starts
-    c.if-place-rest.true (rest_led _ _ n _ _ c.in_ok-top.below.now more.1 turn
-    (counts rest) c.if-old_length-front.false c.in_ok-old.ensures)
-    (starts (up.shared ∙ at.shared), counts (up.shared ∙ at.shared)) at.first at.old at.new at.targets
-    (rw c.new-old_rest.ensures at up.old) up.new
+    rw (turned _ _ _ c.in_ok-top.ensures.cases.0) (shared_up _ _ _ _ _ _ _ _ more.0 more.1 c.requires.in_old
+    c.requires.in_new (rw turn at c.if-old_length-front.false) (rw front at c.growth_at-growth.ensures)
+    c.requires.around.starts (rw (starts rest) at c.if-place-rest.true)
+    (rest_led _ _ n _ _ c.in_ok-top.below.now more.1 turn (counts rest) c.if-old_length-front.false c.in_ok-old.ensures)
+    up.shared (rw (c.new-old_rest.ensures, starts rest, turn) at up.old) (rw c.split-front.ensures.rest at up.new))
 
 pub returns : goal.returns
 returns g t c =
     let more = still_more c.requires.around c.requires.order c.if-old_length-range.false (counts c.range.view_is) in
-    let turn = counts (c.front.view_is ∙ c.split-front.ensures.front) in
     let front = c.split-front.ensures.front in
-    let rest = c.split-front.ensures.rest in
+    let turn = counts (c.front.view_is ∙ front) in
     let up = c.up-2.ensures in
-    rest_up _ c.args.trees.now.old c.args.trees.now.new _ _ _ _ _ _ _ more.0 more.1 c.requires.in_old c.requires.in_new
-    (rw turn at c.if-old_length-front.false) (turned _ _ _ c.in_ok-top.ensures.cases.0) turn
-    (starts front, counts front)
-    (starts rest, counts rest) c.in_ok-growth-2.ensures (starts up.shared, counts up.shared) up.old up.new
+    rw (turned _ _ _ c.in_ok-top.ensures.cases.0) (rest_up _ _ _ _ _ _ _ _ more.0 more.1 c.requires.in_old
+    c.requires.in_new (rw turn at c.if-old_length-front.false)
+    (rw (turn, c.split-front.ensures.rest) at c.in_ok-growth-2.ensures) up.shared (rw front at up.old)
+    (rw front at up.new))
 
 pub returns-in_err-top : goal.returns-in_err-top
 returns-in_err-top g t c =
@@ -79,17 +69,15 @@ pub returns-in_err-growth : goal.returns-in_err-growth
 returns-in_err-growth g t c =
     let more = still_more c.requires.around c.requires.order c.if-old_length-range.false (counts c.range.view_is) in
     let turn = counts (c.front.view_is ∙ c.split-front.ensures.front) in
-    rw c.from_residual-in_err-growth.ensures
-    (front_lacks _ _ _ _ _ _ more.1 (turned _ _ _ c.in_ok-top.ensures.cases.0) turn
-    (counts c.split-front.ensures.front) c.if-old_length-front.true c.in_err-growth.ensures)
+    rw (c.from_residual-in_err-growth.ensures, turned _ _ _ c.in_ok-top.ensures.cases.0)
+    (front_lacks _ _ _ _ _ _ more.1 turn (counts c.split-front.ensures.front) c.if-old_length-front.true c.in_err-growth.ensures)
 
 pub returns-in_err-growth-2 : goal.returns-in_err-growth-2
 returns-in_err-growth-2 g t c =
     let more = still_more c.requires.around c.requires.order c.if-old_length-range.false (counts c.range.view_is) in
     let turn = counts (c.front.view_is ∙ c.split-front.ensures.front) in
-    rw c.from_residual-in_err-growth-2.ensures
-    (rest_lacks _ _ _ _ _ _ more.1 (turned _ _ _ c.in_ok-top.ensures.cases.0) turn
-    (counts c.split-front.ensures.rest) c.if-old_length-front.false c.in_err-growth-2.ensures)
+    rw (c.from_residual-in_err-growth-2.ensures, turned _ _ _ c.in_ok-top.ensures.cases.0)
+    (rest_lacks _ _ _ _ _ _ more.1 turn (counts c.split-front.ensures.rest) c.if-old_length-front.false c.in_err-growth-2.ensures)
 
 pub returns-in_err-old : goal.returns-in_err-old
 returns-in_err-old g t c =
@@ -97,8 +85,8 @@ returns-in_err-old g t c =
     let more = still_more c.requires.around c.requires.order c.if-old_length-range.false (counts c.range.view_is) in
     let turn : c.front.inside.count ≡ front_of n = counts (c.front.view_is ∙ c.split-front.ensures.front) in
     let rest = counts (c.rest.view_is ∙ c.split-front.ensures.rest) in
-    rw c.from_residual-in_err-old.ensures
-    (rest_lacks _ _ _ _ _ _ more.1 (turned _ _ _ c.in_ok-top.ensures.cases.0) turn refl c.if-old_length-front.false
+    rw (c.from_residual-in_err-old.ensures, turned _ _ _ c.in_ok-top.ensures.cases.0)
+    (rest_lacks _ _ _ _ _ _ more.1 turn refl c.if-old_length-front.false
     (rw turn (rest_led _ _ n _ _ c.in_ok-top.below.now more.1 turn rest c.if-old_length-front.false
     c.in_err-old.ensures)))
 

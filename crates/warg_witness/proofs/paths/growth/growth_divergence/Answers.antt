@@ -3,55 +3,21 @@ use Rattle.warg_witness.proofs.RangeLemmas.{whole_aligned, part_in}
 use Rattle.warg_witness.proofs.GrowthLemmas.{old_shown, new_shown, shared_same, shared_shown}
 use Rattle.warg_witness.proofs.paths.growth.growth_divergence.Goals as goal
 
-pub divergence_below-requires-clause-aligned : goal.divergence_below-requires-clause-aligned
-divergence_below-requires-clause-aligned g c =
+pub divergence_below-requires : goal.divergence_below-requires
+divergence_below-requires g c =
     let growth = rw (
       c.root-old_root.ensures,
       c.length-old_length.ensures.value,
       c.new-whole.ensures,
       c.length.ensures.value,
     ) at c.in-Some.ensures in
-    (part_in growth.new_part).1
-
-pub divergence_below-requires-clause-in_old : goal.divergence_below-requires-clause-in_old
-divergence_below-requires-clause-in_old g c =
-    let growth = rw (
-      c.root-old_root.ensures,
-      c.length-old_length.ensures.value,
-      c.new-whole.ensures,
-      c.length.ensures.value,
-    ) at c.in-Some.ensures in
-    (part_in growth.old_part).0
-
-pub divergence_below-requires-clause-in_new : goal.divergence_below-requires-clause-in_new
-divergence_below-requires-clause-in_new g c =
-    let growth = rw (
-      c.root-old_root.ensures,
-      c.length-old_length.ensures.value,
-      c.new-whole.ensures,
-      c.length.ensures.value,
-    ) at c.in-Some.ensures in
-    (part_in growth.new_part).0
-
-pub divergence_below-requires-clause-around : goal.divergence_below-requires-clause-around
-divergence_below-requires-clause-around g c =
-    let growth = rw (
-      c.root-old_root.ensures,
-      c.length-old_length.ensures.value,
-      c.new-whole.ensures,
-      c.length.ensures.value,
-    ) at c.in-Some.ensures in
-    growth.around
-
-pub divergence_below-requires-clause-same : goal.divergence_below-requires-clause-same
-divergence_below-requires-clause-same g c =
-    let growth = rw (
-      c.root-old_root.ensures,
-      c.length-old_length.ensures.value,
-      c.new-whole.ensures,
-      c.length.ensures.value,
-    ) at c.in-Some.ensures in
-    shared_same growth c.requires.leads c.in_default-divergence.is c.in_default-divergence-2.is
+    record {
+      aligned = (part_in growth.in_new).1;
+      around = growth.around;
+      in_old = (part_in growth.in_old).0;
+      in_new = (part_in growth.in_new).0;
+      same = shared_same growth c.requires.leads c.in_default-divergence.is c.in_default-divergence-2.is;
+    }
 
 pub returns : goal.returns
 returns g c =
@@ -61,7 +27,7 @@ returns g c =
       c.new-whole.ensures,
       c.length.ensures.value,
     ) at c.in-Some.ensures in
-    shared_shown growth _ c.divergence_below.ensures
+    shared_shown growth c.requires.leads _ c.divergence_below.ensures
 
 pub returns-in-Branch : goal.returns-in-Branch
 returns-in-Branch g c =

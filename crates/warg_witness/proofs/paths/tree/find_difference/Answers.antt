@@ -30,7 +30,7 @@ growth_divergence-divergence-requires-clause-fits g c = rw (c.requires.new_is, l
     c.requires.fits
 
 pub growth_divergence-divergence-requires-clause-leads : goal.growth_divergence-divergence-requires-clause-leads
-growth_divergence-divergence-requires-clause-leads g c = whole_growth _ _ _ _ _ _ c.requires
+growth_divergence-divergence-requires-clause-leads g c = whole_growth _ _ _ _ _ c.requires
 
 pub entry_at-old_entry-requires : goal.entry_at-old_entry-requires
 entry_at-old_entry-requires g c = let differs = rw c.in-Some.is at c.in_ok-place.ensures in
@@ -44,12 +44,12 @@ pub collide-requires : goal.collide-requires
 collide-requires g c =
     let differs = rw c.in-Some.is at c.in_ok-place.ensures in
     rw (← c.entry_at-old_entry.ensures, ← c.entry_at-new_entry.ensures)
-    (growth_shown _ _ _ _ _ _ c.requires _ _ differs c.growth_divergence-divergence.ensures).collides
+    (growth_shown _ _ _ _ _ c.requires _ _ differs c.growth_divergence-divergence.ensures).collides
 
 pub returns : goal.returns
 returns g c =
     let differs = rw c.in-Some.is at c.in_ok-place.ensures in
-    let shown = growth_shown _ _ _ _ _ _ c.requires _ _ differs c.growth_divergence-divergence.ensures in (
+    let shown = growth_shown _ _ _ _ _ c.requires _ _ differs c.growth_divergence-divergence.ensures in (
       tt,
       differs_not_begins _ _ _ differs,
       rw (c.in_ok-pair.ensures, ← c.entry_at-old_entry.ensures, ← c.entry_at-new_entry.ensures) shown.placed,
