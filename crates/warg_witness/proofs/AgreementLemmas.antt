@@ -20,10 +20,10 @@ use Rattle.warg_witness.specs.PathPlaced.{IsRecordAgreementPlaced}
 use Rattle.warg_witness.specs.Placed.{IsAgreementPlaced, IsHashPlaced}
 use Rattle.warg_witness.specs.UpdateClaims.{IsUpdated}
 use Rattle.warg_witness.specs.Private.Agreement.{IsAgreed, IsCompared, IsFoundAt}
-use Rattle.warg_witness.specs.Private.Divergence.{HaveOneDigest, Parts, Shows, inputs_of, IsRangesMeeting}
+use Rattle.warg_witness.specs.Private.Divergence.{HaveOneDigest, IsDivergence, Parts, Shows, inputs_of}
 use Rattle.warg_witness.specs.Private.MapMeeting.{IsKeyMeeting, MeetsOnPath}
 use Rattle.warg_witness.specs.Private.Meeting.{IsMeeting, IsPlainAt}
-use Rattle.warg_witness.specs.Private.PathClimbs.{path_from, NeverMeet, IsPathsMeeting}
+use Rattle.warg_witness.specs.Private.Turns.{NeverMeet, IsPathsMeeting}
 use Rattle.warg_witness.specs.declared.collision.Finding.{Finding}
 use Rattle.warg_witness.specs.declared.collision.Finding.TheVariants.{Holds, NotMet, Collision}
 use Rattle.warg_witness.specs.declared.divergence.Divergence.{Divergence}
@@ -66,9 +66,10 @@ pub values_agreed : {D : Type 0} (H : Digest) (F : Data) (proof : InclusionClaim
     → y ≡ H (0 ∷ u) → target ≡ range_of proof.leaf.0 → whole ≡ leaves_from 0 proof.log_length
     → (met : Option (Divergence D))
     → MatchOption met (HaveOneDigest H (with_target F target x) (with_target G target y) whole → ⊥)
-    (IsRangesMeeting H (with_target F target x) (with_target G target y) whole)
+    (λ p. HaveOneDigest H (with_target F target x) (with_target G target y) whole
+    × IsDivergence H (with_target F target x) (with_target G target y) whole p)
     → IsAgreed H (IsAgreement H proof F (H (0 ∷ v)) G (H (0 ∷ u)))
-    (IsAgreementPlaced H F v G u proof.leaf.0 proof.log_length) v u met
+    (IsAgreementPlaced H (F, v) (G, u) proof.leaf.0 proof.log_length) v u met
 values_agreed H F proof v G u exists first second target whole None none = record {
   is = λ agrees. (rw (first, second, target, whole) at none)
       (record {
@@ -79,21 +80,21 @@ values_agreed H F proof v G u exists first second target whole None none = recor
 }
 values_agreed H F proof v G u exists first second target whole (Some p) meeting =
     let met = rw (first, second, target, whole) at meeting in
-    let root = met.one.digest in
+    let root = met.0.digest in
     let agreement : IsAgreement H proof F (H (0 ∷ v)) G (H (0 ∷ u)) =
     record {
       root = root;
-      first_is = (inclusion_leads H F proof (H (0 ∷ v)) root).1 (exists, met.one.first);
-      second_is = (inclusion_leads H G proof (H (0 ∷ u)) root).1 (exists, met.one.second);
+      first_is = (inclusion_leads H F proof (H (0 ∷ v)) root).1 (exists, met.0.first);
+      second_is = (inclusion_leads H G proof (H (0 ∷ u)) root).1 (exists, met.0.second);
     } in
-    record { is = (agreement, λ other. agreement_shown H F v G u proof.leaf.0 proof.log_length p other met.diverges) }
+    record { is = (agreement, λ other. agreement_shown H F v G u proof.leaf.0 proof.log_length p other met.1) }
 
 pub records_agreed : {D : Type 0} (H : Digest) (m n : ℕ) (path : List (List ℕ)) (v : List ℕ)
     (other_path : List (List ℕ)) (u : List ℕ) {x y : List ℕ} → x ≡ H (0 ∷ v) → y ≡ H (0 ∷ u)
     → (met : Option (Divergence D))
-    → MatchOption met (NeverMeet H (path_from x path) (path_from y other_path) m n)
-    (IsPathsMeeting H (path_from x path) (path_from y other_path) m n)
-    → IsAgreed H (IsRecordAgreement H m n path v other_path u) (IsRecordAgreementPlaced H m n path v other_path u) v u
+    → MatchOption met (NeverMeet H (x, path) (y, other_path) m n)
+    (IsPathsMeeting H (x, path) (y, other_path) m n)
+    → IsAgreed H (IsRecordAgreement H m n path v other_path u) (IsRecordAgreementPlaced H m n (path, v) (other_path, u)) v u
     met
 records_agreed H m n path v other_path u first second None none =
     record { is = λ agrees. (rw (first, second) at none) agrees.root agrees.first_is agrees.second_is }
@@ -112,7 +113,7 @@ pub keys_agreed : {D : Type 0} (H : Digest) (key : List ℕ) (P : List (Option (
     → x ≡ H (0 ∷ v) → y ≡ H (0 ∷ u) → (met : Option (Divergence D))
     → MatchOption met (proof_value H P' x (last_bits digest 256) ≡ proof_value H Q' y (last_bits digest 256) → ⊥)
     (MeetsOnPath H P' x Q' y (last_bits digest 256)) → IsAgreed H (IsKeyAgreement H key P v Q u)
-    (IsKeyAgreementPlaced H key P v Q u) v u met
+    (IsKeyAgreementPlaced H key (P, v) (Q, u)) v u met
 keys_agreed H key P v Q u digest peers other_peers first second None none =
     record { is = rw (digest, peers, other_peers, first, second) at none }
 keys_agreed H key P v Q u digest peers other_peers first second (Some p) meeting =
@@ -148,13 +149,13 @@ hash_found {H = H} {F = F} {proof = proof} {hash = hash} {entries = entries} {tr
     let plain_is = rw (here.target_is, meeting.tree_is) at here.plain_is in
     found_at H (IsHashPlaced H F hash proof.leaf.0 entries) p meeting.met
     (parts_placed H p (hash_placed H F entries tree meeting.tree_is proof.leaf.0 hash)
-    (λ meets. rw meeting.tree_is at meets.same) meeting.diverges) (λ below. below) (λ same. same ∙ plain_is)
+    (λ meets. rw meeting.tree_is at meets.0) meeting.diverges) (λ below. below) (λ same. same ∙ plain_is)
     (λ below. below ∙ sym plain_is)
 
 pub update_found : {D A : Type 0} {H : Digest} {P : List (Option (List ℕ))} {key value : List ℕ}
-    {insertions : List (List ℕ × List ℕ)} {last : Option (List ℕ × List ℕ)} {own : List (Option (List ℕ))}
+    {insertions : List (List ℕ × List ℕ)} {own : List (Option (List ℕ))}
     (new : List ℕ) (p : Divergence D)
-    → IsKeyMeeting H P key value insertions p last own → (it : Finding D A)
+    → IsKeyMeeting H P key value insertions p own → (it : Finding D A)
     → IsFoundAt p (IsKeyAgreement H key P new own new) it → Finds (IsKeyMet H P key value insertions)
     (IsUpdated H P key new insertions) (IsPlacedAtPrefix H P value key insertions) it
 update_found {H = H} {P = P} {key = key} {value = value} {insertions = insertions} {own = own} new p meeting =

@@ -17,8 +17,8 @@ use Rattle.warg_witness.specs.Ranges.IsPart.{whole, front, rest}
 use Rattle.warg_witness.specs.Claims.{Begins, IsConsistencyMet}
 use Rattle.warg_witness.specs.Inputs.{plain_input, cut_input, old_input}
 use Rattle.warg_witness.specs.Placed.{IsConsistencyPlaced}
-use Rattle.warg_witness.specs.Private.Ranges.{IsNodeRange, IsAbove, IsRootOf}
-use Rattle.warg_witness.specs.Private.Ranges.IsRootOf.{all_leaves, at_front, in_rest}
+use Rattle.warg_witness.specs.Private.Divergence.{IsNodeRange, IsAbove, IsRootOf}
+use Rattle.warg_witness.specs.Private.Divergence.IsRootOf.{all_leaves, at_front, in_rest}
 use Rattle.warg_witness.proofs.ClimbLemmas.{both_there}
 use Rattle.warg_witness.proofs.CutLemmas.{leaves_count, cut_around}
 use Rattle.warg_witness.proofs.ForkLemmas.{over, branch_at, fork, both_collide}

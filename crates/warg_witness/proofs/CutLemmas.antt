@@ -12,8 +12,7 @@ use Rattle.warg_witness.specs.Ranges.{IsPart}
 use Rattle.warg_witness.specs.Ranges.IsPart.{whole}
 use Rattle.warg_witness.specs.Inputs.{plain_input, cut_input}
 use Rattle.warg_witness.specs.Private.Turns.{IsUp}
-use Rattle.warg_witness.specs.Private.Divergence.{at_bottom, HaveOneDigest, MeetAt, DivergesAt, LackDigest, IsRangeClimb}
-use Rattle.warg_witness.specs.Private.Ranges.{IsNodeRange, IsAbove, side_of}
+use Rattle.warg_witness.specs.Private.Divergence.{at_bottom, HaveOneDigest, DivergesAt, LackDigest, IsRangeClimb, IsNodeRange, IsAbove, side_of}
 use Rattle.warg_witness.specs.declared.divergence.Climb.{Climb}
 use Rattle.warg_witness.proofs.ClimbLemmas.{parts_placed, up_parts, both_there}
 use Rattle.warg_witness.proofs.RangeLemmas.{Digest, Data, node_some, side_part, IsPart-trans, whole_aligned, front_aligned, rest_aligned, part_in}
@@ -57,7 +56,7 @@ module _ (H : Digest) (F : Data) (x : List ℕ) (G : Data) (y : List ℕ) (targe
   ranges_start here bottom = rw (here, bottom) (record {
     first_is = cut_target H e;
     second_is = cut_target H f;
-    diverges = λ same. record { same = same; part = whole };
+    diverges = λ same. (same, whole);
   })
 
   module _ (node : IsNodeRange target) (over : IsAbove target range) (right : Bool) where
@@ -80,29 +79,20 @@ module _ (H : Digest) (F : Data) (x : List ℕ) (G : Data) (y : List ℕ) (targe
         let outer = side_part right range whole (omega (arith, over.more)) in record {
           first_is = first.1 ∙ ap Some (sym up.first_is);
           second_is = second.1 ∙ ap Some (sym up.second_is);
-          diverges = up_parts (DivergesAt H e f range) (MeetAt e f range) up
+          diverges = up_parts (DivergesAt H e f range) ((x ≡ y) × IsPart range.start range.count target.start target.count) up
               (λ same _. parts_placed H before.divergence
-              (λ _ _ is. record {
-                range = is.range;
-                part = IsPart-trans outer is.part;
-                above = is.above;
-                first_input = is.first_input;
-                second_input = is.second_input;
-              })
-              (λ is. record { same = is.same; part = IsPart-trans outer is.part }) (climb.diverges same))
-              (record { range = range; part = whole; above = over; first_input = first.0; second_input = second.0 });
+              (λ _ _ is. search (IsPart-trans, outer, is)) (λ is. (is.0, IsPart-trans outer is.1))
+              (climb.diverges same))
+              (search (whole, over, first.0, second.0));
         }
 
 -- the leaves are as many as the entries
 pub leaves_count : (H : Digest) (entries : List (List ℕ)) → length (leaves_of H entries) ≡ length entries
 leaves_count H entries = length-map entries (λ e. H (0 ∷ e))
 
--- An evaluation and the tree of these leaf digests diverge at these inputs, or have one digest at the target.
+-- An evaluation and the tree of these leaf digests diverge at these inputs.
 abbrev pub DivergesFrom : Digest → Evaluation → List (List ℕ) → List ℕ → List ℕ → Type 0
 DivergesFrom H e ds first second = DivergesAt H e (with_own H ds e.target) (leaves_from 0 (length ds)) first second
-
-abbrev pub Meets : Digest → Evaluation → List (List ℕ) → Type 0
-Meets H e ds = MeetAt e (with_own H ds e.target) (leaves_from 0 (length ds))
 
 module _ (H : Digest) where
   -- over a log's own digests, with the target's own digest, the cut root of all leaves is the plain root

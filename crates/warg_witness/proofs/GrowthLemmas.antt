@@ -1,11 +1,12 @@
 -- A consistency path beside the trees over the old and the new entries, on its way up.
-use Rattle.std.proofs.Common.{◌≡◌, ℕ, ◌+◌, ◌-◌, ◌<◌, ◌≤◌, ◌^◌, ◌↔◌, true, false, List, [], ◌∷◌, length, reverse, get_or, Option, Some, None, inl, inr, refl, sym, ap, subst, ◌∙◌, arith}
+use Rattle.std.proofs.Common.{◌≡◌, ℕ, ◌+◌, ◌-◌, ◌<◌, ◌≤◌, ◌^◌, ◌↔◌, Bool, true, false, not, List, [], ◌∷◌, length, reverse, get_or, Option, Some, None, inl, inr, refl, sym, ap, subst, ◌∙◌, arith}
 use Rattle.std.specs.Option.{is_some}
 use Rattle.std.proofs.lemmas.Nat.{pow_pos}
 use Rattle.std.proofs.lemmas.Bool.{lt-leb, le-leb, lt-ltb, eq-eqb, ne_eqb}
+use Rattle.warg_crypto.specs.Tree.{branch_input, input_beside}
 use Rattle.warg_log.specs.Cut.{with_own}
 use Rattle.warg_log.specs.Tree.{front_of, leaves_of, root_of}
-use Rattle.warg_log.proofs.ForCallers.{front_is_greatest, front_of_is}
+use Rattle.warg_log.proofs.ForCallers.{front_is_greatest, front_of_is, root_over_parts}
 use Rattle.warg_log.specs.Ranges.{Range, leaves_from, front_part, rest_part, IsAligned}
 use Rattle.warg_paths.specs.Paths.{roots_down, consistency_roots, subproof_roots, one_root, twice, grown, both_over}
 use Rattle.warg_witness.specs.Ranges.{IsPart, IsAround}
@@ -13,12 +14,11 @@ use Rattle.warg_witness.specs.Ranges.IsPart.{whole as part_whole, front as part_
 use Rattle.warg_witness.specs.Inputs.{plain_input}
 use Rattle.warg_witness.specs.PathClaims.{IsTreeMet}
 use Rattle.warg_paths.specs.Ways.{IsOnGrowth, old_turn_input, new_turn_input}
-use Rattle.warg_witness.specs.TreePlaced.{IsTurn, IsTreePlaced}
+use Rattle.warg_witness.specs.TreePlaced.{Turning, IsTreePlaced}
 use Rattle.warg_paths.specs.Ways.IsOnGrowth.{whole, front, rest}
-use Rattle.warg_witness.specs.Private.Compared.{DiffersFirst}
-use Rattle.warg_witness.specs.Private.Divergence.{at_bottom, IsDivergence, Shows, inputs_of}
-use Rattle.warg_witness.specs.Private.TreeDivergence.{tree_input, IsBesideTree, IsTreeMeeting, Descent, descent, whole_descent, LeadsOver, IsTreeDivergence, PlacedOnGrowth, growth_from, IsGrowth}
-use Rattle.warg_witness.specs.Private.Ranges.{root_at}
+use Rattle.warg_witness.specs.Private.Agreement.{DiffersFirst}
+use Rattle.warg_witness.specs.Private.Divergence.{at_bottom, IsDivergence, Shows, inputs_of, root_at, side_of}
+use Rattle.warg_witness.specs.Private.TreeDivergence.{IsBesideTree, IsTreeMeeting, Descent, descent, whole_descent, LeadsOver, IsTreeDivergence, PlacedOnGrowth, growth_from, IsGrowth}
 use Rattle.warg_witness.specs.Private.Turns.{IsUp}
 use Rattle.warg_witness.specs.declared.divergence.Branches.{Branches}
 use Rattle.warg_witness.specs.declared.divergence.Climb.{Climb}
@@ -26,11 +26,11 @@ use Rattle.warg_witness.specs.declared.divergence.Divergence.{Divergence}
 use Rattle.warg_witness.specs.declared.paths.growth.Growth.{Growth}
 use Rattle.warg_witness.specs.declared.trees.Trees.{Trees}
 use Rattle.warg_witness.specs.declared.divergence.Divergence.TheVariants.{Target, Branch}
-use Rattle.warg_witness.proofs.ClimbLemmas.{parts_placed}
+use Rattle.warg_witness.proofs.ClimbLemmas.{parts_placed, up_parts}
 use Rattle.warg_witness.proofs.CutLemmas.{leaves_count}
 use Rattle.warg_witness.proofs.RangeLemmas.{Digest, IsPart-trans, front_aligned, rest_aligned}
 use Rattle.warg_witness.proofs.ShownLemmas.{both_shown}
-use Rattle.warg_witness.proofs.RecordLemmas.{plain_root, beside_up}
+use Rattle.warg_witness.proofs.RecordLemmas.{plain_root}
 
 -- two roots are the same one by one
 pub pair_parts : (p q : List ℕ × List ℕ) → Some p ≡ Some q → (p.0 ≡ q.0) × (p.1 ≡ q.1)
@@ -115,6 +115,45 @@ all_old H known m n digests o w equal is = one (one_root known digests) (ends di
     one None is = absurd cc
     one (Some root) is = let both = pair_parts (root, root) (o, w) is in sym both.0 ∙ both.1
 
+-- The turn at a range on the way that isn't all old.
+abbrev pub turning : {H : Digest} {path old new : List (List ℕ)} {known : Option (List ℕ)} {m a n : ℕ} {top : List ℕ}
+    {below : List (List ℕ)} → IsOnGrowth (Some (root_of H (leaves_of H old))) (length old) (length new) (reverse path)
+    known m a n (top ∷ below) → m < n → Turning H path old new
+turning {known = known} {m} {a} {n} {top} {below} way more = record {
+  known = known;
+  old_count = m;
+  from = a;
+  count = n;
+  top = top;
+  below = below;
+  on_way = way;
+  more = more;
+}
+
+-- A tree's input at the branch over a range.
+abbrev tree_input : Digest → List (List ℕ) → Range → List ℕ
+tree_input H tree range = branch_input (root_at H tree (front_part range)) (root_at H tree (rest_part range))
+
+-- one branch up beside a tree: from one side of a range, with the other beside it
+beside_up : {D : Type 0} {H : Digest} (tree : List (List ℕ)) {P Q : List ℕ → List ℕ → Type 0} {A : Type 0}
+    (right : Bool) (range : Range) {near far : Range} {before after : Climb D} {u z : List ℕ} → 1 < range.count
+    → range.start + range.count ≤ length tree → near ≡ side_of right range → far ≡ side_of (not right) range
+    → IsBesideTree H tree P A near before → z ≡ root_at H tree far → IsUp H right before u z after
+    → ((i j : List ℕ) → P i j → Q i j) → ((j : List ℕ) → j ≡ tree_input H tree range → Q (input_beside right u before.first) j)
+    → IsBesideTree H tree Q A range after
+beside_up {H = H} tree {Q = Q} {A = A} right range {near} {far} {before} {z = z} more within near_is far_is below z_is
+    up widen here =
+    let plain = made right near_is far_is in record {
+      is = up.second_is ∙ ap H plain ∙ sym (root_over_parts H tree range.start range.count more within);
+      parts = up_parts Q A up (λ same _. parts_placed H before.divergence widen (λ meets. meets) (below.parts same))
+          (here _ plain);
+    }
+  where
+    made : (right : Bool) → near ≡ side_of right range → far ≡ side_of (not right) range
+        → input_beside right z before.second ≡ tree_input H tree range
+    made false near_is far_is = rw (z_is, below.is, near_is, far_is) refl
+    made true near_is far_is = rw (z_is, below.is, near_is, far_is) refl
+
 -- the plain input at more than one leaf is the tree's
 plain_is : (H : Digest) (entries tree : List (List ℕ)) (range : Range) → tree ≡ leaves_of H entries → 1 < range.count
     → tree_input H tree range ≡ plain_input H entries range.start range.count
@@ -188,14 +227,13 @@ module _ {D V A : Type 0} (H : Digest) (trees : Trees D V A) (place : ℕ) (know
   old_here high evaluation j plain path old new way =
       let split = front_some n (omega arith) in
       let is = plain ∙ plain_is H old trees.old (leaves_from range.start m) way.old_is (omega arith) in
-      let turn : IsTurn H path old new known m range.start n top below =
-      record { on_way = way.on_way; more = more } in inl (search (turn, high, evaluation, is))
+      inl (record { turn = turning way.on_way more; in_rest = high; evaluation = evaluation; plain = is })
 
   new_here : {i : List ℕ} → new_turn_input H known m n top below ≡ Some i → (j : List ℕ)
       → j ≡ tree_input H trees.new range → PlacedOnGrowth H trees place here i j
   new_here evaluation j plain path old new way =
       let is = plain ∙ plain_is H new trees.new range way.new_is (omega arith) in
-      inr (inl (search (way, more, evaluation, is)))
+      inr (inl (record { turn = turning way.on_way more; evaluation = evaluation; plain = is }))
 
   module _ (in_old : range.start + m ≤ length trees.old) (in_new : range.start + n ≤ length trees.new) where
     -- up from the first part

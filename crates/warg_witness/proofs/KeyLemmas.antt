@@ -4,7 +4,7 @@ use Rattle.warg_crypto.specs.EmptyTrees.{empty_root}
 use Rattle.warg_map.specs.ProofValue.{peer_of, proof_value}
 use Rattle.warg_crypto.specs.Tree.{input_beside, leaf_digest}
 use Rattle.warg_crypto.specs.Bytes.{same_bytes}
-use Rattle.std.specs.Option.{MatchOption}
+use Rattle.std.specs.Option.{MatchOption, option_map, IfSome}
 use Rattle.warg_witness.specs.MapInputs.{fork_input}
 use Rattle.warg_witness.specs.Private.MapMeeting.{MeetsOnPath, IsAlike, IsKeyMeeting, key_inputs}
 use Rattle.warg_witness.specs.Private.Turns.{Turn, climbed, AreTaken, IsTurnDivergence, IsClimb, bit_turns, IsUp}
@@ -17,7 +17,6 @@ use Rattle.warg_map.proofs.ForCallers.{last_held, all_bits, same_bits-true, same
 use Rattle.std.proofs.lemmas.List.{append-nil, length-map, get_or-map}
 use Rattle.std.proofs.lemmas.Slice.Eq.{bytes_eq-Decides}
 use Rattle.std.proofs.lemmas.Bool.Decides.{not_from_Decides}
-use Rattle.std.specs.Option.{option_map, IfSome}
 use Rattle.std.specs.FinMap.{get, insert}
 use Rattle.warg_map.specs.Sparse.{map_of, sparse_root, leaf_at, SparseMap, inserted}
 use Rattle.warg_map.specs.Last.{last_under, same_bits}
@@ -139,7 +138,7 @@ module _ (H : List ℕ → List ℕ) (insertions : List (List ℕ × List ℕ)) 
     -- and where an evaluation meets it, it meets the plain tree
     pub own_met : {D : Type 0} (peers : List (Option (List ℕ))) (value : List ℕ) (p : Divergence D)
         → MeetsOnPath H peers (leaf_digest H value) own (leaf_digest H (value_in last)) (key_bits H key) p
-        → IsKeyMeeting H peers key value insertions p last own
+        → IsKeyMeeting H peers key value insertions p own
     own_met peers value p meets = record {
       met = meets.met ∙ own_root;
       diverges = parts_placed H p
@@ -149,7 +148,6 @@ module _ (H : List ℕ → List ℕ) (insertions : List (List ℕ × List ℕ)) 
             updates = λ new. one_value H peers own (key_bits H key) one.1
                 (leaf_digest H new) ∙ own_grown_root new;
           }) meets.diverges;
-      last_is = last_is;
       beside = beside;
     }
 
@@ -158,7 +156,7 @@ module _ (H : List ℕ → List ℕ) (key : List ℕ) (P : List (Option (List �
     (u : List ℕ) where
   pub key_agreement_placed : (first second : List ℕ) → AreTaken H (H (0 ∷ v)) (bit_turns H P (key_bits H key))
       (H (0 ∷ u)) (bit_turns H Q (key_bits H key)) first second ⊎ ((first ≡ 0 ∷ v) × (second ≡ 0 ∷ u))
-      → IsKeyAgreementPlaced H key P v Q u first second
+      → IsKeyAgreementPlaced H key (P, v) (Q, u) first second
   key_agreement_placed first second (inl taken) = let (above, bit, below, split, first_is, second_is) =
       on_bits H P _ Q _ (key_bits H key) first second taken in
       record {
@@ -179,7 +177,7 @@ module _ (H : List ℕ → List ℕ) (key : List ℕ) (P : List (Option (List �
 
   pub key_agreement_shown : {D : Type 0} (p : Divergence D)
       → IsTurnDivergence H (H (0 ∷ v)) (bit_turns H P (key_bits H key)) (H (0 ∷ u)) (bit_turns H Q (key_bits H key)) p
-      → (v ≡ u → ⊥) → Shows H (IsKeyAgreementPlaced H key P v Q u) (inputs_of p (0 ∷ v) (0 ∷ u))
+      → (v ≡ u → ⊥) → Shows H (IsKeyAgreementPlaced H key (P, v) (Q, u)) (inputs_of p (0 ∷ v) (0 ∷ u))
   key_agreement_shown p diverges other = shown p (λ first second taken. key_agreement_placed first second (inl taken)) _
       _
       (λ one. record {

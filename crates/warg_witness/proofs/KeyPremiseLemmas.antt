@@ -185,7 +185,7 @@ no_marks k _ = inl (no_peers k)
 
 pub key_agreement_meeting_is_needed : ¬ ((H : List ℕ → List ℕ) (key : List ℕ) (peers : List (Option (List ℕ)))
     (value : List ℕ) (other_peers : List (Option (List ℕ))) (other : List ℕ) → GivesHashes H → (value ≡ other → ⊥)
-    → SomeCollision H (IsKeyAgreementPlaced H key peers value other_peers other))
+    → SomeCollision H (IsKeyAgreementPlaced H key (peers, value) (other_peers, other)))
 key_agreement_meeting_is_needed law =
     let c = law marked [] [] (1 ∷ []) [] [] marked_hashes (λ is. absurd cc) in
     let few = few_left marked [] c.placed.prefix c.placed.rest c.placed.bits in

@@ -2,14 +2,12 @@
 use Rattle.std.proofs.Common.{◌≡◌, ℕ, zero, suc, ◌+◌, ◌<◌, ◌≤◌, ◌⊎◌, inl, inr, List, [], ◌∷◌, length, get_or, refl, sym, ap, ◌∙◌, arith, ◌^◌, Some, Bool, true, false, not, ◌++◌, Option, unwrap_or, append_assoc, length-append, reverse}
 use Rattle.warg_crypto.proofs.ForCallers.{same_or_not, HasSize, sizes, branch_parts}
 use Rattle.warg_log.specs.Tree.{leaves_of, root_of, root_over}
-use Rattle.warg_log.specs.Cut.{Evaluation, with_target, cut_over}
+use Rattle.warg_log.specs.Cut.{Evaluation, with_target, with_own, cut_over}
 use Rattle.warg_witness.specs.Ranges.{IsAround}
 use Rattle.warg_witness.specs.Claims.{Begins, IsMet, IsEntry, IsRootBelow, IsAgreement}
 use Rattle.warg_crypto.specs.Collisions.{GivesHashes, SomeCollision}
 use Rattle.warg_log.specs.Ranges.{Range, leaves_from, range_of, IsAligned}
-use Rattle.warg_witness.specs.Private.Ranges.{IsNodeRange, side_of}
-use Rattle.warg_witness.specs.Private.Divergence.{at_bottom, HaveOneDigest, IsDivergence, Parts, Shows, inputs, IsRangeClimb}
-use Rattle.warg_witness.specs.Private.Meeting.{DivergesFromTree}
+use Rattle.warg_witness.specs.Private.Divergence.{IsNodeRange, side_of, at_bottom, HaveOneDigest, IsDivergence, Parts, Shows, inputs, IsRangeClimb}
 use Rattle.warg_witness.specs.declared.divergence.Climb.{Climb}
 use Rattle.warg_witness.specs.declared.divergence.Divergence.{Divergence}
 use Rattle.warg_witness.proofs.RangeLemmas.{Digest, node_range, Data, node_some, same_or_above, side_around, whole_aligned}
@@ -114,7 +112,9 @@ module _ (H : Digest) where
       → IsNodeRange target → target.start + target.count ≤ length (leaves_of H entries)
       → cut_over H (with_target F target x) (leaves_from 0 (length (leaves_of H entries)))
       ≡ Some (root_of H (leaves_of H entries))
-      → (p : SomeDivergence) × DivergesFromTree H (with_target F target x) (leaves_of H entries) p
+      → (p : SomeDivergence)
+      × IsDivergence H (with_target F target x) (with_own H (leaves_of H entries) target)
+      (leaves_from 0 (length (leaves_of H entries))) p
   from_tree F x entries target gives size node within leads =
       let ds = leaves_of H entries in
       let n = length ds in
@@ -147,11 +147,11 @@ module _ (H : Digest) where
       let leads = leads_to met in
       let (at, diverges) = from_tree F hash entries (range_of p.leaf.0) (sizes digests) size (node_range p.leaf.0)
       leads.0 leads.1 in
-      some_collision at (hash_placed H F entries _ refl p.leaf.0 hash) (λ meets. absurd (untrue meets.same)) diverges
+      some_collision at (hash_placed H F entries _ refl p.leaf.0 hash) (λ meets. absurd (untrue meets.0)) diverges
 
   pub agreement_collides : (p : InclusionClaim) (F : Data) (value : List ℕ) (G : Data) (other : List ℕ) → GivesHashes H
       → IsAgreement H p F (H (0 ∷ value)) G (H (0 ∷ other)) → ¬ (value ≡ other)
-      → SomeCollision H (IsAgreementPlaced H F value G other p.leaf.0 p.log_length)
+      → SomeCollision H (IsAgreementPlaced H (F, value) (G, other) p.leaf.0 p.log_length)
   agreement_collides p F value G other digests met untrue =
       let n = p.log_length in
       let first = (inclusion_leads H F p _ met.root).0 met.first_is in
@@ -185,7 +185,7 @@ module _ (H : List ℕ → List ℕ) (gives : HasSize H) where
 -- an agreement of two values, and a claim of a key, that are met and aren't true
 pub key_agreement_collides : (H : List ℕ → List ℕ) (key : List ℕ) (P : List (Option (List ℕ))) (v : List ℕ)
     (Q : List (Option (List ℕ))) (u : List ℕ) → GivesHashes H
-    → IsKeyAgreement H key P v Q u → (v ≡ u → ⊥) → SomeCollision H (IsKeyAgreementPlaced H key P v Q u)
+    → IsKeyAgreement H key P v Q u → (v ≡ u → ⊥) → SomeCollision H (IsKeyAgreementPlaced H key (P, v) (Q, u))
 key_agreement_collides H key P v Q u digests met other =
     let bits = key_bits H key in
     elim (two_ways H (sizes digests) (H (0 ∷ v)) (H (0 ∷ u)) (sizes digests _) (sizes digests _) (bit_turns H P bits)

@@ -84,7 +84,7 @@ absence_hashes_are_needed law =
 pub key_agreement_hashes_are_needed : ¬ ((H : List ℕ → List ℕ) (key : List ℕ) (peers : List (Option (List ℕ)))
     (value : List ℕ) (other_peers : List (Option (List ℕ))) (other : List ℕ)
     → IsKeyAgreement H key peers value other_peers other → ¬ (value ≡ other)
-    → SomeCollision H (IsKeyAgreementPlaced H key peers value other_peers other))
+    → SomeCollision H (IsKeyAgreementPlaced H key (peers, value) (other_peers, other)))
 key_agreement_hashes_are_needed law =
     none_collide _ (law own [] (with_bottom []) (0 ∷ []) [] [] (zero_leads []) (λ is. absurd cc))
 
@@ -158,7 +158,7 @@ none_inserted (inr at) = omega (arith, at.1)
 pub key_agreement_difference_is_needed : (H : List ℕ → List ℕ)
     → ¬ ((key : List ℕ) (peers : List (Option (List ℕ))) (value : List ℕ) (other_peers : List (Option (List ℕ)))
     (other : List ℕ) → IsKeyAgreement H key peers value other_peers other
-    → SomeCollision H (IsKeyAgreementPlaced H key peers value other_peers other))
+    → SomeCollision H (IsKeyAgreementPlaced H key (peers, value) (other_peers, other)))
 key_agreement_difference_is_needed H law = let c = law [] [] [] [] [] refl in
     c.collide.differ (c.placed.first_evaluation ∙ sym c.placed.second_evaluation)
 

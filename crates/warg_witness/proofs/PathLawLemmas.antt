@@ -71,7 +71,7 @@ pub record_agreement_collides : (H : List ℕ → List ℕ) → PathIsUnique H
     → (index n : ℕ) (path : List (List ℕ)) (value : List ℕ) (other_path : List (List ℕ)) (other : List ℕ)
     → AreHashes path → AreHashes other_path
     → IsRecordAgreement H index n path value other_path other → value ≢ other
-    → SomeCollision H (IsRecordAgreementPlaced H index n path value other_path other)
+    → SomeCollision H (IsRecordAgreementPlaced H index n (path, value) (other_path, other))
 record_agreement_collides H unique index n path v other_path u sized other_sized met differ =
     elim (unique index n (leaf_digest H v) (leaf_digest H u) met.root path other_path sized other_sized met.first_is
     met.second_is) [

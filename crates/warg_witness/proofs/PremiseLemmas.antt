@@ -152,7 +152,7 @@ hash_untruth_is_needed H gives law =
 pub agreement_hashes_are_needed : ¬ ((H : List ℕ → List ℕ) (proof : InclusionClaim) (F : ℕ → Option (List ℕ))
     (value : List ℕ) (G : ℕ → Option (List ℕ)) (other : List ℕ) → IsAgreement H proof F (leaf_digest H value) G
     (leaf_digest H other) → value ≢ other
-    → SomeCollision H (IsAgreementPlaced H F value G other proof.leaf.0 proof.log_length))
+    → SomeCollision H (IsAgreementPlaced H (F, value) (G, other) proof.leaf.0 proof.log_length))
 unfolding way_within top_of height_of height_within place_of
 agreement_hashes_are_needed law =
     none_collide _ (law own first_of_two everywhere [] zero_everywhere (5 ∷ [])
@@ -160,7 +160,7 @@ agreement_hashes_are_needed law =
 
 pub agreement_meeting_is_needed : (H : List ℕ → List ℕ)
     → ¬ ((proof : InclusionClaim) (F : ℕ → Option (List ℕ)) (value : List ℕ) (G : ℕ → Option (List ℕ)) (other : List ℕ)
-    → value ≢ other → SomeCollision H (IsAgreementPlaced H F value G other proof.leaf.0 proof.log_length))
+    → value ≢ other → SomeCollision H (IsAgreementPlaced H (F, value) (G, other) proof.leaf.0 proof.log_length))
 unfolding height_of height_within place_of
 agreement_meeting_is_needed H law =
     let c = law (leaf_claim 0 0) nothing [] nothing (0 ∷ []) (λ is. absurd cc) in
@@ -169,7 +169,7 @@ agreement_meeting_is_needed H law =
 pub agreement_difference_is_needed : (H : List ℕ → List ℕ)
     → ¬ ((proof : InclusionClaim) (F : ℕ → Option (List ℕ)) (value : List ℕ) (G : ℕ → Option (List ℕ)) (other : List ℕ)
     → IsAgreement H proof F (leaf_digest H value) G (leaf_digest H other)
-    → SomeCollision H (IsAgreementPlaced H F value G other proof.leaf.0 proof.log_length))
+    → SomeCollision H (IsAgreementPlaced H (F, value) (G, other) proof.leaf.0 proof.log_length))
 unfolding way_within top_of height_of height_within place_of
 agreement_difference_is_needed H law =
     let c = law only_one nothing [] nothing [] (record { root = H (0 ∷ []); first_is = refl; second_is = refl }) in
@@ -207,7 +207,7 @@ record_untruth_is_needed H law =
 pub record_agreement_sizes_are_needed : ¬ ((H : List ℕ → List ℕ) (index n : ℕ) (path : List (List ℕ)) (value : List ℕ)
     (other_path : List (List ℕ)) (other : List ℕ) → AreHashes other_path
     → IsRecordAgreement H index n path value other_path other → value ≢ other
-    → SomeCollision H (IsRecordAgreementPlaced H index n path value other_path other))
+    → SomeCollision H (IsRecordAgreementPlaced H index n (path, value) (other_path, other)))
 unfolding root_down front_of front_within
 record_agreement_sizes_are_needed law =
     none_collide _ (law own 0 2 ((5 ∷ zeros) ∷ []) [] (zeros ∷ []) (5 ∷ []) (refl, tt)
@@ -216,7 +216,7 @@ record_agreement_sizes_are_needed law =
 pub record_agreement_meeting_is_needed : (H : List ℕ → List ℕ)
     → ¬ ((index n : ℕ) (path : List (List ℕ)) (value : List ℕ) (other_path : List (List ℕ)) (other : List ℕ)
     → AreHashes path → AreHashes other_path → value ≢ other
-    → SomeCollision H (IsRecordAgreementPlaced H index n path value other_path other))
+    → SomeCollision H (IsRecordAgreementPlaced H index n (path, value) (other_path, other)))
 unfolding root_down front_of front_within
 record_agreement_meeting_is_needed H law =
     let c = law 0 1 (zeros ∷ zeros ∷ []) [] [] (0 ∷ []) (refl, (refl, tt)) tt (λ is. absurd cc) in
@@ -226,7 +226,7 @@ record_agreement_meeting_is_needed H law =
 pub record_agreement_difference_is_needed : (H : List ℕ → List ℕ)
     → ¬ ((index n : ℕ) (path : List (List ℕ)) (value : List ℕ) (other_path : List (List ℕ)) (other : List ℕ)
     → AreHashes path → AreHashes other_path → IsRecordAgreement H index n path value other_path other
-    → SomeCollision H (IsRecordAgreementPlaced H index n path value other_path other))
+    → SomeCollision H (IsRecordAgreementPlaced H index n (path, value) (other_path, other)))
 unfolding root_down
 record_agreement_difference_is_needed H law =
     let c = law 0 1 [] [] [] [] tt tt (record { root = H (0 ∷ []); first_is = refl; second_is = refl }) in

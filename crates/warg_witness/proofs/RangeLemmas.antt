@@ -8,8 +8,8 @@ use Rattle.warg_log.specs.Tree.{front_of}
 use Rattle.warg_witness.specs.Ranges.{IsPart, IsAround}
 use Rattle.warg_witness.specs.Ranges.IsPart.{whole, front, rest}
 use Rattle.warg_log.specs.Ranges.{Range, leaves_from, range_of, front_part, rest_part, IsAligned}
-use Rattle.warg_witness.specs.Private.Ranges.{IsNodeRange, IsAbove, IsRootOf, side_of}
-use Rattle.warg_witness.specs.Private.Ranges.IsRootOf.{all_leaves, at_front, in_rest}
+use Rattle.warg_witness.specs.Private.Divergence.{IsNodeRange, IsAbove, IsRootOf, side_of}
+use Rattle.warg_witness.specs.Private.Divergence.IsRootOf.{all_leaves, at_front, in_rest}
 use Rattle.warg_log.proofs.ForCallers.{same_range, starts, target_decides, below_pow, front_is_greatest, balanced_full, balanced_parts, over_at, pow_below_pow}
 use Rattle.std.specs.List.{Contains}
 

@@ -1,5 +1,5 @@
 -- Where paths lead, turn by turn, two evaluations along paths of one place, and a tree's own path.
-use Rattle.std.proofs.Common.{◌≡◌, ◌⊎◌, inl, inr, ℕ, zero, suc, ◌+◌, ◌-◌, ◌==◌, ◌<◌, ◌≤◌, Bool, true, false, not, List, [], ◌∷◌, ◌++◌, length, map, reverse, get_or, Option, Some, None, if◌then◌else◌, refl, sym, ap, ◌∙◌, arith}
+use Rattle.std.proofs.Common.{◌≡◌, ◌⊎◌, inl, inr, ℕ, zero, suc, ◌+◌, ◌-◌, ◌==◌, ◌<◌, ◌≤◌, List, [], ◌∷◌, ◌++◌, length, map, reverse, get_or, Option, Some, None, if◌then◌else◌, refl, sym, ap, ◌∙◌, arith}
 use Rattle.std.specs.Option.{MatchOption}
 use Rattle.std.proofs.lemmas.Bool.Decides.{nat_tests}
 use Rattle.std.proofs.lemmas.Bool.{cases_lt, cases_Bool, lt-leb, le-leb, lt-ltb, le-ltb, eqb-true}
@@ -17,14 +17,11 @@ use Rattle.warg_paths.proofs.ForCallers.{root_one}
 use Rattle.warg_witness.specs.Inputs.{plain_input}
 use Rattle.warg_witness.specs.PathClaims.{IsRecord}
 use Rattle.warg_witness.specs.PathPlaced.{record_input, IsRecordAgreementPlaced, IsRecordPlaced}
-use Rattle.warg_witness.specs.Private.Turns.{IsUp, Turn, climbed, is_right, leaf_in, count_in, path_turns, AreTaken}
+use Rattle.warg_witness.specs.Private.Turns.{IsUp, Turn, climbed, is_right, leaf_in, count_in, path_turns, AreTaken, LeadNowhere, IsPathClimb, NeverMeet, IsPathsMeeting}
 use Rattle.warg_witness.specs.Private.Divergence.{Shows, at_bottom, inputs_of}
-use Rattle.warg_witness.specs.Private.PathClimbs.{path_from, LeadNowhere, IsPathClimb, NeverMeet, IsPathsMeeting}
-use Rattle.warg_witness.specs.Private.TreeDivergence.{IsBesideTree, tree_input}
-use Rattle.warg_witness.specs.Private.Ranges.{root_at, side_of}
 use Rattle.warg_witness.specs.declared.divergence.Climb.{Climb}
 use Rattle.warg_witness.specs.declared.divergence.Divergence.{Divergence}
-use Rattle.warg_witness.proofs.ClimbLemmas.{parts_placed, shown, up_parts}
+use Rattle.warg_witness.proofs.ClimbLemmas.{shown}
 use Rattle.warg_witness.proofs.CutLemmas.{leaves_count, plain_digest_is}
 use Rattle.warg_witness.proofs.RangeLemmas.{Digest, front_aligned, rest_aligned, whole_aligned}
 use Rattle.warg_witness.proofs.TurnLemmas.{no_turns, turn_up}
@@ -158,31 +155,11 @@ pub plain_root : (H : Digest) (entries : List (List ℕ)) → root_over H (leave
     ≡ root_of H (leaves_of H entries)
 plain_root H entries = rw leaves_count at (whole_root H (leaves_of H entries))
 
--- one branch up beside a tree: from one side of a range, with the other beside it
-pub beside_up : {D : Type 0} {H : Digest} (tree : List (List ℕ)) {P Q : List ℕ → List ℕ → Type 0} {A : Type 0}
-    (right : Bool) (range : Range) {near far : Range} {before after : Climb D} {u z : List ℕ} → 1 < range.count
-    → range.start + range.count ≤ length tree → near ≡ side_of right range → far ≡ side_of (not right) range
-    → IsBesideTree H tree P A near before → z ≡ root_at H tree far → IsUp H right before u z after
-    → ((i j : List ℕ) → P i j → Q i j) → ((j : List ℕ) → j ≡ tree_input H tree range → Q (input_beside right u before.first) j)
-    → IsBesideTree H tree Q A range after
-beside_up {H = H} tree {Q = Q} {A = A} right range {near} {far} {before} {z = z} more within near_is far_is below z_is
-    up widen here =
-    let plain = made right near_is far_is in record {
-      is = up.second_is ∙ ap H plain ∙ sym (root_over_parts H tree range.start range.count more within);
-      parts = up_parts Q A up (λ same _. parts_placed H before.divergence widen (λ meets. meets) (below.parts same))
-          (here _ plain);
-    }
-  where
-    made : (right : Bool) → near ≡ side_of right range → far ≡ side_of (not right) range
-        → input_beside right z before.second ≡ tree_input H tree range
-    made false near_is far_is = rw (z_is, below.is, near_is, far_is) refl
-    made true near_is far_is = rw (z_is, below.is, near_is, far_is) refl
-
 -- both evaluations at a leaf, and one turn up
 module _ {D : Type 0} (H : Digest) (x y : List ℕ) where
   pub leaf_climb : {m n : ℕ} {climb : Climb D} (path other : List (List ℕ)) → n ≡ 1 → length path ≡ 0
       → length other ≡ 0 → climb ≡ at_bottom x y
-      → IsPathClimb H (path_from x (reverse path)) (path_from y (reverse other)) m n climb
+      → IsPathClimb H (x, reverse path) (y, reverse other) m n climb
   leaf_climb {m} path other one none others bottom =
       rw (one, bottom)
       (record {
@@ -197,9 +174,9 @@ module _ {D : Type 0} (H : Digest) (x y : List ℕ) where
 
   module _ {t u : List ℕ} {ds es : List (List ℕ)} (m n : ℕ) (more : 1 < n) where
     pub part_up : {before after : Climb D}
-        → IsPathClimb H (path_from x ds) (path_from y es) (leaf_in m n) (count_in m n) before
+        → IsPathClimb H (x, ds) (y, es) (leaf_in m n) (count_in m n) before
         → IsUp H (is_right m n) before t u after
-        → IsPathClimb H (path_from x (t ∷ ds)) (path_from y (u ∷ es)) m n after
+        → IsPathClimb H (x, t ∷ ds) (y, u ∷ es) m n after
     part_up climb up = record {
       first_led = leads_up H m n x t _ ds more climb.first_led ∙ ap Some (sym up.first_is);
       second_led = leads_up H m n y u _ es more climb.second_led ∙ ap Some (sym up.second_is);
@@ -208,24 +185,24 @@ module _ {D : Type 0} (H : Digest) (x y : List ℕ) where
 
 -- where one leads nowhere in the part that has the leaf, it leads nowhere
 pub part_nowhere : (H : Digest) (x y t u : List ℕ) (ds es : List (List ℕ)) (m n : ℕ)
-    → LeadNowhere H (path_from x ds) (path_from y es) (leaf_in m n) (count_in m n)
-    → LeadNowhere H (path_from x (t ∷ ds)) (path_from y (u ∷ es)) m n
+    → LeadNowhere H (x, ds) (y, es) (leaf_in m n) (count_in m n)
+    → LeadNowhere H (x, t ∷ ds) (y, u ∷ es) m n
 part_nowhere H x y t u ds es m n nowhere = λ first second is other. nowhere _ _ (led_down H m n x first t ds is).led
     (led_down H m n y second u es other).led
 
 -- two paths of which one leads nowhere, that lead to two digests, and that lead to one
 module _ (H : Digest) (x y : List ℕ) (path other : List (List ℕ)) (m n : ℕ) where
-  pub nowhere_never : LeadNowhere H (path_from x (reverse path)) (path_from y (reverse other)) m n
-      → NeverMeet H (path_from x path) (path_from y other) m n
+  pub nowhere_never : LeadNowhere H (x, reverse path) (y, reverse other) m n
+      → NeverMeet H (x, path) (y, other) m n
   nowhere_never nowhere = λ root first second. nowhere root root (leads_inside H m n x root path first).1
       (leads_inside H m n y root other second).1
 
   pub paths_met : {D : Type 0} {top : Climb D}
-      → IsPathClimb H (path_from x (reverse path)) (path_from y (reverse other)) m n top → m < n
+      → IsPathClimb H (x, reverse path) (y, reverse other) m n top → m < n
       → (met : Option (Divergence D))
       → MatchOption met (¬ (top.first ≡ top.second)) (λ q. (top.first ≡ top.second) × (q ≡ top.divergence))
-      → MatchOption met (NeverMeet H (path_from x path) (path_from y other) m n)
-      (IsPathsMeeting H (path_from x path) (path_from y other) m n)
+      → MatchOption met (NeverMeet H (x, path) (y, other) m n)
+      (IsPathsMeeting H (x, path) (y, other) m n)
   paths_met {top = top} climb inside None apart = λ root is other_is.
       let one : Some top.first ≡ Some root = sym climb.first_led ∙ (leads_inside H m n x root path is).1 in
       let two : Some top.second ≡ Some root = sym climb.second_led ∙ (leads_inside H m n y root other other_is).1 in
@@ -274,7 +251,7 @@ module _ (H : Digest) (index count : ℕ) (path : List (List ℕ)) (v : List ℕ
   on_way : (m a n : ℕ) (ds es : List (List ℕ)) (root other first second : List ℕ) → root_down H m n (H (0 ∷ v)) ds
       ≡ Some root → root_down H m n (H (0 ∷ u)) es ≡ Some other
       → IsOnWay index 0 count (reverse path) m a n ds → IsOnWay index 0 count (reverse other_path) m a n es
-      → Take m n ds es first second → IsRecordAgreementPlaced H index count path v other_path u first second
+      → Take m n ds es first second → IsRecordAgreementPlaced H index count (path, v) (other_path, u) first second
   on_way m a n [] [] root other first second is other_is way other_way (inl none) = elim none [ ]
   on_way m a n [] [] root other first second is other_is way other_way (inr leaf) =
       let first_is : Some (leaf_input v) ≡ Some first = ap Some (sym leaf.0) in let second_is : Some (leaf_input u)
@@ -287,7 +264,7 @@ module _ (H : Digest) (index count : ℕ) (path : List (List ℕ)) (v : List ℕ
       let at = led_down H m n (H (0 ∷ v)) root d ds is in
       let other_at = led_down H m n (H (0 ∷ u)) other e es other_is in
       let deeper : Take (leaf_in m n) (count_in m n) ds es first second
-      → IsRecordAgreementPlaced H index count path v other_path u first second =
+      → IsRecordAgreementPlaced H index count (path, v) (other_path, u) first second =
       on_way (leaf_in m n) (start_in m a n) (count_in m n) ds es at.digest other_at.digest first second at.led
       other_at.led (way_in at.more way) (way_in at.more other_way) in
       elim take [
@@ -317,7 +294,7 @@ module _ (H : Digest) (index count : ℕ) (path : List (List ℕ)) (v : List ℕ
   pub agreement_placed : {root other : List ℕ} (first second : List ℕ) → inclusion_root H index count (H (0 ∷ v)) path
       ≡ Some root → inclusion_root H index count (H (0 ∷ u)) other_path ≡ Some other
       → Take index count (reverse path) (reverse other_path) first second
-      → IsRecordAgreementPlaced H index count path v other_path u first second
+      → IsRecordAgreementPlaced H index count (path, v) (other_path, u) first second
   agreement_placed first second is other_is take =
       on_way index 0 count (reverse path) (reverse other_path) _ _ first second
       (leads_inside H index count _ _ path is).1 (leads_inside H index count _ _ other_path other_is).1 whole whole
@@ -325,8 +302,8 @@ module _ (H : Digest) (index count : ℕ) (path : List (List ℕ)) (v : List ℕ
 
   -- what a divergence of two paths shows, where the values differ
   pub record_agreement_shown : {D : Type 0} (p : Divergence D) → (v ≡ u → ⊥)
-      → IsPathsMeeting H (path_from (H (0 ∷ v)) path) (path_from (H (0 ∷ u)) other_path) index count p
-      → Shows H (IsRecordAgreementPlaced H index count path v other_path u) (inputs_of p (0 ∷ v) (0 ∷ u))
+      → IsPathsMeeting H (H (0 ∷ v), path) (H (0 ∷ u), other_path) index count p
+      → Shows H (IsRecordAgreementPlaced H index count (path, v) (other_path, u)) (inputs_of p (0 ∷ v) (0 ∷ u))
   record_agreement_shown p apart met =
       shown p (λ first second take. agreement_placed first second met.first_is met.second_is (inl take)) _ _
       (λ one. record {
@@ -484,7 +461,7 @@ module _ (H : Digest) (index : ℕ) (path : List (List ℕ)) (value : List ℕ) 
               let took = rw (le-leb (front_of n) m le) at takes in rw (lt-leb n 1 more, ← top_is) (cc)
         ]
 
-    pub record_placed : (first second : List ℕ) → IsRecordAgreementPlaced H index (length entries) path value own entry
+    pub record_placed : (first second : List ℕ) → IsRecordAgreementPlaced H index (length entries) (path, value) (own, entry)
         first second → IsRecordPlaced H index path value entries first second
     record_placed first second at = record {
       leaf = at.leaf;
@@ -499,7 +476,7 @@ module _ (H : Digest) (index : ℕ) (path : List (List ℕ)) (value : List ℕ) 
 
     -- what a divergence of both shows, where the claim is false
     pub record_shown : {D : Type 0} (p : Divergence D) → (IsRecord index value entries → ⊥)
-        → IsPathsMeeting H (path_from (H (0 ∷ value)) path) (path_from (H (0 ∷ entry)) own) index (length entries) p
+        → IsPathsMeeting H (H (0 ∷ value), path) (H (0 ∷ entry), own) index (length entries) p
         → Shows H (IsRecordPlaced H index path value entries) (inputs_of p (0 ∷ value) (0 ∷ entry))
     record_shown p untrue met =
         let pair = record_agreement_shown H index (length entries) path value own entry p (λ e. untrue (sym e)) met in

@@ -9,15 +9,14 @@ use Rattle.std.specs.Option.{MatchOption}
 use Rattle.warg_witness.specs.Claims.{IsEntry, Begins, IsConsistencyMet}
 use Rattle.warg_witness.specs.Inputs.{plain_input, cut_input, value_input, old_input}
 use Rattle.warg_witness.specs.Placed.{IsValuePlaced, IsHashPlaced, IsAgreementPlaced, IsConsistencyPlaced, IsPlacedInBoth}
-use Rattle.warg_witness.specs.Private.Compared.{IsAt, DiffersFirst}
+use Rattle.warg_witness.specs.Private.Agreement.{IsAt, DiffersFirst}
 use Rattle.warg_witness.specs.Private.Meeting.{IsMeeting, IsConsistencyMeeting, LeadsToBoth}
-use Rattle.warg_witness.specs.Private.Divergence.{IsDivergence, Shows, inputs_of}
+use Rattle.warg_witness.specs.Private.Divergence.{root_at, IsDivergence, Shows, inputs_of, IsAbove, IsRootOf}
 use Rattle.warg_witness.specs.declared.divergence.Divergence.{Divergence}
 use Rattle.warg_witness.proofs.RangeLemmas.{Digest, Data, part_in, IsPart-trans, whole_aligned, node_some, node_bounds, rest_aligned, root_contained, root_stands, root_at_part}
-use Rattle.warg_witness.specs.Private.Ranges.{IsAbove, IsRootOf}
-use Rattle.warg_witness.specs.Private.Ranges.IsRootOf.{all_leaves, at_front, in_rest}
+use Rattle.warg_witness.specs.Private.Divergence.IsRootOf.{all_leaves, at_front, in_rest}
 use Rattle.warg_witness.proofs.ClimbLemmas.{shown}
-use Rattle.warg_witness.proofs.CutLemmas.{leaves_count, DivergesFrom, Meets, plain_digest_is, own_second, own_input}
+use Rattle.warg_witness.proofs.CutLemmas.{leaves_count, DivergesFrom, plain_digest_is, own_second, own_input}
 use Rattle.warg_log.proofs.ForCallers.{starts, counts, pow_below_pow, cut_old, cut_parts, cut_target, front_is_greatest, old_full, old_parts, consistency_only, consistency_then}
 use Rattle.warg_log.specs.Cut.{Evaluation, with_target, with_own, cut_over, old_over, IsFull}
 use Rattle.warg_witness.specs.Ranges.{IsPart}
@@ -61,48 +60,32 @@ module _ (H : Digest) (F : Data) (entries ds : List (List ℕ)) (is : ds ≡ lea
       → DivergesFrom H (with_target F (range_of node) (H (0 ∷ value))) ds first second
       → IsValuePlaced H F value node entries first second
   value_placed value first second diverges =
-      let own = own_second H entries ds is (pow_pos (height_of node)) diverges in record {
-        from = diverges.range.start;
-        count = diverges.range.count;
-        part = own.0;
-        around = diverges.above.around;
-        evaluation = value_above H F value (range_of node) diverges.range diverges.above ∙ diverges.first_input;
-        plain = own.1;
-      }
+      let own = own_second H entries ds is (pow_pos (height_of node)) diverges in
+      let takes = value_above H F value (range_of node) diverges.range diverges.above ∙ diverges.first_input in
+      search (own, diverges.above.around, takes)
 
   pub value_meets : (value : List ℕ) → (IsAt value entries (start_of node) (2 ^ height_of node) → ⊥)
-      → Meets H (with_target F (range_of node) (H (0 ∷ value))) ds → Shows H (IsValuePlaced H F value node entries)
+      → (H (0 ∷ value) ≡ root_at H ds (range_of node)) × IsPart 0 (length ds) (start_of node) (2 ^ height_of node)
+      → Shows H (IsValuePlaced H F value node entries)
       (0 ∷ value, plain_input H entries (start_of node) (2 ^ height_of node))
   value_meets value other meets =
-      let part = rw (is, leaves_count H entries) at meets.part in
-      let plain = rw is at meets.same ∙ plain_digest_is H entries _ _ (pow_pos (height_of node)) (part_in part).0 in
+      let part = rw (is, leaves_count H entries) at meets.1 in
+      let plain = rw is at meets.0 ∙ plain_digest_is H entries _ _ (pow_pos (height_of node)) (part_in part).0 in
       record {
         collides = record {
           differ = λ e. other (leaf_same H value entries _ _ (pow_pos (height_of node)) e);
           same = plain;
         };
-        placed = record {
-          from = start_of node;
-          count = 2 ^ height_of node;
-          part = part;
-          around = omega arith;
-          evaluation = value_here H F value (range_of node);
-          plain = refl;
-        };
+        placed = search (part, value_here, arith);
       }
 
   pub hash_placed : (hash first second : List ℕ) → DivergesFrom H (with_target F (range_of node) hash) ds first second
       → IsHashPlaced H F hash node entries first second
   hash_placed hash first second diverges =
-      let own = own_second H entries ds is (pow_pos (height_of node)) diverges in record {
-        from = diverges.range.start;
-        count = diverges.range.count;
-        part = own.0;
-        around = diverges.above.around;
-        other = λ _ same. let more = diverges.above.more in omega arith;
-        evaluation = diverges.first_input;
-        plain = own.1;
-      }
+      let own = own_second H entries ds is (pow_pos (height_of node)) diverges in
+      let other : diverges.range.count ≡ 2 ^ height_of node → ⊥ = λ same.
+      let more = diverges.above.more in omega arith in
+      search (own, diverges.above.around, other, diverges.first_input)
 
 -- what a meeting shows, where the claim is false
 pub value_shown : {D : Type 0} {H : Digest} {F : Data} {proof : InclusionClaim} {value : List ℕ}
@@ -127,27 +110,16 @@ value_from here is = rw here (ap (λ h. 2 ^ h) is.leaf, is.same)
 pub agreement_shown : {D : Type 0} (H : Digest) (F : Data) (v : List ℕ) (G : Data) (u : List ℕ) (node n : ℕ)
     (p : Divergence D) → (v ≡ u → ⊥) → IsDivergence H (with_target F (range_of node) (H (0 ∷ v)))
     (with_target G (range_of node) (H (0 ∷ u))) (leaves_from 0 n) p
-    → Shows H (IsAgreementPlaced H F v G u node n) (inputs_of p (0 ∷ v) (0 ∷ u))
+    → Shows H (IsAgreementPlaced H (F, v) (G, u) node n) (inputs_of p (0 ∷ v) (0 ∷ u))
 agreement_shown H F v G u node n p other = shown p
-    (λ _ _ diverges. record {
-      from = diverges.range.start;
-      count = diverges.range.count;
-      part = diverges.part;
-      around = diverges.above.around;
-      first_evaluation = value_above H F v (range_of node) diverges.range diverges.above ∙ diverges.first_input;
-      second_evaluation = value_above H G u (range_of node) diverges.range diverges.above ∙ diverges.second_input;
-    })
+    (λ _ _ diverges.
+    let first = value_above H F v (range_of node) diverges.range diverges.above ∙ diverges.first_input in
+    let second = value_above H G u (range_of node) diverges.range diverges.above ∙ diverges.second_input in
+    search (diverges.part, diverges.above.around, first, second))
     _ _
     (λ meets. record {
-      collides = record { differ = λ e. other (cc); same = meets.same };
-      placed = record {
-        from = start_of node;
-        count = 2 ^ height_of node;
-        part = meets.part;
-        around = omega arith;
-        first_evaluation = value_here H F v (range_of node);
-        second_evaluation = value_here H G u (range_of node);
-      };
+      collides = record { differ = λ e. other (cc); same = meets.0 };
+      placed = search (meets.1, value_here, arith);
     })
 
 -- The cut root and the old root of a range are one, and so are their inputs, unless it is the target; then it isn't
@@ -194,18 +166,10 @@ root_leads {H} {F} {old_tree} {new_tree} {root} is at =
     let stands = root_stands at aligned in
     let P = LeadsTo H F (length new_tree) (root_of H new_tree) in
     let leads = All-contains P (balanced_roots (length old_tree)) (node_over root.start root.count)
-    (All-from_recursion P (balanced_roots (length old_tree)) is.new_root_is) (root_contained at) in (
-      leads.0,
-      record {
-        root = at;
-        node = stands.node;
-        in_old = omega (arith, stands.around);
-        in_new = omega (arith, stands.around, is.order);
-        held = leads.1;
-        to_old = sym (old_is_cut H (with_target F root leads.0) leads.1 at aligned).0 ∙ is.old_root_is;
-        to_new = rw (node_bounds stands.node) at leads.2;
-      },
-    )
+    (All-from_recursion P (balanced_roots (length old_tree)) is.new_root_is) (root_contained at) in
+    let to_old = sym (old_is_cut H (with_target F root leads.0) leads.1 at aligned).0 ∙ is.old_root_is in
+    let to_new = rw (node_bounds stands.node) at leads.2 in
+    (leads.0, search (at, stands, is.order, leads.1, to_old, to_new, arith))
 
 -- two trees of one digest at a range of both show where they diverge below it, or a place at which the entries differ
 pub both_shown : {D : Type 0} (H : Digest) (old new : List (List ℕ)) (place : ℕ) (range : Range)
@@ -217,23 +181,19 @@ both_shown H old new place range in_old in_new p diverges differ = shown p
     (λ first second at.
     let more = at.above.more in
     let old_part = IsPart-trans in_old at.part in
-    let new_part = IsPart-trans in_new at.part in record {
-      from = at.range.start;
-      count = at.range.count;
-      old_part = old_part;
-      new_part = new_part;
-      old_plain = own_input H old (leaves_from place 1) at.range first old_part more at.first_input;
-      new_plain = own_input H new (leaves_from place 1) at.range second new_part more at.second_input;
-    })
+    let new_part = IsPart-trans in_new at.part in
+    let old_plain = own_input H old (leaves_from place 1) at.range first old_part more at.first_input in
+    let new_plain = own_input H new (leaves_from place 1) at.range second new_part more at.second_input in
+    search (old_part, new_part, old_plain, new_plain))
     _ _
     (λ meets.
-    let old_part = IsPart-trans in_old meets.part in
-    let new_part = IsPart-trans in_new meets.part in
+    let old_part = IsPart-trans in_old meets.1 in
+    let new_part = IsPart-trans in_new meets.1 in
     let old_at = (part_in old_part).0 in
     let new_at = (part_in new_part).0 in record {
       collides = record {
         differ = λ e. differ (cc);
-        same = sym (plain_digest_is H old place 1 (omega arith) (omega arith)) ∙ meets.same
+        same = sym (plain_digest_is H old place 1 (omega arith) (omega arith)) ∙ meets.0
             ∙ plain_digest_is H new place 1 (omega arith) (omega arith);
       };
       placed = search (old_part, new_part);
@@ -249,14 +209,8 @@ module _ {H : Digest} {e : Evaluation} {old new old_tree new_tree : List (List �
       let here = root_at_part at.root diverges.part diverges.above.around in
       let same = (old_is_cut H e at.held here (part_in diverges.part).1).1
       (λ is. let count = counts is in omega (arith, diverges.above.more)) in
-      let own = own_second H old old_tree old_is (node_some at.node) diverges in inl (record {
-        from = diverges.range.start;
-        count = diverges.range.count;
-        part = own.0;
-        split = same.0;
-        evaluation = same.1 ∙ diverges.first_input;
-        plain = own.1;
-      })
+      let own = own_second H old old_tree old_is (node_some at.node) diverges in
+      let evaluation = same.1 ∙ diverges.first_input in inl (search (own, same.0, evaluation))
 
   pub new_placed : (first second : List ℕ) → DivergesFrom H e new_tree first second
       → IsConsistencyPlaced H e.held old new first second

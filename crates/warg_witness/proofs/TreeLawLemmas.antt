@@ -16,9 +16,9 @@ use Rattle.warg_witness.specs.Claims.{Begins}
 use Rattle.warg_witness.specs.PathClaims.{IsTreeMet}
 use Rattle.warg_paths.specs.Ways.{IsOnGrowth, old_turn_input, new_turn_input, old_of}
 use Rattle.warg_paths.specs.Ways.IsOnGrowth.{whole, front, rest}
-use Rattle.warg_witness.specs.TreePlaced.{IsTurn, IsTreePlaced}
+use Rattle.warg_witness.specs.TreePlaced.{IsTreePlaced}
 use Rattle.std.proofs.lemmas.Bool.Decides.{nat_tests}
-use Rattle.warg_witness.proofs.GrowthLemmas.{pair_parts, same_front, all_old, front_turn as roots_front, rest_turn as roots_rest}
+use Rattle.warg_witness.proofs.GrowthLemmas.{pair_parts, same_front, all_old, front_turn as roots_front, rest_turn as roots_rest, turning}
 use Rattle.warg_witness.proofs.RecordLemmas.{plain_root}
 use Rattle.warg_witness.proofs.ForkLemmas.{over, branch_at, fork, both_collide}
 use Rattle.warg_witness.proofs.LawLemmas.{difference}
@@ -89,16 +89,14 @@ module _ (H : List ℕ → List ℕ) (gives : GivesHashes H) (path old new : Lis
       → new_turn_input H known m n top below ≡ Some (branch_input l r) → H (branch_input l r) ≡ over H new a n
       → (branch_input l r ≡ branch_at H new a n) ⊎ Collide
   new_fork known m a n top below l r less more within way takes root =
-      let turn : IsTurn H path old new known m a n top below = record { on_way = way; more = less } in
-      fork H Placed new a n l r more within root (inr (inl (search (turn, takes))))
+      fork H Placed new a n l r more within root (inr (inl (record { turn = turning way less; evaluation = takes; plain = refl })))
 
   old_fork : (known : Option (List ℕ)) (m a n : ℕ) (top : List ℕ) (below : List (List ℕ)) (l r : List ℕ) → m < n → 1 < m
       → front_of n < m → a + m ≤ length old → OnWay known m a n (top ∷ below)
       → old_turn_input H m n top below ≡ Some (branch_input l r) → H (branch_input l r) ≡ over H old a m
       → (branch_input l r ≡ branch_at H old a m) ⊎ Collide
   old_fork known m a n top below l r less more turns within way takes root =
-      let turn : IsTurn H path old new known m a n top below = record { on_way = way; more = less } in
-      fork H Placed old a m l r more within root (inl (search (turn, turns, takes)))
+      fork H Placed old a m l r more within root (inl (record { turn = turning way less; in_rest = turns; evaluation = takes; plain = refl }))
 
   -- the new root of a part has 32 bytes: it is reckoned, or the old one where all leaves are old
   part_size : (digests : List (List ℕ)) (known : Option (List ℕ)) (m a n : ℕ) (x : List ℕ) → 0 < m → m ≤ n

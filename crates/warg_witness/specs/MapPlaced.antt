@@ -20,10 +20,10 @@ pub record IsPlacedAtKeys (key : List ℕ) (insertions : List (List ℕ × List 
 abbrev pub IsKeyPlaced : (List ℕ → List ℕ) → List (Option (List ℕ)) → List ℕ → List ℕ → List (List ℕ × List ℕ) → List ℕ → List ℕ → Type 0
 IsKeyPlaced H peers value key insertions first second = IsPlacedAtPrefix H peers value key insertions first second ⊎ IsPlacedAtKeys key insertions first second
 
--- For an agreement on a key: the two evaluations' inputs at one prefix of its bits, in the order given.
-pub record IsKeyAgreementPlaced (H : List ℕ → List ℕ) (key : List ℕ) (peers : List (Option (List ℕ))) (value : List ℕ) (other_peers : List (Option (List ℕ))) (other first second : List ℕ) : Type 0 where
+-- For an agreement of two proofs on a key, each with its value: the two evaluations' inputs at one prefix of its bits, in the order given.
+pub record IsKeyAgreementPlaced (H : List ℕ → List ℕ) (key : List ℕ) (one other : List (Option (List ℕ)) × List ℕ) (first second : List ℕ) : Type 0 where
   pub prefix : List Bool
   pub rest : List Bool
   pub bits : key_bits H key ≡ prefix ++ rest
-  pub first_evaluation : first ≡ path_input H peers value rest
-  pub second_evaluation : second ≡ path_input H other_peers other rest
+  pub first_evaluation : first ≡ path_input H one.0 one.1 rest
+  pub second_evaluation : second ≡ path_input H other.0 other.1 rest

@@ -21,15 +21,15 @@ pub record IsRecordPlaced (H : List ℕ → List ℕ) (index : ℕ) (path : List
   pub evaluation : record_input H value leaf count digests ≡ Some first
   pub plain : second ≡ plain_input H entries from count
 
--- For an agreement of two paths of one place of n entries: both evaluations' inputs at one range on the way to the
+-- For an agreement of two paths of one place of n entries, each with its value: both evaluations' inputs at one range on the way to the
 -- leaf, in the order given.
-pub record IsRecordAgreementPlaced (H : List ℕ → List ℕ) (index n : ℕ) (path : List (List ℕ)) (value : List ℕ) (other_path : List (List ℕ)) (other : List ℕ) (first second : List ℕ) : Type 0 where
+pub record IsRecordAgreementPlaced (H : List ℕ → List ℕ) (index n : ℕ) (one other : List (List ℕ) × List ℕ) (first second : List ℕ) : Type 0 where
   pub leaf : ℕ
   pub from : ℕ
   pub count : ℕ
   pub digests : List (List ℕ)
   pub other_digests : List (List ℕ)
-  pub on_way : IsOnWay index 0 n (reverse path) leaf from count digests
-  pub other_on_way : IsOnWay index 0 n (reverse other_path) leaf from count other_digests
-  pub first_evaluation : record_input H value leaf count digests ≡ Some first
-  pub second_evaluation : record_input H other leaf count other_digests ≡ Some second
+  pub on_way : IsOnWay index 0 n (reverse one.0) leaf from count digests
+  pub other_on_way : IsOnWay index 0 n (reverse other.0) leaf from count other_digests
+  pub first_evaluation : record_input H one.1 leaf count digests ≡ Some first
+  pub second_evaluation : record_input H other.1 leaf count other_digests ≡ Some second

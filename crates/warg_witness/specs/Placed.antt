@@ -26,14 +26,15 @@ pub record IsHashPlaced (H : List ℕ → List ℕ) (F : ℕ → Option (List �
   pub evaluation : cut_input H (with_target F (range_of node) hash) (leaves_from from count) ≡ Some first
   pub plain : second ≡ plain_input H entries from count
 
--- For an agreement on a node at length n: the two evaluations' inputs at one range, in the order given.
-pub record IsAgreementPlaced (H : List ℕ → List ℕ) (F : ℕ → Option (List ℕ)) (value : List ℕ) (G : ℕ → Option (List ℕ)) (other_value : List ℕ) (node n : ℕ) (first second : List ℕ) : Type 0 where
+-- For an agreement on a node at length n, each over its data and with its value: the two evaluations' inputs at one range, in
+-- the order given.
+pub record IsAgreementPlaced (H : List ℕ → List ℕ) (one other : (ℕ → Option (List ℕ)) × List ℕ) (node n : ℕ) (first second : List ℕ) : Type 0 where
   pub from : ℕ
   pub count : ℕ
   pub part : IsPart 0 n from count
   pub around : IsAround (range_of node) (leaves_from from count)
-  pub first_evaluation : value_input H F (range_of node) value (leaves_from from count) ≡ Some first
-  pub second_evaluation : value_input H G (range_of node) other_value (leaves_from from count) ≡ Some second
+  pub first_evaluation : value_input H one.0 (range_of node) one.1 (leaves_from from count) ≡ Some first
+  pub second_evaluation : value_input H other.0 (range_of node) other.1 (leaves_from from count) ≡ Some second
 
 -- For consistency, on the old side: the old root's input (first) and the old plain input (second) at one
 -- range, which isn't of a power of two of leaves.

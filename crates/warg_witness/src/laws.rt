@@ -56,7 +56,7 @@ pub fn agreement_or_collision()
         (F : ℕ → Option (List ℕ)) (value : List ℕ)
         (G : ℕ → Option (List ℕ)) (other : List ℕ) → GivesHashes H
         → IsAgreement H proof F (leaf_digest H value) G (leaf_digest H other) → value ≢ other
-        → SomeCollision H (IsAgreementPlaced H F value G other proof.leaf.0 proof.log_length) }
+        → SomeCollision H (IsAgreementPlaced H (F, value) (G, other) proof.leaf.0 proof.log_length) }
 {}
 
 /// A claim of consistency that is met and isn't true gives a collision.
@@ -80,7 +80,7 @@ pub fn record_agreement_or_collision()
     ensures { (H : List ℕ → List ℕ) (index n : ℕ) (path : List (List ℕ)) (value : List ℕ)
         (other_path : List (List ℕ)) (other : List ℕ) → AreHashes path → AreHashes other_path
         → IsRecordAgreement H index n path value other_path other → value ≢ other
-        → SomeCollision H (IsRecordAgreementPlaced H index n path value other_path other) }
+        → SomeCollision H (IsRecordAgreementPlaced H index n (path, value) (other_path, other)) }
 {
     path_is_unique();
 }
@@ -99,7 +99,7 @@ pub fn key_agreement_or_collision()
     ensures { (H : List ℕ → List ℕ) (key : List ℕ) (peers : List (Option (List ℕ))) (value : List ℕ)
         (other_peers : List (Option (List ℕ))) (other : List ℕ) → GivesHashes H
         → IsKeyAgreement H key peers value other_peers other → (value ≡ other → ⊥)
-        → SomeCollision H (IsKeyAgreementPlaced H key peers value other_peers other) }
+        → SomeCollision H (IsKeyAgreementPlaced H key (peers, value) (other_peers, other)) }
 {}
 
 /// A key's claim that is met and isn't true gives a collision.

@@ -12,8 +12,7 @@ ghost use Rattle.warg_witness.specs.Findings.{Finds};
 ghost use Rattle.warg_witness.specs.Claims.{IsMet, IsEntry, IsRootBelow, IsAgreement};
 ghost use Rattle.warg_witness.specs.Placed.{IsValuePlaced, IsHashPlaced, IsAgreementPlaced};
 ghost use Rattle.warg_witness.specs.Inputs.{plain_input};
-ghost use Rattle.warg_witness.specs.Private.Compared.{IsAt};
-ghost use Rattle.warg_witness.specs.Private.Agreement.{IsFoundAt};
+ghost use Rattle.warg_witness.specs.Private.Agreement.{IsAt, IsFoundAt};
 ghost use Rattle.warg_witness.specs.Private.Divergence.{Parts, inputs_of};
 ghost use Rattle.warg_witness.specs.Private.Meeting.{IsMeeting, IsPlainAt};
 
@@ -41,6 +40,7 @@ pub(crate) struct Meeting<D: SupportedDigest, V: VisitBytes, A: Allocator> {
 }
 
 // The meeting of a proof with a digest at its node with the entries, or None where they don't meet.
+#[tactic(auto, using(crate::proofs::CutLemmas::leaves_count, crate::proofs::HashLemmas::entries_count))]
 fn meet_entries<D: SupportedDigest, V: VisitBytes, L: LogData<D, V>, A: Allocator + Copy>(
     alloc: A,
     proof: &InclusionProof<D, V>,
@@ -70,6 +70,7 @@ fn meet_entries<D: SupportedDigest, V: VisitBytes, L: LogData<D, V>, A: Allocato
 }
 
 // The meeting of a proof with a tree that is as long as it says, or None where they don't meet.
+#[tactic(auto, using(crate::proofs::RangeLemmas::whole_aligned, warg_log::proofs::ForCallers::starts))]
 fn meet_tree<D: SupportedDigest, V: VisitBytes, L: LogData<D, V>, A: Allocator>(
     proof: &InclusionProof<D, V>,
     hashes: &L,
@@ -139,6 +140,7 @@ pub fn witness_value<D: SupportedDigest, V: VisitBytes, L: LogData<D, V>, A: All
 }
 
 // What a value shows whose proof leads to the root of the entries.
+#[tactic(auto, using(std::proofs::lemmas::Bool::iff_false))]
 fn find_value<D: SupportedDigest, V: VisitBytes, A: Allocator + Copy>(
     alloc: A,
     value: &V,
@@ -182,6 +184,7 @@ fn is_entry_at<V: VisitBytes>(
 }
 
 // The collision of a value's leaf with what the tree over the entries hashes at the target, or of the branches above.
+#[tactic(auto, using(crate::proofs::RangeLemmas::rest_aligned, warg_log::proofs::ForCallers::starts, warg_log::proofs::ForCallers::counts, crate::proofs::CutLemmas::leaves_count, crate::proofs::HashLemmas::entries_count))]
 fn collide_value<D: SupportedDigest, V: VisitBytes, A: Allocator + Copy>(
     alloc: A,
     value: &V,
@@ -269,6 +272,7 @@ fn find_hash<D: SupportedDigest, A: Allocator + Copy>(
 ///
 /// It hashes both values, and each branch of both evaluations once. It fails only if allocation fails. A value of more
 /// than `usize::MAX` bytes counts as that.
+#[tactic(auto, using(crate::proofs::RangeLemmas::whole_aligned, warg_log::proofs::ForCallers::starts))]
 pub fn agree_value<
     D: SupportedDigest,
     V: VisitBytes,
@@ -292,9 +296,8 @@ pub fn agree_value<
         (L.digest_at first_hashes.now) (leaf_digest D.digest (V.bytes first_value.now))
         (M.digest_at second_hashes.now) (leaf_digest D.digest (V.bytes second_value.now)))
         (V.bytes first_value.now ≡ V.bytes second_value.now)
-        (IsAgreementPlaced D.digest (L.digest_at first_hashes.now) (V.bytes first_value.now)
-        (M.digest_at second_hashes.now)
-        (V.bytes second_value.now) proof.now.leaf.0 proof.now.log_length)) }
+        (IsAgreementPlaced D.digest (L.digest_at first_hashes.now, V.bytes first_value.now)
+        (M.digest_at second_hashes.now, V.bytes second_value.now) proof.now.leaf.0 proof.now.log_length)) }
 {
     let first_hash = hash_leaf::<D, V>(first_value);
     let second_hash = hash_leaf::<D, V>(second_value);

@@ -4,6 +4,8 @@ ghost use Rattle.std.specs.Prelude.{◌≡◌, ◌≤◌, [], if◌then◌else�
 ghost use Rattle.warg_crypto.specs.Bytes.{same_bytes};
 ghost use Rattle.warg_crypto.specs.Collisions.{Collides};
 ghost use Rattle.warg_crypto.specs.Tree.{leaf_input};
+ghost use Rattle.warg_map.specs.Bits.{key_bits};
+ghost use Rattle.warg_map.specs.Last.{last_under};
 ghost use Rattle.warg_map.specs.Sparse.{pair_bytes};
 ghost use Rattle.warg_witness.specs.Findings.{Finds};
 ghost use Rattle.warg_witness.specs.MapClaims.{IsKeyMet, IsAbsenceMet, IsKeyAgreement, IsLastValue};
@@ -56,12 +58,11 @@ fn meet_insertions<
     insertions: &'a [(K, V)],
 ) -> Result<Option<KeyMeeting<'a, D, K, V, A>>, AllocError>
     requires { length peers.now ≤ 256 }
-    ensures { IfOk result (λ met. MatchOption met
-        (IsKeyMet D.digest peers.now (K.bytes key.now) (W.bytes value.now)
-        (pair_bytes K.bytes V.bytes insertions.now) → ⊥)
-        (λ m. IsKeyMeeting D.digest peers.now (K.bytes key.now) (W.bytes value.now)
-        (pair_bytes K.bytes V.bytes insertions.now) m.divergence
-        (lent_pair K.bytes V.bytes m.last) m.own)) }
+    ensures { let pairs = pair_bytes K.bytes V.bytes insertions.now in let k = K.bytes key.now in
+        IfOk result (λ met. MatchOption met
+        (¬ (IsKeyMet D.digest peers.now k (W.bytes value.now) pairs))
+        (λ m. (last_under D.digest (key_bits D.digest k) pairs ≡ lent_pair K.bytes V.bytes m.last)
+        × IsKeyMeeting D.digest peers.now k (W.bytes value.now) pairs m.divergence m.own)) }
 {
     let digest = Hash::of(key);
     let own = own_proof(alloc, key, insertions)?;
@@ -153,6 +154,7 @@ fn find<D: SupportedDigest, K: VisitBytes, V: VisitBytes, W: VisitBytes, A: Allo
 }
 
 // What a proof that leads to the plain root shows of a key.
+#[tactic(auto, using(std::proofs::lemmas::Bool::iff_false))]
 fn find_key<D: SupportedDigest, K: VisitBytes, V: VisitBytes, W: VisitBytes, A: Allocator + Copy>(
     alloc: A,
     met: &KeyMeeting<'_, D, K, V, A>,
@@ -269,8 +271,8 @@ pub fn agree_key<
         (IsKeyAgreement D.digest (K.bytes key.now) first_proof.now (V.bytes first_value.now)
         second_proof.now (V.bytes second_value.now))
         (V.bytes first_value.now ≡ V.bytes second_value.now)
-        (IsKeyAgreementPlaced D.digest (K.bytes key.now) first_proof.now (V.bytes first_value.now)
-        second_proof.now (V.bytes second_value.now))) }
+        (IsKeyAgreementPlaced D.digest (K.bytes key.now) (first_proof.now, V.bytes first_value.now)
+        (second_proof.now, V.bytes second_value.now))) }
 {
     let digest = Hash::of(key);
     let first = Evaluation {

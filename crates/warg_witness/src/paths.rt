@@ -8,7 +8,7 @@ ghost use Rattle.warg_paths.specs.Paths.{inclusion_of, inclusion_root};
 ghost use Rattle.warg_witness.specs.Findings.{Finds};
 ghost use Rattle.warg_witness.specs.PathClaims.{IsRecord, IsRecordMet};
 ghost use Rattle.warg_witness.specs.PathPlaced.{IsRecordPlaced};
-ghost use Rattle.warg_witness.specs.Private.PathClimbs.{IsPathMeeting};
+ghost use Rattle.warg_witness.specs.Private.Turns.{IsPathMeeting};
 
 mod agreement;
 mod climbing;
@@ -90,6 +90,7 @@ pub fn witness_record<D: SupportedDigest, V: VisitBytes, A: Allocator + Copy>(
 }
 
 // What a value shows whose path leads from its leaf digest to the root of the tree over the entries.
+#[tactic(auto, using(crate::proofs::HashLemmas::entries_count))]
 fn find_record<D: SupportedDigest, V: VisitBytes, A: Allocator + Copy>(
     alloc: A,
     index: usize,

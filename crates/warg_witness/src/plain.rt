@@ -3,7 +3,7 @@
 ghost use Rattle.std.specs.Prelude.{◌≡◌, ◌+◌, ◌<◌, ◌≤◌, [], length, map, IfOk, MatchOption, slice_index_or};
 ghost use Rattle.warg_log.specs.Tree.{leaves_of, root_of};
 ghost use Rattle.warg_log.specs.Ranges.{IsAligned};
-ghost use Rattle.warg_witness.specs.Private.Ranges.{root_at};
+ghost use Rattle.warg_witness.specs.Private.Divergence.{root_at};
 
 use std::alloc::{AllocError, Allocator};
 use warg_crypto::{Hash, SupportedDigest, VisitBytes};

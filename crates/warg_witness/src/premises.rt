@@ -59,14 +59,14 @@ pub fn agreement_premises_are_needed()
     ensures hashes { ¬ ((H : List ℕ → List ℕ) (proof : InclusionClaim) (F : ℕ → Option (List ℕ))
         (value : List ℕ) (G : ℕ → Option (List ℕ)) (other : List ℕ)
         → IsAgreement H proof F (leaf_digest H value) G (leaf_digest H other) → value ≢ other
-        → SomeCollision H (IsAgreementPlaced H F value G other proof.leaf.0 proof.log_length)) }
+        → SomeCollision H (IsAgreementPlaced H (F, value) (G, other) proof.leaf.0 proof.log_length)) }
     ensures meeting { (H : List ℕ → List ℕ) → ¬ ((proof : InclusionClaim) (F : ℕ → Option (List ℕ))
         (value : List ℕ) (G : ℕ → Option (List ℕ)) (other : List ℕ) → value ≢ other
-        → SomeCollision H (IsAgreementPlaced H F value G other proof.leaf.0 proof.log_length)) }
+        → SomeCollision H (IsAgreementPlaced H (F, value) (G, other) proof.leaf.0 proof.log_length)) }
     ensures difference { (H : List ℕ → List ℕ) → ¬ ((proof : InclusionClaim) (F : ℕ → Option (List ℕ))
         (value : List ℕ) (G : ℕ → Option (List ℕ)) (other : List ℕ)
         → IsAgreement H proof F (leaf_digest H value) G (leaf_digest H other)
-        → SomeCollision H (IsAgreementPlaced H F value G other proof.leaf.0 proof.log_length)) }
+        → SomeCollision H (IsAgreementPlaced H (F, value) (G, other) proof.leaf.0 proof.log_length)) }
 {}
 
 /// Of a record's claim: a function to 32 bytes, that it is met, and that it isn't true.
@@ -89,15 +89,15 @@ pub fn record_agreement_premises_are_needed()
     ensures sizes { ¬ ((H : List ℕ → List ℕ) (index n : ℕ) (path : List (List ℕ)) (value : List ℕ)
         (other_path : List (List ℕ)) (other : List ℕ) → AreHashes other_path
         → IsRecordAgreement H index n path value other_path other → value ≢ other
-        → SomeCollision H (IsRecordAgreementPlaced H index n path value other_path other)) }
+        → SomeCollision H (IsRecordAgreementPlaced H index n (path, value) (other_path, other))) }
     ensures meeting { (H : List ℕ → List ℕ) → ¬ ((index n : ℕ) (path : List (List ℕ)) (value : List ℕ)
         (other_path : List (List ℕ)) (other : List ℕ) → AreHashes path → AreHashes other_path
         → value ≢ other
-        → SomeCollision H (IsRecordAgreementPlaced H index n path value other_path other)) }
+        → SomeCollision H (IsRecordAgreementPlaced H index n (path, value) (other_path, other))) }
     ensures difference { (H : List ℕ → List ℕ) → ¬ ((index n : ℕ) (path : List (List ℕ)) (value : List ℕ)
         (other_path : List (List ℕ)) (other : List ℕ) → AreHashes path → AreHashes other_path
         → IsRecordAgreement H index n path value other_path other
-        → SomeCollision H (IsRecordAgreementPlaced H index n path value other_path other)) }
+        → SomeCollision H (IsRecordAgreementPlaced H index n (path, value) (other_path, other))) }
 {}
 
 /// Of a consistency path's claim: a function to 32 bytes, that it is met, and that it isn't true.
@@ -133,15 +133,15 @@ pub fn key_agreement_premises_are_needed()
     ensures hashes { ¬ ((H : List ℕ → List ℕ) (key : List ℕ) (peers : List (Option (List ℕ)))
         (value : List ℕ) (other_peers : List (Option (List ℕ))) (other : List ℕ)
         → IsKeyAgreement H key peers value other_peers other → ¬ (value ≡ other)
-        → SomeCollision H (IsKeyAgreementPlaced H key peers value other_peers other)) }
+        → SomeCollision H (IsKeyAgreementPlaced H key (peers, value) (other_peers, other))) }
     ensures meeting { ¬ ((H : List ℕ → List ℕ) (key : List ℕ) (peers : List (Option (List ℕ)))
         (value : List ℕ) (other_peers : List (Option (List ℕ))) (other : List ℕ)
         → GivesHashes H → (value ≡ other → ⊥)
-        → SomeCollision H (IsKeyAgreementPlaced H key peers value other_peers other)) }
+        → SomeCollision H (IsKeyAgreementPlaced H key (peers, value) (other_peers, other))) }
     ensures difference { (H : List ℕ → List ℕ) → ¬ ((key : List ℕ) (peers : List (Option (List ℕ)))
         (value : List ℕ) (other_peers : List (Option (List ℕ))) (other : List ℕ)
         → IsKeyAgreement H key peers value other_peers other
-        → SomeCollision H (IsKeyAgreementPlaced H key peers value other_peers other)) }
+        → SomeCollision H (IsKeyAgreementPlaced H key (peers, value) (other_peers, other))) }
 {}
 
 /// Of a key's claim: a function to 32 bytes, that it is met, and that it isn't true.

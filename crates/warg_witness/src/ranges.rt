@@ -3,8 +3,7 @@
 ghost use Rattle.std.specs.Prelude.{◌≡◌, ◌<◌, not, MatchOption};
 ghost use Rattle.warg_log.specs.Cut.{with_target};
 ghost use Rattle.warg_log.specs.Ranges.{IsAligned};
-ghost use Rattle.warg_witness.specs.Private.Divergence.{HaveOneDigest, LackDigest, IsRangeClimb, IsRangesMeeting};
-ghost use Rattle.warg_witness.specs.Private.Ranges.{IsNodeRange, IsAbove, side_of};
+ghost use Rattle.warg_witness.specs.Private.Divergence.{HaveOneDigest, IsDivergence, LackDigest, IsRangeClimb, IsNodeRange, IsAbove, side_of};
 ghost use Rattle.warg_witness.specs.Ranges.{IsAround};
 
 use crate::divergence::{Climb, Divergence};
@@ -12,6 +11,7 @@ use warg_crypto::{Hash, SupportedDigest, VisitBytes};
 use warg_log::{LeafRange, LogData, range_root};
 
 /// The part of a larger range that has the target, the part beside it, and whether the first is the one on the right.
+#[tactic(auto, using(crate::proofs::RangeLemmas::above_one))]
 pub(crate) fn sides_around(target: &LeafRange, range: &LeafRange) -> (LeafRange, LeafRange, bool)
     requires node { IsNodeRange target.now }
     requires aligned { IsAligned range.now.start range.now.count }
@@ -31,7 +31,7 @@ pub(crate) fn sides_around(target: &LeafRange, range: &LeafRange) -> (LeafRange,
 }
 
 // Both evaluations from the target up to the range. None where a digest lacks in one of them.
-#[tactic(auto, using(crate::proofs::CutLemmas::cut_around))]
+#[tactic(auto, using(crate::proofs::CutLemmas::cut_around, crate::proofs::RangeLemmas::above))]
 fn climb_ranges<D: SupportedDigest, V: VisitBytes, L: LogData<D, V>, M: LogData<D, V>>(
     first: &L,
     first_hash: &Hash<D>,
@@ -72,8 +72,8 @@ pub(crate) fn meet_ranges<D: SupportedDigest, V: VisitBytes, L: LogData<D, V>, M
     requires around { IsAround target.now range.now }
     ensures { let e = with_target (L.digest_at first.now) target.now first_hash.now in
         let f = with_target (M.digest_at second.now) target.now second_hash.now in
-        MatchOption result (¬ (HaveOneDigest D.digest e f range.now))
-        (IsRangesMeeting D.digest e f range.now) }
+        let one = HaveOneDigest D.digest e f range.now in
+        MatchOption result (¬ one) (λ p. one × IsDivergence D.digest e f range.now p) }
 {
     climb_ranges(first, first_hash, second, second_hash, target, range)?.met()
 }

@@ -6,9 +6,8 @@ ghost use Rattle.warg_log.specs.Tree.{leaves_of, root_of};
 ghost use Rattle.warg_log.specs.Cut.{with_own};
 ghost use Rattle.warg_witness.specs.Ranges.{IsAround};
 ghost use Rattle.warg_log.specs.Ranges.{leaves_from, IsAligned};
-ghost use Rattle.warg_witness.specs.Private.Compared.{IsFirstDifference};
-ghost use Rattle.warg_witness.specs.Private.Divergence.{IsDivergence};
-ghost use Rattle.warg_witness.specs.Private.Ranges.{root_at};
+ghost use Rattle.warg_witness.specs.Private.Agreement.{IsFirstDifference};
+ghost use Rattle.warg_witness.specs.Private.Divergence.{IsDivergence, root_at};
 
 use crate::divergence::Divergence;
 use crate::plain::{plain_digest, tree_with_root};
@@ -80,7 +79,7 @@ fn is_same_entry<D: SupportedDigest, V: VisitBytes, A: Allocator>(
 }
 
 /// The first place at which the new entries have other bytes than the old ones, if there is one.
-#[tactic(auto, using(crate::proofs::ShownLemmas::leaf_at))]
+#[tactic(auto, using(crate::proofs::ShownLemmas::leaf_at, crate::proofs::CutLemmas::leaves_count, crate::proofs::HashLemmas::entries_count))]
 pub(crate) fn first_difference<D: SupportedDigest, V: VisitBytes, A: Allocator>(
     trees: &Trees<D, V, A>,
     old: &[V],
@@ -102,6 +101,7 @@ pub(crate) fn first_difference<D: SupportedDigest, V: VisitBytes, A: Allocator>(
 }
 
 /// Where two trees that have one digest at a range diverge on the way to the leaf at `place`.
+#[tactic(auto, using(crate::proofs::RangeLemmas::leaf_aligned, crate::proofs::RangeLemmas::leaf_node, warg_log::proofs::ForCallers::counts))]
 pub(crate) fn divergence_below<D: SupportedDigest, V: VisitBytes, A: Allocator>(
     trees: &Trees<D, V, A>,
     range: &LeafRange,

@@ -1,9 +1,10 @@
--- Where two trees that have one digest at a range diverge, on the way down to a target in both.
-use Rattle.std.specs.Prelude.{◌≡◌, ℕ, List, Some}
-use Rattle.warg_log.specs.Ranges.{Range}
-use Rattle.warg_log.specs.Cut.{Evaluation, cut_over}
-use Rattle.warg_witness.specs.Private.Ranges.{IsAbove}
-use Rattle.warg_witness.specs.Ranges.{IsPart}
+-- Ranges of the tree's recursion, as the private functions speak of them, and where two evaluations that have one digest at a
+-- range diverge, on the way down to a target in both.
+use Rattle.std.specs.Prelude.{◌≡◌, ℕ, ◌*◌, ◌^◌, ◌<◌, Bool, List, Some, if◌then◌else◌}
+use Rattle.warg_log.specs.Ranges.{Range, front_part, rest_part}
+use Rattle.warg_log.specs.Cut.{Evaluation, cut_over, IsFull}
+use Rattle.warg_log.specs.Tree.{root_over}
+use Rattle.warg_witness.specs.Ranges.{IsPart, IsAround}
 use Rattle.warg_crypto.specs.Collisions.{Collides}
 use Rattle.warg_crypto.specs.Tree.{input_beside}
 use Rattle.warg_witness.specs.Inputs.{cut_input}
@@ -11,6 +12,33 @@ use Rattle.warg_witness.specs.declared.divergence.Branches.{Branches}
 use Rattle.warg_witness.specs.declared.divergence.Climb.{Climb}
 use Rattle.warg_witness.specs.declared.divergence.Divergence.{Divergence}
 use Rattle.warg_witness.specs.declared.divergence.Divergence.TheVariants.{Target, Branch}
+
+-- The root over a range of a tree, which is given by its leaf digests.
+abbrev pub root_at : (List ℕ → List ℕ) → List (List ℕ) → Range → List ℕ
+root_at H tree range = root_over H tree range.start range.count
+
+-- The range is a node's: a power of two of leaves, from a multiple of it on.
+pub record IsNodeRange (range : Range) : Type 0 where
+  pub height : ℕ
+  pub place : ℕ
+  pub start : range.start ≡ place * 2 ^ height
+  pub count : range.count ≡ 2 ^ height
+
+-- The second range has all leaves of the first, and more.
+pub record IsAbove (inner outer : Range) : Type 0 where
+  pub around : IsAround inner outer
+  pub more : inner.count < outer.count
+
+-- A balanced root of a range: all of its leaves, where they are a power of two, else its first part, or a balanced root of
+-- the rest.
+pub data IsRootOf (root : Range) : Range → Type 0 where
+  all_leaves : IsFull root.count → IsRootOf root root
+  at_front : (range : Range) → 1 < range.count → ¬ IsFull range.count → root ≡ front_part range → IsRootOf root range
+  in_rest : (range : Range) → 1 < range.count → ¬ IsFull range.count → IsRootOf root (rest_part range) → IsRootOf root range
+
+-- The part of a range on the side of a bit, 0 on the left.
+abbrev pub side_of : Bool → Range → Range
+side_of right range = if right then rest_part range else front_part range
 
 -- The two byte lists that the digest function takes at two branches.
 abbrev pub inputs : {D : _} → Branches D → List ℕ × List ℕ
@@ -50,14 +78,10 @@ pub record DivergesAt (H : List ℕ → List ℕ) (e f : Evaluation) (all : Rang
   pub first_input : cut_input H e range ≡ Some first
   pub second_input : cut_input H f range ≡ Some second
 
--- The two evaluations have one digest at the target, which is a range of the recursion.
-pub record MeetAt (e f : Evaluation) (all : Range) : Type 0 where
-  pub same : e.digest ≡ f.digest
-  pub part : IsPart all.start all.count e.target.start e.target.count
-
--- The evaluations diverge nowhere, and have one digest at the target, or they diverge at such a range.
+-- The evaluations diverge nowhere, and have one digest at the target, which is a range of the recursion, or they diverge at
+-- such a range.
 abbrev pub IsDivergence : {D : _} → (List ℕ → List ℕ) → Evaluation → Evaluation → Range → Divergence D → Type 0
-IsDivergence H e f all p = Parts H (DivergesAt H e f all) (MeetAt e f all) p
+IsDivergence H e f all p = Parts H (DivergesAt H e f all) ((e.digest ≡ f.digest) × IsPart all.start all.count e.target.start e.target.count) p
 
 -- One of the two evaluations has no digest at a range.
 abbrev pub LackDigest : (List ℕ → List ℕ) → Evaluation → Evaluation → Range → Type 0
@@ -68,8 +92,3 @@ pub record IsRangeClimb {D : _} (H : List ℕ → List ℕ) (e f : Evaluation) (
   pub first_is : cut_over H e range ≡ Some climb.first
   pub second_is : cut_over H f range ≡ Some climb.second
   pub diverges : climb.first ≡ climb.second → IsDivergence H e f range climb.divergence
-
--- They have one digest there, and diverge as said.
-pub record IsRangesMeeting {D : _} (H : List ℕ → List ℕ) (e f : Evaluation) (range : Range) (p : Divergence D) : Type 0 where
-  pub one : HaveOneDigest H e f range
-  pub diverges : IsDivergence H e f range p

@@ -29,12 +29,11 @@ pub record IsAlike (H : List ℕ → List ℕ) (peers : List (Option (List ℕ))
   pub same : leaf_digest H value ≡ leaf_digest H (value_in (last_under H (key_bits H key) insertions))
   pub updates : (new : List ℕ) → IsUpdated H peers key new insertions
 
--- The claim of a key is met; the evaluation diverges from the plain tree as said, on the way to the key's leaf; the last
--- insertion under the key's digest is this one; and these peers stand beside the key's path in the plain tree.
-pub record IsKeyMeeting {D : _} (H : List ℕ → List ℕ) (peers : List (Option (List ℕ))) (key value : List ℕ) (insertions : List (List ℕ × List ℕ)) (divergence : Divergence D) (last : Option (List ℕ × List ℕ)) (own : List (Option (List ℕ))) : Type 0 where
+-- The claim of a key is met; the evaluation diverges from the plain tree as said, on the way to the key's leaf; and these peers
+-- stand beside the key's path in the plain tree.
+pub record IsKeyMeeting {D : _} (H : List ℕ → List ℕ) (peers : List (Option (List ℕ))) (key value : List ℕ) (insertions : List (List ℕ × List ℕ)) (divergence : Divergence D) (own : List (Option (List ℕ))) : Type 0 where
   pub met : IsKeyMet H peers key value insertions
   pub diverges : Parts H (IsPlacedAtPrefix H peers value key insertions) (IsAlike H peers key value insertions) divergence
-  pub last_is : last_under H (key_bits H key) insertions ≡ last
   pub beside : IsBeside H own (get (map_of H insertions)) (key_bits H key)
 
 -- The two byte lists that a false claim of a key shows: those of the branches at which the evaluation diverges; or those

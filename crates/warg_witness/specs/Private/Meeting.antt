@@ -6,15 +6,10 @@ use Rattle.warg_log.specs.Cut.{Evaluation, with_target, with_own, cut_over}
 use Rattle.warg_log.specs.Consistency.{IsConsistent}
 use Rattle.warg_log.specs.Claims.{InclusionClaim}
 use Rattle.warg_log.specs.Ranges.{Range, leaves_from, range_of, IsAligned}
-use Rattle.warg_witness.specs.Private.Ranges.{IsNodeRange, IsRootOf}
+use Rattle.warg_witness.specs.Private.Divergence.{IsNodeRange, IsRootOf, IsDivergence, Shows, inputs_of}
 use Rattle.warg_witness.specs.Claims.{IsMet}
 use Rattle.warg_witness.specs.Placed.{IsConsistencyPlaced}
-use Rattle.warg_witness.specs.Private.Divergence.{IsDivergence, Shows, inputs_of}
 use Rattle.warg_witness.specs.declared.divergence.Divergence.{Divergence}
-
--- An evaluation diverges from the tree of these leaf digests as said, on the way from the root to its target.
-abbrev pub DivergesFromTree : {D : _} → (List ℕ → List ℕ) → Evaluation → List (List ℕ) → Divergence D → Type 0
-DivergesFromTree H e tree p = IsDivergence H e (with_own H tree e.target) (leaves_from 0 (length tree)) p
 
 -- The target is a node's range, within the tree, which has this digest there.
 pub record IsPlainAt (H : List ℕ → List ℕ) (node : ℕ) (tree : List (List ℕ)) (target : Range) (plain : List ℕ) : Type 0 where
@@ -24,11 +19,11 @@ pub record IsPlainAt (H : List ℕ → List ℕ) (node : ℕ) (tree : List (List
   pub plain_is : plain ≡ root_over H tree target.start target.count
 
 -- The claim with a digest at the node is met; the tree is the one over the entries, and the evaluation diverges from it as
--- said.
+-- said, on the way from the root to the node.
 pub record IsMeeting {D : _} (H : List ℕ → List ℕ) (F : ℕ → Option (List ℕ)) (proof : InclusionClaim) (digest : List ℕ) (entries tree : List (List ℕ)) (divergence : Divergence D) : Type 0 where
   pub met : IsMet H F proof digest entries
   pub tree_is : tree ≡ leaves_of H entries
-  pub diverges : DivergesFromTree H (with_target F (range_of proof.leaf.0) digest) tree divergence
+  pub diverges : IsDivergence H (with_target F (range_of proof.leaf.0) digest) (with_own H tree (range_of proof.leaf.0)) (leaves_from 0 (length tree)) divergence
 
 -- The trees are those over the old and the new entries, which can be numbered, and their roots meet a consistency proof.
 pub record IsConsistencyMeeting (H : List ℕ → List ℕ) (F : ℕ → Option (List ℕ)) (old new old_tree new_tree : List (List ℕ)) : Type 0 where

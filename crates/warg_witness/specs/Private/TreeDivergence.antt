@@ -2,23 +2,17 @@
 -- path are given from the topmost down.
 use Rattle.std.specs.Prelude.{◌≡◌, ℕ, ◌<◌, ◌≤◌, ◌^◌, List, [], ◌∷◌, length, reverse, Option, Some, slice_index_or}
 use Rattle.warg_log.specs.Tree.{leaves_of, root_of}
-use Rattle.warg_log.specs.Ranges.{Range, leaves_from, front_part, rest_part}
+use Rattle.warg_log.specs.Ranges.{Range, leaves_from}
 use Rattle.warg_paths.specs.Paths.{roots_down}
 use Rattle.warg_paths.specs.Ways.{IsOnGrowth}
 use Rattle.warg_witness.specs.PathClaims.{IsTreeMet}
 use Rattle.warg_witness.specs.Ranges.{IsPart, IsAround}
 use Rattle.warg_witness.specs.TreePlaced.{IsTreePlaced}
-use Rattle.warg_witness.specs.Private.Divergence.{Shows, at_bottom, inputs_of, Parts}
-use Rattle.warg_witness.specs.Private.Ranges.{root_at}
+use Rattle.warg_witness.specs.Private.Divergence.{Shows, at_bottom, inputs_of, Parts, root_at}
 use Rattle.warg_witness.specs.declared.divergence.Climb.{Climb}
 use Rattle.warg_witness.specs.declared.divergence.Divergence.{Divergence}
 use Rattle.warg_witness.specs.declared.paths.growth.Growth.{Growth}
 use Rattle.warg_witness.specs.declared.trees.Trees.{Trees}
-use Rattle.warg_crypto.specs.Tree.{branch_input}
-
--- A tree's input at the branch over a range.
-abbrev pub tree_input : (List ℕ → List ℕ) → List (List ℕ) → Range → List ℕ
-tree_input H tree range = branch_input (root_at H tree (front_part range)) (root_at H tree (rest_part range))
 
 -- A climb's second digest is that of a tree over the range; where an evaluation comes to it there, both diverge nowhere,
 -- and meet at the bottom as said, or they diverge at branches that collide and stand where P says.

@@ -1,9 +1,10 @@
--- A way from a digest up to a root, turn by turn, and two ways side by side. The turns of a way are given from the topmost
--- down.
-use Rattle.std.specs.Prelude.{◌≡◌, ℕ, ◌-◌, ◌⊎◌, nat_le, if◌then◌else◌, Bool, List, [], ◌∷◌, length, Option}
+-- A way from a digest up to a root, turn by turn, and two ways side by side, as those of two inclusion paths. The turns of a
+-- way are given from the topmost down.
+use Rattle.std.specs.Prelude.{◌≡◌, ℕ, ◌-◌, ◌^◌, ◌<◌, ◌≤◌, ◌⊎◌, nat_le, if◌then◌else◌, Bool, List, [], ◌∷◌, length, reverse, Option, Some}
 use Rattle.warg_crypto.specs.Tree.{input_beside}
-use Rattle.warg_log.specs.Tree.{front_of}
+use Rattle.warg_log.specs.Tree.{front_of, leaves_of, root_of}
 use Rattle.warg_map.specs.ProofValue.{peer_of}
+use Rattle.warg_paths.specs.Paths.{inclusion_root, root_down}
 use Rattle.warg_witness.specs.declared.divergence.Climb.{Climb}
 use Rattle.warg_witness.specs.declared.divergence.Divergence.{Divergence}
 use Rattle.warg_witness.specs.Private.Divergence.{Parts}
@@ -72,3 +73,31 @@ pub record IsUp {D : _} (H : List ℕ → List ℕ) (bit : Bool) (before : Climb
   pub first_is : after.first ≡ H (input_beside bit u before.first)
   pub second_is : after.second ≡ H (input_beside bit v before.second)
   pub diverges : DivergesUp bit before u v after.divergence
+
+-- One of two paths to leaf m of n, each with the digest of the leaf, and from the topmost digest down, leads to no digest.
+abbrev pub LeadNowhere : (List ℕ → List ℕ) → List ℕ × List (List ℕ) → List ℕ × List (List ℕ) → ℕ → ℕ → Type 0
+LeadNowhere H p q m n = (first second : List ℕ) → root_down H m n p.0 p.1 ≡ Some first → root_down H m n q.0 q.1 ≡ Some second → ⊥
+
+-- Both, from the topmost digest down, lead to the climb's digests, and diverge as it says if the two are one.
+pub record IsPathClimb {D : _} (H : List ℕ → List ℕ) (p q : List ℕ × List (List ℕ)) (m n : ℕ) (climb : Climb D) : Type 0 where
+  pub first_led : root_down H m n p.0 p.1 ≡ Some climb.first
+  pub second_led : root_down H m n q.0 q.1 ≡ Some climb.second
+  pub turns : IsClimb H p.0 (path_turns m n p.1) q.0 (path_turns m n q.1) climb
+
+-- Two paths don't lead to one root.
+abbrev pub NeverMeet : (List ℕ → List ℕ) → List ℕ × List (List ℕ) → List ℕ × List (List ℕ) → ℕ → ℕ → Type 0
+NeverMeet H p q m n = (root : List ℕ) → inclusion_root H m n p.0 p.1 ≡ Some root → inclusion_root H m n q.0 q.1 ≡ Some root → ⊥
+
+-- They lead to one root, and diverge as said on the way down from it.
+pub record IsPathsMeeting {D : _} (H : List ℕ → List ℕ) (p q : List ℕ × List (List ℕ)) (m n : ℕ) (divergence : Divergence D) : Type 0 where
+  pub root : List ℕ
+  pub first_is : inclusion_root H m n p.0 p.1 ≡ Some root
+  pub second_is : inclusion_root H m n q.0 q.1 ≡ Some root
+  pub diverges : IsTurnDivergence H p.0 (path_turns m n (reverse p.1)) q.0 (path_turns m n (reverse q.1)) divergence
+
+-- The path leads from the leaf digest x to the root of the tree over the entries, which can be numbered.
+pub record IsPathMeeting (H : List ℕ → List ℕ) (index : ℕ) (path : List (List ℕ)) (x : List ℕ) (entries tree : List (List ℕ)) : Type 0 where
+  pub inside : index < length entries
+  pub fits : length entries ≤ 2 ^ 63
+  pub tree_is : tree ≡ leaves_of H entries
+  pub leads : inclusion_root H index (length entries) x path ≡ Some (root_of H (leaves_of H entries))

@@ -2,16 +2,16 @@
 
 ghost use Rattle.std.specs.Prelude.{◌≡◌, ◌+◌, ◌<◌, ◌≤◌, ◌↔◌, length, map, None, Some, Ok, Err, IfOk, IsTrue, MatchOption, ⊤};
 ghost use Rattle.warg_log.specs.Tree.{root_of};
-ghost use Rattle.warg_log.specs.Cut.{with_target, cut_over};
+ghost use Rattle.warg_log.specs.Cut.{with_target, with_own, cut_over};
 ghost use Rattle.warg_log.specs.Consistency.{IsConsistent, consistency};
 ghost use Rattle.warg_log.specs.declared.consistency.ConsistencyProofError.{ConsistencyProofError};
 ghost use Rattle.warg_witness.specs.Ranges.{IsAround};
 ghost use Rattle.warg_log.specs.Ranges.{leaves_from};
-ghost use Rattle.warg_witness.specs.Private.Ranges.{IsNodeRange, IsRootOf};
+ghost use Rattle.warg_witness.specs.Private.Divergence.{IsDivergence, IsNodeRange, IsRootOf};
 ghost use Rattle.warg_witness.specs.Findings.{Finds};
 ghost use Rattle.warg_witness.specs.Claims.{Begins, IsConsistencyMet};
 ghost use Rattle.warg_witness.specs.Placed.{IsConsistencyPlaced};
-ghost use Rattle.warg_witness.specs.Private.Meeting.{DivergesFromTree, IsConsistencyDivergence, IsConsistencyMeeting, LeadsToBoth};
+ghost use Rattle.warg_witness.specs.Private.Meeting.{IsConsistencyDivergence, IsConsistencyMeeting, LeadsToBoth};
 
 use crate::collision::Finding;
 use crate::divergence::Divergence;
@@ -102,7 +102,7 @@ fn held_root<D: SupportedDigest, V: VisitBytes, L: LogData<D, V>, A: Allocator>(
 }
 
 // Where the evaluation, with a digest at a node, diverges from the tree to whose root it leads.
-#[tactic(auto, using(crate::proofs::RangeLemmas::whole_aligned))]
+#[tactic(auto, using(crate::proofs::RangeLemmas::whole_aligned, warg_log::proofs::ForCallers::starts))]
 fn divergence_from<D: SupportedDigest, V: VisitBytes, L: LogData<D, V>, A: Allocator>(
     hashes: &L,
     hash: &Hash<D>,
@@ -114,8 +114,8 @@ fn divergence_from<D: SupportedDigest, V: VisitBytes, L: LogData<D, V>, A: Alloc
     requires fits { length tree.now ≤ GREATEST_LENGTH }
     requires met { cut_over D.digest (with_target (L.digest_at hashes.now) node.now hash.now)
         (leaves_from 0 (length tree.now)) ≡ Some (root_of D.digest tree.now) }
-    ensures { DivergesFromTree D.digest (with_target (L.digest_at hashes.now) node.now hash.now) tree.now
-        result }
+    ensures { IsDivergence D.digest (with_target (L.digest_at hashes.now) node.now hash.now)
+        (with_own D.digest tree.now node.now) (leaves_from 0 (length tree.now)) result }
 {
     let plain = plain_digest(tree, node);
     let whole = LeafRange::new(0, tree.length());
@@ -198,6 +198,7 @@ pub fn witness_consistency<
 }
 
 // What the trees over the entries show to whose roots the proof leads.
+#[tactic(auto, using(crate::proofs::CutLemmas::leaves_count, crate::proofs::HashLemmas::entries_count, crate::proofs::ShownLemmas::difference_in))]
 fn find_difference<D: SupportedDigest, V: VisitBytes, L: LogData<D, V>, A: Allocator + Copy>(
     alloc: A,
     hashes: &L,

@@ -37,8 +37,8 @@ pub fn agree_record<D: SupportedDigest, V: VisitBytes, A: Allocator + Copy>(
         (IsRecordAgreement D.digest index length first_path.now (V.bytes first_value.now)
         second_path.now (V.bytes second_value.now))
         (V.bytes first_value.now ≡ V.bytes second_value.now)
-        (IsRecordAgreementPlaced D.digest index length first_path.now (V.bytes first_value.now)
-        second_path.now (V.bytes second_value.now))) }
+        (IsRecordAgreementPlaced D.digest index length (first_path.now, V.bytes first_value.now)
+        (second_path.now, V.bytes second_value.now))) }
 {
     let first_leaf = hash_leaf::<D, V>(first_value);
     let second_leaf = hash_leaf::<D, V>(second_value);

@@ -1,8 +1,7 @@
 //! Two evaluations along inclusion paths of one place, side by side.
 
-ghost use Rattle.std.specs.Prelude.{◌≡◌, ◌<◌, reverse, MatchOption};
-ghost use Rattle.warg_witness.specs.Private.Turns.{is_right, leaf_in, count_in};
-ghost use Rattle.warg_witness.specs.Private.PathClimbs.{path_from, LeadNowhere, IsPathClimb, NeverMeet, IsPathsMeeting};
+ghost use Rattle.std.specs.Prelude.{◌≡◌, ℕ, ◌<◌, List, reverse, MatchOption};
+ghost use Rattle.warg_witness.specs.Private.Turns.{is_right, leaf_in, count_in, LeadNowhere, IsPathClimb, NeverMeet, IsPathsMeeting};
 
 use crate::divergence::{Climb, Divergence};
 use warg_crypto::{Hash, SupportedDigest};
@@ -20,8 +19,8 @@ fn climb_paths<D: SupportedDigest>(
     second_path: &[Hash<D>],
 ) -> Option<Climb<D>>
     requires { index < count }
-    ensures { let p = path_from first_leaf.now (reverse first_path.now) in
-        let q = path_from second_leaf.now (reverse second_path.now) in
+    ensures { let p : List ℕ × List (List ℕ) = (first_leaf.now, reverse first_path.now) in
+        let q : List ℕ × List (List ℕ) = (second_leaf.now, reverse second_path.now) in
         MatchOption result (LeadNowhere D.digest p q index count) (IsPathClimb D.digest p q index count) }
 {
     if count == 1 {
@@ -71,8 +70,8 @@ pub(crate) fn meet_paths<D: SupportedDigest>(
     second_leaf: &Hash<D>,
     second_path: &[Hash<D>],
 ) -> Option<Divergence<D>>
-    ensures { let p = path_from first_leaf.now first_path.now in
-        let q = path_from second_leaf.now second_path.now in
+    ensures { let p : List ℕ × List (List ℕ) = (first_leaf.now, first_path.now) in
+        let q : List ℕ × List (List ℕ) = (second_leaf.now, second_path.now) in
         MatchOption result (NeverMeet D.digest p q index length)
         (IsPathsMeeting D.digest p q index length) }
 {

@@ -3,7 +3,7 @@
 ghost use Rattle.std.specs.Prelude.{◌≡◌, ◌+◌, ◌<◌, ◌≤◌, length, reverse, None, MatchOption};
 ghost use Rattle.warg_log.specs.Ranges.{leaves_from, IsAligned};
 ghost use Rattle.warg_witness.specs.Ranges.{IsAround};
-ghost use Rattle.warg_witness.specs.Private.Ranges.{root_at};
+ghost use Rattle.warg_witness.specs.Private.Divergence.{root_at};
 ghost use Rattle.warg_witness.specs.Private.Turns.{IsUp};
 ghost use Rattle.warg_witness.specs.Private.TreeDivergence.{descent, whole_descent, roots_at, growth_from, LeadsOver, IsGrowth, IsTreeDivergence};
 
@@ -75,6 +75,7 @@ fn growth_at<D: SupportedDigest, V: VisitBytes, A: Allocator>(
 
 // The evaluation and both trees up to a range, from the part that has the leaf at `place` and one digest in the path.
 // None where the path leads to no roots over the range.
+#[tactic(auto, using(warg_log::proofs::ForCallers::starts, warg_log::proofs::ForCallers::counts, crate::proofs::RangeLemmas::front_aligned, crate::proofs::RangeLemmas::rest_aligned))]
 fn climb_growth<D: SupportedDigest, V: VisitBytes, A: Allocator>(
     trees: &Trees<D, V, A>,
     place: usize,
@@ -120,6 +121,7 @@ fn climb_growth<D: SupportedDigest, V: VisitBytes, A: Allocator>(
 /// Where the evaluation of a path that leads to the roots of both trees diverges from one of them, or else both trees
 /// diverge on the way to the leaf at `place`. It hashes each branch of the evaluation once, and each of the trees' beside
 /// it.
+#[tactic(auto, using(crate::proofs::RangeLemmas::whole_aligned, warg_log::proofs::ForCallers::starts))]
 pub(super) fn growth_divergence<D: SupportedDigest, V: VisitBytes, A: Allocator>(
     trees: &Trees<D, V, A>,
     place: usize,

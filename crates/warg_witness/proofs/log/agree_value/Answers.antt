@@ -1,10 +1,6 @@
 use Rattle.std.proofs.Common.{refl}
 use Rattle.warg_witness.proofs.AgreementLemmas.{values_agreed, agreed_collides, agreed_none, agreed_found}
-use Rattle.warg_witness.proofs.RangeLemmas.{whole_aligned}
 use Rattle.warg_witness.proofs.log.agree_value.Goals as goal
-
-pub meet_ranges-met-requires-clause-aligned : goal.meet_ranges-met-requires-clause-aligned
-meet_ranges-met-requires-clause-aligned g c = rw c.new-whole.ensures (whole_aligned _ refl)
 
 pub compare_values-requires : goal.compare_values-requires
 compare_values-requires g c =

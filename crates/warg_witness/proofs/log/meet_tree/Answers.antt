@@ -1,7 +1,7 @@
-use Rattle.std.proofs.Common.{length, refl, sym, ◌∙◌, ap, arith}
+use Rattle.std.proofs.Common.{length, sym, ◌∙◌, ap, arith}
 use Rattle.std.proofs.lemmas.Nat.{pow_pos}
 use Rattle.warg_log.proofs.ForCallers.{starts, counts, inclusion_leads}
-use Rattle.warg_witness.proofs.RangeLemmas.{node_aligned, node_range, whole_aligned}
+use Rattle.warg_witness.proofs.RangeLemmas.{node_aligned, node_range}
 use Rattle.warg_witness.proofs.CutLemmas.{leaves_count, have_root, root_led}
 use Rattle.warg_witness.proofs.log.meet_tree.Goals as goal
 
@@ -23,7 +23,7 @@ returns g c entries is =
     let all = c.requires.count in
     let met = rw (c.plain_digest-plain.ensures, target, c.new-whole.ensures, c.log_length.ensures.value ∙ sym all) at
     c.in_ok-divergence.ensures in
-    let root = rw (all, is) at (root_led _ _ met.one (rw all (omega (arith, c.requires.exists, pow_pos)))) in (
+    let root = rw (all, is) at (root_led _ _ met.0 (rw all (omega (arith, c.requires.exists, pow_pos)))) in (
       record {
         target_is = target;
         aligned = rw target (node_aligned (node_range _));
@@ -36,9 +36,6 @@ returns g c entries is =
           is = (inclusion_leads _ _ c.args.proof.now _ _).1 (c.requires.exists, root);
         };
         tree_is = is;
-        diverges = met.diverges;
+        diverges = met.1;
       },
     )
-
-pub meet_ranges-requires-clause-aligned : goal.meet_ranges-requires-clause-aligned
-meet_ranges-requires-clause-aligned g c = rw c.new-whole.ensures (whole_aligned _ refl)

@@ -1,6 +1,5 @@
 use Rattle.std.proofs.lemmas.Result.{IfOk-weaker}
 use Rattle.warg_witness.proofs.AgreementLemmas.{finds_shown}
-use Rattle.warg_witness.proofs.HashLemmas.{found_none}
 use Rattle.warg_witness.proofs.ShownLemmas.{value_shown, value_held, value_from}
 use Rattle.warg_witness.proofs.log.witness_value.Goals as goal
 
@@ -8,13 +7,6 @@ pub find_value-requires-clause-collides : goal.find_value-requires-clause-collid
 find_value-requires-clause-collides g c other =
     let met = rw (c.in-Some.is, c.hash_leaf-hash.ensures) at c.in_ok-met.ensures.met in
     (value_shown met.0.target_is met.1 other).collides
-
-pub returns-clause-count : goal.returns-clause-count
-returns-clause-count g c other = absurd (found_none (c.in_ok-met.ensures.count other) c.in-Some.is)
-
-pub returns-clause-fails : goal.returns-clause-fails
-returns-clause-fails g c fault is =
-    absurd (found_none (c.in_ok-met.ensures.fails fault (rw c.hash_leaf-hash.ensures is)) c.in-Some.is)
 
 pub returns-clause-found : goal.returns-clause-found
 returns-clause-found g c =

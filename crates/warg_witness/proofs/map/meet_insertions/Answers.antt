@@ -13,7 +13,9 @@ returns-in_default g c met =
     _ (c.last_of_digest-last.ensures _ c.of-digest.ensures)))
 
 pub returns : goal.returns
-returns g c =
-    own_met _ _ _ _ (key_beside _ _ (g.K.VisitBytes.bytes c.args.key.now) _ c.in_ok-own.ensures) _
-    (c.last_of_digest-last.ensures _ c.of-digest.ensures) _ _ _
-    (rw (c.peers.ensures.value, c.of-digest.ensures, c.plain_leaf.ensures, c.hash_leaf.ensures) at c.in-Some.ensures)
+returns g c = (
+  c.last_of_digest-last.ensures _ c.of-digest.ensures,
+  own_met _ _ _ _ (key_beside _ _ (g.K.VisitBytes.bytes c.args.key.now) _ c.in_ok-own.ensures) _
+      (c.last_of_digest-last.ensures _ c.of-digest.ensures) _ _ _
+      (rw (c.peers.ensures.value, c.of-digest.ensures, c.plain_leaf.ensures, c.hash_leaf.ensures) at c.in-Some.ensures),
+)

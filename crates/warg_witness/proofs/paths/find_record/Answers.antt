@@ -5,12 +5,6 @@ use Rattle.warg_witness.proofs.HashLemmas.{entries_count}
 use Rattle.warg_witness.proofs.RecordLemmas.{own_from, own_met, record_shown}
 use Rattle.warg_witness.proofs.paths.find_record.Goals as goal
 
-pub entry_at-entry-requires : goal.entry_at-entry-requires
-entry_at-entry-requires g c = rw (entries_count g.V.VisitBytes.bytes c.args.entries.now) at c.requires.met.inside
-
-pub returns-then-branch : goal.returns-then-branch
-returns-then-branch g c = (tt, c.entry_at-entry.ensures ∙ sym (c.in_ok-have_same_bytes.ensures.0 c.if-branch.true))
-
 pub unreachable-requires : goal.unreachable-requires
 unreachable-requires g c =
     let H = g.D.SupportedDigest.digest in

@@ -10,9 +10,6 @@ returns-then-eq g t c =
     let here = (target_decides c.args.target.now c.args.range.now).0 (sym c.eq.ensures ∙ c.if-eq.true) in
     ranges_start _ _ _ _ _ _ _ here (rw (c.copied.ensures, c.copied-then-eq.ensures) at c.new.ensures)
 
-pub sides_around-held-requires-clause-above : goal.sides_around-held-requires-clause-above
-sides_around-held-requires-clause-above g t c = above c.requires.around _ c.eq.ensures c.if-eq.false
-
 pub returns-in_err-climb : goal.returns-in_err-climb
 returns-in_err-climb g t c =
     rw c.from_residual.ensures

@@ -1,9 +1,6 @@
 use Rattle.std.proofs.Common.{arith}
-use Rattle.warg_witness.proofs.RangeLemmas.{above_one, front_side, rest_side}
+use Rattle.warg_witness.proofs.RangeLemmas.{front_side, rest_side}
 use Rattle.warg_witness.proofs.ranges.sides_around.Goals as goal
-
-pub split-front-requires : goal.split-front-requires
-split-front-requires c = above_one c.requires.node c.requires.aligned c.requires.above
 
 pub returns-then-target-rest : goal.returns-then-target-rest
 returns-then-target-rest c =

@@ -2,7 +2,6 @@ use Rattle.std.proofs.Common.{[], map, arith}
 use Rattle.std.proofs.lemmas.List.{take_more_same}
 use Rattle.warg_witness.proofs.HashLemmas.{entries_count}
 use Rattle.warg_witness.proofs.ShownLemmas.{entry_at}
-use Rattle.warg_witness.proofs.CutLemmas.{leaves_count}
 use Rattle.warg_witness.proofs.trees.first_difference.Goals as goal
 
 pub loop-place-preserved : goal.loop-place-preserved
@@ -11,17 +10,3 @@ loop-place-preserved g c =
     let new_count = entries_count g.V.VisitBytes.bytes c.args.new.now in
     take_more_same (map g.V.VisitBytes.bytes c.args.old.now) (map g.V.VisitBytes.bytes c.args.new.now)
     c.loop-place.place [] (omega arith) (omega arith) c.loop-place.invariant (grind (arith, entry_at))
-
-pub is_same_entry-requires-clause-in_old : goal.is_same_entry-requires-clause-in_old
-is_same_entry-requires-clause-in_old g c = rw (
-  c.requires.old_tree,
-  leaves_count g.D.SupportedDigest.digest _,
-  entries_count g.V.VisitBytes.bytes c.args.old.now,
-) (omega arith)
-
-pub is_same_entry-requires-clause-in_new : goal.is_same_entry-requires-clause-in_new
-is_same_entry-requires-clause-in_new g c = rw (
-  c.requires.new_tree,
-  leaves_count g.D.SupportedDigest.digest _,
-  entries_count g.V.VisitBytes.bytes c.args.new.now,
-) (omega arith)

@@ -21,4 +21,4 @@ returns-in-Branch-from_new g c = λ old new old_is new_is differ.
 pub returns : goal.returns
 returns g c = λ old new old_is new_is differ.
     let met = rw c.in_default-from_new.is at c.divergence_from-from_new.ensures in
-    below_shown old_is new_is c.held_root-root.ensures.leads _ met.part differ _ c.divergence_below.ensures
+    below_shown old_is new_is c.held_root-root.ensures.leads _ met.1 differ _ c.divergence_below.ensures

@@ -11,6 +11,3 @@ returns-clause-leads g c =
     let leads = root_leads c.requires.met
     (rw (c.new.ensures, c.length.ensures.value) at c.root_around-root.ensures.root) in
     let same : leads.0 ≡ c.in-Some.hash = cc in rw same at leads.1
-
-pub returns-clause-around : goal.returns-clause-around
-returns-clause-around g c = c.root_around-root.ensures.around

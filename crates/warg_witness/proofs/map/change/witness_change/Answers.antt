@@ -1,5 +1,7 @@
 use Rattle.std.proofs.Common.{◌≡◌, [], ◌∷◌, ◌++◌, ◌∙◌, ap}
 use Rattle.std.proofs.lemmas.Result.{IfOk-weaker}
+use Rattle.warg_map.specs.Bits.{key_bits}
+use Rattle.warg_map.specs.Last.{last_under}
 use Rattle.warg_map.specs.Sparse.{pair_bytes}
 use Rattle.warg_witness.specs.ChangeClaims.{IsChangeMet}
 use Rattle.warg_witness.specs.MapClaims.{IsKeyMet}
@@ -12,10 +14,11 @@ use Rattle.warg_witness.proofs.map.change.witness_change.Goals as goal
 use Rattle.warg_witness.proofs.map.change.witness_change.Goals.{In-Some, Else-not-branch, After-deref-2}
 
 -- the old insertions, as the proof meets them
-meeting : (g : _) (c : In-Some g) → IsKeyMeeting g.D.SupportedDigest.digest c.args.proof.now
-    (g.K.VisitBytes.bytes c.args.key.now) (g.W.VisitBytes.bytes c.args.old_value.now)
-    (pair_bytes g.K.VisitBytes.bytes g.V.VisitBytes.bytes c.args.old.now) c.in-Some.met.divergence
-    (lent_pair g.K.VisitBytes.bytes g.V.VisitBytes.bytes c.in-Some.met.last) c.in-Some.met.own
+meeting : (g : _) (c : In-Some g) → let H = g.D.SupportedDigest.digest in let key = g.K.VisitBytes.bytes c.args.key.now in
+    let xs = pair_bytes g.K.VisitBytes.bytes g.V.VisitBytes.bytes c.args.old.now in
+    (last_under H (key_bits H key) xs ≡ lent_pair g.K.VisitBytes.bytes g.V.VisitBytes.bytes c.in-Some.met.last)
+    × IsKeyMeeting H c.args.proof.now key (g.W.VisitBytes.bytes c.args.old_value.now) xs c.in-Some.met.divergence
+    c.in-Some.met.own
 meeting g c = rw (c.in-Some.is, c.peers.ensures.value) at c.in_ok-met.ensures
 
 -- and the new ones
@@ -47,15 +50,15 @@ compared g c =
 pub find_key-requires : goal.find_key-requires
 find_key-requires g c =
     let met = meeting g (goal.at.find_key-requires g c).In-Some in
-    λ other. (key_shown _ _ _ _ _ other _ _ g.met.D.SupportedDigest.is_digest met.last_is met.diverges).collides
+    λ other. (key_shown _ _ _ _ _ other _ _ g.met.D.SupportedDigest.is_digest met.0 met.1.diverges).collides
 
 pub returns-in_default-2 : goal.returns-in_default-2
 returns-in_default-2 g c =
     let at = goal.at.returns-in_default-2 g c in
     let old = meeting g at.In-Some in
-    let met = met_both g at.Else-not-branch old.met in
-    let found = finds_shown old.met (λ is. is) (λ is. is)
-    (λ other. key_shown _ _ _ _ _ other _ _ g.met.D.SupportedDigest.is_digest old.last_is old.diverges)
+    let met = met_both g at.Else-not-branch old.1.met in
+    let found = finds_shown old.1.met (λ is. is) (λ is. is)
+    (λ other. key_shown _ _ _ _ _ other _ _ g.met.D.SupportedDigest.is_digest old.0 old.1.diverges)
     c.in_ok-lie.lie c.in_ok-lie.ensures in
     record { found = found_before _ _ _ _ _ _ _ met c.in_ok-lie.lie c.in_default-2.not-Holds found }
 
@@ -63,16 +66,16 @@ pub find_step-requires : goal.find_step-requires
 find_step-requires g c =
     let at = goal.at.find_step-requires g c in
     let old = meeting g at.In-Some in
-    let met = met_both g at.Else-not-branch old.met in
+    let met = met_both g at.Else-not-branch old.1.met in
     let lists = compared g c in
-    rw (lists.0, lists.1) (step_parts _ _ _ _ _ _ _ met c.in-Some.met.divergence old.diverges)
+    rw (lists.0, lists.1) (step_parts _ _ _ _ _ _ _ met c.in-Some.met.divergence old.1.diverges)
 
 pub returns : goal.returns
 returns g c =
     let at = goal.at.returns g c in
     let old = meeting g at.In-Some in
-    let met = met_both g at.Else-not-branch old.met in
+    let met = met_both g at.Else-not-branch old.1.met in
     let lists = compared g at.After-deref-2 in
     let before = (rw c.in-Holds.is at c.in_ok-lie.ensures).1 in
-    let found = found_step _ _ _ _ _ _ _ met c.in-Some.met.divergence old.diverges before in
+    let found = found_step _ _ _ _ _ _ _ met c.in-Some.met.divergence old.1.diverges before in
     record { found = IfOk-weaker c.find_step.result _ _ found (rw (lists.0, lists.1) at c.find_step.ensures) }

@@ -4,20 +4,17 @@ use Rattle.warg_witness.specs.MapClaims.{IsKeyMet}
 use Rattle.warg_witness.proofs.AgreementLemmas.{branches_collide, update_found}
 use Rattle.warg_witness.proofs.map.update.witness_update.Goals as goal
 
-pub returns-in_default : goal.returns-in_default
-returns-in_default g c = record { found = rw (c.in_default.is, c.peers.ensures.value) at c.in_ok-met.ensures }
-
 pub find_update-requires : goal.find_update-requires
 find_update-requires g c = let met = rw c.in-Some.is at c.in_ok-met.ensures in
-    branches_collide _ c.in-Some.met.divergence _ _ met.diverges
+    branches_collide _ c.in-Some.met.divergence _ _ met.1.diverges
 
 pub returns : goal.returns
 returns g c =
     let met = rw (c.in-Some.is, c.peers.ensures.value) at c.in_ok-met.ensures in
     let is : IsKeyMet g.D.SupportedDigest.digest c.args.proof.now (g.K.VisitBytes.bytes c.args.key.now)
     (g.V.VisitBytes.bytes c.args.old_value.now)
-    (pair_bytes g.K.VisitBytes.bytes g.V.VisitBytes.bytes c.args.insertions.now) = met.met in
+    (pair_bytes g.K.VisitBytes.bytes g.V.VisitBytes.bytes c.args.insertions.now) = met.1.met in
     record {
       found = IfOk-weaker c.find_update.result _ _
-          (update_found (g.V.VisitBytes.bytes c.args.new_value.now) c.in-Some.met.divergence met) c.find_update.ensures;
+          (update_found (g.V.VisitBytes.bytes c.args.new_value.now) c.in-Some.met.divergence met.1) c.find_update.ensures;
     }

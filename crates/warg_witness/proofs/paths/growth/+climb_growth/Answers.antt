@@ -22,10 +22,6 @@ returns-then-old_length-range g t c =
     growth_starts _ _ _ _ _ _ (reverse c.args.path.now) all c.requires.around
     (sym same ∙ rw (counts c.range.view_is) at (sym c.in_ok-root.ensures)) c.growth_at.ensures
 
-pub growth_at-requires-clause-in_old : goal.growth_at-requires-clause-in_old
-growth_at-requires-clause-in_old g t c = let all = c.if-old_length-range.true ∙ counts c.range.view_is in
-    rw all at c.requires.in_old
-
 pub returns-then-old_length-front : goal.returns-then-old_length-front
 returns-then-old_length-front g t c =
     let more = still_more c.requires.around c.requires.order c.if-old_length-range.false (counts c.range.view_is) in
@@ -90,27 +86,6 @@ returns-in_err-old g t c =
     (rw turn (rest_led _ _ n _ _ c.in_ok-top.below.now more.1 turn rest c.if-old_length-front.false
     c.in_err-old.ensures)))
 
-pub plain_digest-new_rest-requires-clause-aligned : goal.plain_digest-new_rest-requires-clause-aligned
-plain_digest-new_rest-requires-clause-aligned g t c = rw c.split-front.ensures.rest
-    (rest_aligned c.requires.aligned (still_more c.requires.around c.requires.order c.if-old_length-range.false
-    (counts c.range.view_is)).2)
-
-pub growth_at-growth-requires-clause-aligned : goal.growth_at-growth-requires-clause-aligned
-growth_at-growth-requires-clause-aligned g t c = rw c.split-front.ensures.front
-    (front_aligned c.requires.aligned (omega (arith, counts c.split-front.ensures.front)))
-
-pub plain_digest-new_rest-requires-clause-within : goal.plain_digest-new_rest-requires-clause-within
-plain_digest-new_rest-requires-clause-within g t c =
-    omega (
-      arith,
-      starts c.split-front.ensures.rest,
-      counts c.split-front.ensures.rest,
-      counts c.split-front.ensures.front,
-    )
-
-pub growth_at-growth-requires-clause-in_new : goal.growth_at-growth-requires-clause-in_new
-growth_at-growth-requires-clause-in_new g t c = omega (arith, starts c.split-front.ensures.front)
-
 pub climb_growth-requires : goal.climb_growth-requires
 climb_growth-requires g t c κs within =
     let more = still_more c.requires.around c.requires.order c.if-old_length-range.false (counts c.range.view_is) in
@@ -150,10 +125,6 @@ climb_growth-requires-2 g t c κs within =
       ),
     )
 
-pub growth_at-growth-requires-clause-in_old : goal.growth_at-growth-requires-clause-in_old
-growth_at-growth-requires-clause-in_old g t c =
-    omega (arith, starts c.split-front.ensures.front, counts c.front.view_is)
-
 pub up-requires-then-place-rest-clause-old_aligned : goal.up-requires-then-place-rest-clause-old_aligned
 up-requires-then-place-rest-clause-old_aligned g t c =
     let rest = c.rest.view_is ∙ c.split-front.ensures.rest in
@@ -161,39 +132,3 @@ up-requires-then-place-rest-clause-old_aligned g t c =
     (front_aligned (rest_aligned c.requires.aligned
     (still_more c.requires.around c.requires.order c.if-old_length-range.false (counts c.range.view_is)).2)
     (omega (arith, counts (c.front.view_is ∙ c.split-front.ensures.front))))
-
-pub up-requires-then-place-rest-clause-new_aligned : goal.up-requires-then-place-rest-clause-new_aligned
-up-requires-then-place-rest-clause-new_aligned g t c = rw c.split-front.ensures.rest
-    (rest_aligned c.requires.aligned (still_more c.requires.around c.requires.order c.if-old_length-range.false
-    (counts c.range.view_is)).2)
-
-pub up-requires-then-place-rest-clause-old_within : goal.up-requires-then-place-rest-clause-old_within
-up-requires-then-place-rest-clause-old_within g t c =
-    rw c.new-old_rest.ensures (omega (
-      arith,
-      starts (c.rest.view_is ∙ c.split-front.ensures.rest),
-      counts (c.front.view_is ∙ c.split-front.ensures.front),
-    ))
-
-pub up-requires-then-place-rest-clause-new_within : goal.up-requires-then-place-rest-clause-new_within
-up-requires-then-place-rest-clause-new_within g t c =
-    omega (
-      arith,
-      starts c.split-front.ensures.rest,
-      counts c.split-front.ensures.rest,
-      counts c.split-front.ensures.front,
-    )
-
-pub up-requires-2-clause-old_aligned : goal.up-requires-2-clause-old_aligned
-up-requires-2-clause-old_aligned g t c = rw c.split-front.ensures.front
-    (front_aligned c.requires.aligned (omega (arith, counts c.split-front.ensures.front)))
-
-pub up-requires-2-clause-new_aligned : goal.up-requires-2-clause-new_aligned
-up-requires-2-clause-new_aligned g t c = rw c.split-front.ensures.front
-    (front_aligned c.requires.aligned (omega (arith, counts c.split-front.ensures.front)))
-
-pub up-requires-2-clause-old_within : goal.up-requires-2-clause-old_within
-up-requires-2-clause-old_within g t c = omega (arith, starts c.split-front.ensures.front, counts c.front.view_is)
-
-pub up-requires-2-clause-new_within : goal.up-requires-2-clause-new_within
-up-requires-2-clause-new_within g t c = omega (arith, starts c.split-front.ensures.front)

@@ -1,5 +1,4 @@
-use Rattle.std.proofs.Common.{refl}
-use Rattle.warg_witness.proofs.RangeLemmas.{whole_aligned, part_in}
+use Rattle.warg_witness.proofs.RangeLemmas.{part_in}
 use Rattle.warg_witness.proofs.GrowthLemmas.{old_shown, new_shown, shared_same, shared_shown}
 use Rattle.warg_witness.proofs.paths.growth.growth_divergence.Goals as goal
 
@@ -48,6 +47,3 @@ returns-in-Branch-divergence g c =
       c.length.ensures.value,
     ) at c.in-Some.ensures in
     new_shown growth c.requires.leads c.in-Branch-divergence.is
-
-pub climb_growth-growth-requires-clause-aligned : goal.climb_growth-growth-requires-clause-aligned
-climb_growth-growth-requires-clause-aligned g c = rw c.new-whole.ensures (whole_aligned _ refl)

@@ -1,13 +1,6 @@
 use Rattle.std.proofs.lemmas.Result.{IfOk-weaker}
 use Rattle.warg_witness.proofs.AgreementLemmas.{finds_met}
-use Rattle.warg_witness.proofs.HashLemmas.{found_none}
 use Rattle.warg_witness.proofs.paths.tree.witness_tree.Goals as goal
-
-pub find_difference-requires : goal.find_difference-requires
-find_difference-requires g c = rw c.in-Some.is at c.in_ok-trees.ensures.met
-
-pub returns-clause-leads : goal.returns-clause-leads
-returns-clause-leads g c nowhere = absurd (found_none (c.in_ok-trees.ensures.leads nowhere) c.in-Some.is)
 
 pub returns-clause-found : goal.returns-clause-found
 returns-clause-found g c = let met = rw c.in-Some.is at c.in_ok-trees.ensures.met in

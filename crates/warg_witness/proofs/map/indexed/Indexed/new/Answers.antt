@@ -4,8 +4,7 @@ use Rattle.warg_crypto.specs.Bytes.{same_bytes}
 use Rattle.warg_map.specs.Bits.{key_bits}
 use Rattle.warg_map.specs.Last.{last_with, same_bits}
 use Rattle.warg_map.specs.Sparse.{pair_bytes}
-use Rattle.warg_witness.proofs.InsertionLemmas.{length-pair_bytes, last_under-more, lent_more, same_digest_bits}
-use Rattle.warg_witness.proofs.InsertionLemmas.{looked_up_after, by_bytes}
+use Rattle.warg_witness.proofs.InsertionLemmas.{length-pair_bytes, last_under-more, lent_more, same_digest_bits, looked_up_after, by_bytes}
 use Rattle.warg_witness.proofs.map.indexed.Indexed.new.Goals as goal
 
 pub loop-insertion-init : goal.loop-insertion-init
