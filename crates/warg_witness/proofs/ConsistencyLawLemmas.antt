@@ -21,10 +21,9 @@ use Rattle.warg_witness.specs.Private.Divergence.{IsNodeRange, IsAbove, IsRootOf
 use Rattle.warg_witness.specs.Private.Divergence.IsRootOf.{all_leaves, at_front, in_rest}
 use Rattle.warg_witness.proofs.ClimbLemmas.{both_there}
 use Rattle.warg_witness.proofs.CutLemmas.{leaves_count, cut_around}
-use Rattle.warg_witness.proofs.ForkLemmas.{over, branch_at, fork, both_collide}
+use Rattle.warg_witness.proofs.PathLawLemmas.{over, branch_at, fork, both_collide, left_parts, over_size}
 use Rattle.warg_witness.proofs.GrowthLemmas.{same_front}
 use Rattle.warg_witness.proofs.LawLemmas.{difference}
-use Rattle.warg_witness.proofs.PathLawLemmas.{left_parts, over_size}
 use Rattle.warg_witness.proofs.RangeLemmas.{Digest, Data, full_or_not, more_than_one, node_bounds, node_some, part_in, root_contained, root_stands, whole_aligned}
 use Rattle.warg_witness.proofs.RecordLemmas.{plain_root}
 use Rattle.warg_witness.proofs.ShownLemmas.{old_is_cut, root_leads}

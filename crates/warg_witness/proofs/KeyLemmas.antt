@@ -8,11 +8,10 @@ use Rattle.std.specs.Option.{MatchOption, option_map, IfSome}
 use Rattle.warg_witness.specs.MapInputs.{fork_input}
 use Rattle.warg_witness.specs.Private.MapMeeting.{MeetsOnPath, IsAlike, IsKeyMeeting, key_inputs}
 use Rattle.warg_witness.specs.Private.Turns.{Turn, climbed, AreTaken, IsTurnDivergence, IsClimb, bit_turns, IsUp}
-use Rattle.warg_witness.proofs.TurnLemmas.{turn_up}
+use Rattle.warg_witness.proofs.ClimbLemmas.{turn_up, parts_placed, shown}
 use Rattle.warg_witness.specs.declared.divergence.Climb.{Climb}
 use Rattle.warg_witness.specs.declared.divergence.Divergence.{Divergence}
 use Rattle.warg_witness.specs.declared.divergence.Divergence.TheVariants.{Target, Branch}
-use Rattle.warg_witness.proofs.ClimbLemmas.{parts_placed, shown}
 use Rattle.warg_map.proofs.ForCallers.{last_held, all_bits, same_bits-true, same_digest, beside_root, beside_input, beside_replaced}
 use Rattle.std.proofs.lemmas.List.{append-nil, length-map, get_or-map}
 use Rattle.std.proofs.lemmas.Slice.Eq.{bytes_eq-Decides}

@@ -11,7 +11,7 @@ use Rattle.warg_witness.specs.Private.Divergence.{IsNodeRange, side_of, at_botto
 use Rattle.warg_witness.specs.declared.divergence.Climb.{Climb}
 use Rattle.warg_witness.specs.declared.divergence.Divergence.{Divergence}
 use Rattle.warg_witness.proofs.RangeLemmas.{Digest, node_range, Data, node_some, same_or_above, side_around, whole_aligned}
-use Rattle.warg_witness.proofs.ClimbLemmas.{shown, up_somewhere}
+use Rattle.warg_witness.proofs.ClimbLemmas.{shown, up_somewhere, two_ways}
 use Rattle.warg_witness.proofs.CutLemmas.{ranges_start, sides_there, ranges_up, leaves_count, have_root, plain_digest_is}
 use Rattle.warg_log.specs.Nodes.{height_of, start_of}
 use Rattle.warg_witness.specs.Placed.{IsValuePlaced, IsHashPlaced, IsAgreementPlaced}
@@ -30,7 +30,6 @@ use Rattle.warg_map.specs.Last.{last_under}
 use Rattle.warg_witness.specs.MapClaims.{IsKeyAgreement, IsLastValue, IsKeyMet, IsAbsenceMet}
 use Rattle.warg_witness.specs.MapPlaced.{IsKeyPlaced, IsKeyAgreementPlaced, IsPlacedAtPrefix}
 use Rattle.warg_witness.specs.Private.Turns.{bit_turns}
-use Rattle.warg_witness.proofs.TurnLemmas.{two_ways}
 use Rattle.warg_witness.specs.Private.MapMeeting.{IsAlike}
 use Rattle.warg_map.specs.ProofValue.{proof_value}
 use Rattle.warg_witness.specs.MapInputs.{fork_input}

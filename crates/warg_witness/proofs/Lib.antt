@@ -1,12 +1,10 @@
 pub mod ClimbLemmas
-pub mod TurnLemmas
 pub mod CutLemmas
 pub mod HashLemmas
 pub mod GrowthLemmas
 pub mod ShownLemmas
 pub mod RecordLemmas
 pub mod LawLemmas
-pub mod ForkLemmas
 pub mod InsertionLemmas
 pub mod RangeLemmas
 pub mod KeyLemmas

@@ -21,10 +21,9 @@ use Rattle.warg_witness.specs.Private.Turns.{IsUp, Turn, climbed, is_right, leaf
 use Rattle.warg_witness.specs.Private.Divergence.{Shows, at_bottom, inputs_of}
 use Rattle.warg_witness.specs.declared.divergence.Climb.{Climb}
 use Rattle.warg_witness.specs.declared.divergence.Divergence.{Divergence}
-use Rattle.warg_witness.proofs.ClimbLemmas.{shown}
+use Rattle.warg_witness.proofs.ClimbLemmas.{shown, no_turns, turn_up}
 use Rattle.warg_witness.proofs.CutLemmas.{leaves_count, plain_digest_is}
 use Rattle.warg_witness.proofs.RangeLemmas.{Digest, front_aligned, rest_aligned, whole_aligned}
-use Rattle.warg_witness.proofs.TurnLemmas.{no_turns, turn_up}
 
 -- a path that leads somewhere, from a place that is there
 pub leads_inside : (H : Digest) (m n : ℕ) (x root : List ℕ) (path : List (List ℕ)) → inclusion_root H m n x path

@@ -20,10 +20,9 @@ use Rattle.warg_witness.specs.TreePlaced.{IsTreePlaced}
 use Rattle.std.proofs.lemmas.Bool.Decides.{nat_tests}
 use Rattle.warg_witness.proofs.GrowthLemmas.{pair_parts, same_front, all_old, front_turn as roots_front, rest_turn as roots_rest, turning}
 use Rattle.warg_witness.proofs.RecordLemmas.{plain_root}
-use Rattle.warg_witness.proofs.ForkLemmas.{over, branch_at, fork, both_collide}
+use Rattle.warg_witness.proofs.PathLawLemmas.{over, branch_at, fork, both_collide, left_parts, over_size}
 use Rattle.warg_witness.proofs.LawLemmas.{difference}
 use Rattle.warg_witness.proofs.RangeLemmas.{part_in}
-use Rattle.warg_witness.proofs.PathLawLemmas.{left_parts, over_size}
 
 -- where some aren't, no roots are there without digests, and else those of a part
 no_roots : (H : List ℕ → List ℕ) (known : Option (List ℕ)) (m n : ℕ) (roots : List ℕ × List ℕ) → m < n

@@ -142,6 +142,7 @@ pub fn steps_or_collision()
 
 /// A map's own proof of a key whose value was inserted last of its digest meets the claim of any update of it, and the
 /// claim is true.
+#[tactic(auto, using(crate::proofs::LawLemmas::own_met, crate::proofs::LawLemmas::own_updated))]
 pub fn own_update()
     ensures { (H : List ℕ → List ℕ) (insertions : List (List ℕ × List ℕ))
         (key old_value new_value : List ℕ)
@@ -162,6 +163,7 @@ pub fn own_insertion()
 /// Where two maps of insertions have equal roots, each value of the one that its map holds, under the key that was
 /// inserted last of its digest, meets the claim over the other's insertions, by its own proof. So
 /// [`witness_key`](crate::witness_key) returns `Holds` or a collision there.
+#[tactic(auto, using(crate::proofs::LawLemmas::own_met))]
 pub fn equal_roots()
     ensures { (H : List ℕ → List ℕ) (insertions others : List (List ℕ × List ℕ))
         (key value : List ℕ) (peers : List (Option (List ℕ)))

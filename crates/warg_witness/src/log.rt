@@ -40,7 +40,7 @@ pub(crate) struct Meeting<D: SupportedDigest, V: VisitBytes, A: Allocator> {
 }
 
 // The meeting of a proof with a digest at its node with the entries, or None where they don't meet.
-#[tactic(auto, using(crate::proofs::CutLemmas::leaves_count, crate::proofs::HashLemmas::entries_count))]
+#[tactic(auto, using(crate::proofs::CutLemmas::leaves_count, crate::proofs::HashLemmas::entries_count, warg_log::proofs::ForCallers::inclusion_leads))]
 fn meet_entries<D: SupportedDigest, V: VisitBytes, L: LogData<D, V>, A: Allocator + Copy>(
     alloc: A,
     proof: &InclusionProof<D, V>,
@@ -221,6 +221,7 @@ fn collide_value<D: SupportedDigest, V: VisitBytes, A: Allocator + Copy>(
 ///
 /// It hashes each leaf and branch of the tree over the entries once, and besides at most three times as many
 /// branches as the proof's evaluation has. It fails only if allocation fails.
+#[tactic(auto, using(crate::proofs::AgreementLemmas::branches_collide))]
 pub fn witness_hash<D: SupportedDigest, V: VisitBytes, L: LogData<D, V>, A: Allocator + Copy>(
     alloc: A,
     proof: &InclusionProof<D, V>,

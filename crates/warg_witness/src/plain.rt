@@ -34,6 +34,7 @@ pub(crate) fn plain_tree<D: SupportedDigest, V: VisitBytes, A: Allocator>(
 }
 
 /// The tree over the entries, or None where it has another root.
+#[tactic(auto, using(crate::proofs::HashLemmas::meets))]
 pub(crate) fn tree_with_root<D: SupportedDigest, V: VisitBytes, A: Allocator>(
     alloc: A,
     root: &Hash<D>,

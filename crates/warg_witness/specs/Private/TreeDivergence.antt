@@ -44,17 +44,9 @@ descent known m range digests = record { known = known; old_count = m; range = r
 abbrev pub whole_descent : {D V A : _} → (List ℕ → List ℕ) → Trees D V A → List (List ℕ) → Descent
 whole_descent H trees path = descent (Some (root_of H trees.old)) (length trees.old) (leaves_from 0 (length trees.new)) (reverse path)
 
--- The range's leaves that are old.
-abbrev pub old_part : Descent → Range
-old_part d = leaves_from d.range.start d.old_count
-
--- The roots over these and over all, to which what is left of the path leads.
-abbrev pub roots_at : (List ℕ → List ℕ) → Descent → Option (List ℕ × List ℕ)
-roots_at H d = roots_down H d.known d.old_count d.range.count d.digests
-
--- It leads to those of the old and of the new tree.
+-- What is left of the path leads to the roots of the old tree over the old leaves, and of the new one over all.
 abbrev pub LeadsOver : {D V A : _} → (List ℕ → List ℕ) → Trees D V A → Descent → Type 0
-LeadsOver H trees d = roots_at H d ≡ Some (root_at H trees.old (old_part d), root_at H trees.new d.range)
+LeadsOver H trees d = roots_down H d.known d.old_count d.range.count d.digests ≡ Some (root_at H trees.old (leaves_from d.range.start d.old_count), root_at H trees.new d.range)
 
 -- The trees are those over entries that differ at the place, and the range is on a path's way from the old to the new: one of
 -- the new tree, and its old leaves one of the old tree.
@@ -87,10 +79,10 @@ growth_from H trees range digest = record {
 -- What is left of a path leads to the growth's first digests, beside those of the trees. The shared range, with the place,
 -- is one of both, and the evaluations of both roots go up from one digest there.
 pub record IsGrowth {D V A : _} (H : List ℕ → List ℕ) (trees : Trees D V A) (place : ℕ) (d : Descent) (growth : Growth D) : Type 0 where
-  pub roots : roots_at H d ≡ Some (growth.old.first, growth.new.first)
+  pub roots : roots_down H d.known d.old_count d.range.count d.digests ≡ Some (growth.old.first, growth.new.first)
   pub around : IsAround (leaves_from place 1) growth.shared
   pub in_old : IsPart d.range.start d.old_count growth.shared.start growth.shared.count
   pub in_new : IsPart d.range.start d.range.count growth.shared.start growth.shared.count
   pub digest : List ℕ
-  pub old : IsBesideTree H trees.old (PlacedOnGrowth H trees place d) (digest ≡ root_at H trees.old growth.shared) (old_part d) growth.old
+  pub old : IsBesideTree H trees.old (PlacedOnGrowth H trees place d) (digest ≡ root_at H trees.old growth.shared) (leaves_from d.range.start d.old_count) growth.old
   pub new : IsBesideTree H trees.new (PlacedOnGrowth H trees place d) (digest ≡ root_at H trees.new growth.shared) d.range growth.new

@@ -60,19 +60,14 @@ abbrev pub bit_turns : (List ℕ → List ℕ) → List (Option (List ℕ)) → 
 bit_turns H peers [] = []
 bit_turns H peers (bit ∷ below) = record { right = bit; beside = peer_of H peers (length below) } ∷ bit_turns H peers below
 
--- After a step on the side of a bit, with u beside the first digest and v beside the second, the evaluations diverge where
--- they did before, with one digest below and one beside; or the inputs differ, and they diverge here.
-abbrev pub DivergesUp : {D : _} → Bool → Climb D → List ℕ → List ℕ → Divergence D → Type 0
-DivergesUp bit before u v after =
-    ((before.first ≡ before.second) × (u ≡ v) × (after ≡ before.divergence))
-    ⊎ ((input_beside bit u before.first ≡ input_beside bit v before.second → ⊥)
-    × (after ≡ Branch (record { right = bit; first = before.first; first_beside = u; second = before.second; second_beside = v })))
-
--- Such a step.
+-- A step on the side of a bit, with u beside the first digest and v beside the second: the evaluations diverge where they did
+-- before, with one digest below and one beside; or the inputs differ, and they diverge here.
 pub record IsUp {D : _} (H : List ℕ → List ℕ) (bit : Bool) (before : Climb D) (u v : List ℕ) (after : Climb D) : Type 0 where
   pub first_is : after.first ≡ H (input_beside bit u before.first)
   pub second_is : after.second ≡ H (input_beside bit v before.second)
-  pub diverges : DivergesUp bit before u v after.divergence
+  pub diverges : ((before.first ≡ before.second) × (u ≡ v) × (after.divergence ≡ before.divergence))
+      ⊎ ((input_beside bit u before.first ≡ input_beside bit v before.second → ⊥)
+      × (after.divergence ≡ Branch (record { right = bit; first = before.first; first_beside = u; second = before.second; second_beside = v })))
 
 -- One of two paths to leaf m of n, each with the digest of the leaf, and from the topmost digest down, leads to no digest.
 abbrev pub LeadNowhere : (List ℕ → List ℕ) → List ℕ × List (List ℕ) → List ℕ × List (List ℕ) → ℕ → ℕ → Type 0

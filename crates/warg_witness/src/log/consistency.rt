@@ -81,6 +81,7 @@ fn root_around(place: usize, range: &LeafRange) -> LeafRange
 }
 
 // The balanced root of the old length that has the leaf at `place`, and the digest that is held for it.
+#[tactic(auto, using(crate::proofs::ShownLemmas::root_leads))]
 fn held_root<D: SupportedDigest, V: VisitBytes, L: LogData<D, V>, A: Allocator>(
     hashes: &L,
     trees: &Trees<D, V, A>,

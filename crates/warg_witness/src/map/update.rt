@@ -27,6 +27,7 @@ use warg_map::Proof;
 ///
 /// It costs what [`witness_key`](crate::witness_key) does, and at most two digests of the key and of the new value and
 /// 512 branches more. It fails only if allocation fails.
+#[tactic(auto, using(crate::proofs::AgreementLemmas::branches_collide))]
 pub fn witness_update<
     D: SupportedDigest,
     K: VisitBytes,
@@ -57,6 +58,7 @@ pub fn witness_update<
 
 /// What a proof shows that doesn't lead from the new value to the new root, where its evaluation diverges from the plain
 /// tree.
+#[tactic(auto, using(crate::proofs::HashLemmas::meets))]
 pub(crate) fn find_update<
     'a,
     D: SupportedDigest,

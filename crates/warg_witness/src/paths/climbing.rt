@@ -62,6 +62,7 @@ fn part_of(index: usize, count: usize) -> (bool, usize, usize)
 
 /// Where two evaluations along paths of the place `index` of `length` leaves diverge, or None where they don't lead to one
 /// root. It hashes each branch of both once.
+#[tactic(auto, using(crate::proofs::RecordLemmas::nowhere_never))]
 pub(crate) fn meet_paths<D: SupportedDigest>(
     index: usize,
     length: usize,

@@ -2,10 +2,11 @@
 
 ghost use Rattle.std.specs.Prelude.{◌≡◌, ◌+◌, ◌<◌, ◌≤◌, length, reverse, None, MatchOption};
 ghost use Rattle.warg_log.specs.Ranges.{leaves_from, IsAligned};
+ghost use Rattle.warg_paths.specs.Paths.{roots_down};
 ghost use Rattle.warg_witness.specs.Ranges.{IsAround};
 ghost use Rattle.warg_witness.specs.Private.Divergence.{root_at};
 ghost use Rattle.warg_witness.specs.Private.Turns.{IsUp};
-ghost use Rattle.warg_witness.specs.Private.TreeDivergence.{descent, whole_descent, roots_at, growth_from, LeadsOver, IsGrowth, IsTreeDivergence};
+ghost use Rattle.warg_witness.specs.Private.TreeDivergence.{descent, whole_descent, growth_from, LeadsOver, IsGrowth, IsTreeDivergence};
 
 use crate::divergence::{Climb, Divergence};
 use crate::plain::plain_digest;
@@ -75,7 +76,7 @@ fn growth_at<D: SupportedDigest, V: VisitBytes, A: Allocator>(
 
 // The evaluation and both trees up to a range, from the part that has the leaf at `place` and one digest in the path.
 // None where the path leads to no roots over the range.
-#[tactic(auto, using(warg_log::proofs::ForCallers::starts, warg_log::proofs::ForCallers::counts, crate::proofs::RangeLemmas::front_aligned, crate::proofs::RangeLemmas::rest_aligned))]
+#[tactic(auto, using(warg_log::proofs::ForCallers::starts, warg_log::proofs::ForCallers::counts, crate::proofs::RangeLemmas::front_aligned, crate::proofs::RangeLemmas::rest_aligned, crate::proofs::RecordLemmas::turned, crate::proofs::GrowthLemmas::still_more, crate::proofs::GrowthLemmas::front_lacks, crate::proofs::GrowthLemmas::rest_lacks, warg_paths::proofs::ForCallers::both_short))]
 fn climb_growth<D: SupportedDigest, V: VisitBytes, A: Allocator>(
     trees: &Trees<D, V, A>,
     place: usize,
@@ -90,7 +91,9 @@ fn climb_growth<D: SupportedDigest, V: VisitBytes, A: Allocator>(
     requires in_old { range.now.start + old_length ≤ length trees.now.old }
     requires in_new { range.now.start + range.now.count ≤ length trees.now.new }
     ensures { let d = descent old_root old_length range.now (reverse path.now) in
-        MatchOption result (roots_at D.digest d ≡ None) (IsGrowth D.digest trees.now place d) }
+        MatchOption result
+        (roots_down D.digest old_root old_length range.now.count (reverse path.now) ≡ None)
+        (IsGrowth D.digest trees.now place d) }
 {
     if old_length == range.count {
         let (root, _) = roots_of_subproof(old_root, range.count, range.count, path)?;

@@ -1,10 +1,6 @@
 use Rattle.std.proofs.lemmas.Result.{IfOk-weaker}
-use Rattle.warg_witness.proofs.AgreementLemmas.{branches_collide, hash_found}
+use Rattle.warg_witness.proofs.AgreementLemmas.{hash_found}
 use Rattle.warg_witness.proofs.log.witness_hash.Goals as goal
-
-pub find_hash-requires : goal.find_hash-requires
-find_hash-requires g c = let met = rw c.in-Some.is at c.in_ok-met.ensures.met in
-    branches_collide _ c.in-Some.met.divergence _ _ met.1.diverges
 
 pub returns-clause-found : goal.returns-clause-found
 returns-clause-found g c = let met = rw c.in-Some.is at c.in_ok-met.ensures.met in

@@ -1,7 +1,7 @@
 use Rattle.std.proofs.Common.{◌≡◌, sym, arith}
 use Rattle.warg_map.proofs.ForCallers.{last_bits-more, last_bits-none, length-last_bits}
 use Rattle.warg_witness.proofs.KeyLemmas.{bit_up, keys_met}
-use Rattle.warg_witness.proofs.TurnLemmas.{no_turns}
+use Rattle.warg_witness.proofs.ClimbLemmas.{no_turns}
 use Rattle.warg_witness.proofs.map.path.meet_on_path.Goals as goal
 
 pub loop-height-init : goal.loop-height-init

@@ -1,12 +1,8 @@
 use Rattle.std.proofs.lemmas.Result.{IfOk-weaker}
 use Rattle.warg_map.specs.Sparse.{pair_bytes}
 use Rattle.warg_witness.specs.MapClaims.{IsKeyMet}
-use Rattle.warg_witness.proofs.AgreementLemmas.{branches_collide, update_found}
+use Rattle.warg_witness.proofs.AgreementLemmas.{update_found}
 use Rattle.warg_witness.proofs.map.update.witness_update.Goals as goal
-
-pub find_update-requires : goal.find_update-requires
-find_update-requires g c = let met = rw c.in-Some.is at c.in_ok-met.ensures in
-    branches_collide _ c.in-Some.met.divergence _ _ met.1.diverges
 
 pub returns : goal.returns
 returns g c =

@@ -1,10 +1,6 @@
 use Rattle.std.proofs.Common.{arith}
-use Rattle.warg_witness.proofs.RecordLemmas.{nowhere_never, paths_met}
+use Rattle.warg_witness.proofs.RecordLemmas.{paths_met}
 use Rattle.warg_witness.proofs.paths.climbing.meet_paths.Goals as goal
-
-pub returns-in_err-climb_paths : goal.returns-in_err-climb_paths
-returns-in_err-climb_paths g c = rw c.from_residual.ensures
-    (nowhere_never _ _ _ c.args.first_path.now c.args.second_path.now _ _ c.in_err-climb_paths.ensures)
 
 pub returns : goal.returns
 returns g c = paths_met _ _ _ c.args.first_path.now c.args.second_path.now _ _ c.in_ok-climb_paths.ensures

@@ -1,10 +1,9 @@
 use Rattle.std.proofs.Common.{◌≡◌, refl, sym, ◌∙◌, reverse, arith, rules}
-use Rattle.warg_paths.proofs.ForCallers.{both_short}
 use Rattle.warg_log.specs.Tree.{front_of}
 use Rattle.warg_log.proofs.ForCallers.{starts, counts}
 use Rattle.warg_witness.proofs.RangeLemmas.{front_aligned, rest_aligned}
 use Rattle.warg_witness.proofs.RecordLemmas.{turned}
-use Rattle.warg_witness.proofs.GrowthLemmas.{subproof_is, growth_starts, still_more, front_up, rest_up, shared_up, front_lacks, rest_lacks, rest_led, front_takes, rest_takes}
+use Rattle.warg_witness.proofs.GrowthLemmas.{subproof_is, growth_starts, still_more, front_up, rest_up, shared_up, rest_lacks, rest_led, front_takes, rest_takes}
 use Rattle.warg_witness.proofs.paths.growth.+climb_growth.Goals as goal
 
 pub returns-in_err-root : goal.returns-in_err-root
@@ -55,25 +54,6 @@ returns g t c =
     c.requires.in_new (rw turn at c.if-old_length-front.false)
     (rw (turn, c.split-front.ensures.rest) at c.in_ok-growth-2.ensures) up.shared (rw front at up.old)
     (rw front at up.new))
-
-pub returns-in_err-top : goal.returns-in_err-top
-returns-in_err-top g t c =
-    let more = still_more c.requires.around c.requires.order c.if-old_length-range.false (counts c.range.view_is) in
-    rw c.from_residual-in_err-top.ensures (both_short _ _ _ _ _ more.1 c.in_err-top.ensures.cases)
-
-pub returns-in_err-growth : goal.returns-in_err-growth
-returns-in_err-growth g t c =
-    let more = still_more c.requires.around c.requires.order c.if-old_length-range.false (counts c.range.view_is) in
-    let turn = counts (c.front.view_is ∙ c.split-front.ensures.front) in
-    rw (c.from_residual-in_err-growth.ensures, turned _ _ _ c.in_ok-top.ensures.cases.0)
-    (front_lacks _ _ _ _ _ _ more.1 turn (counts c.split-front.ensures.front) c.if-old_length-front.true c.in_err-growth.ensures)
-
-pub returns-in_err-growth-2 : goal.returns-in_err-growth-2
-returns-in_err-growth-2 g t c =
-    let more = still_more c.requires.around c.requires.order c.if-old_length-range.false (counts c.range.view_is) in
-    let turn = counts (c.front.view_is ∙ c.split-front.ensures.front) in
-    rw (c.from_residual-in_err-growth-2.ensures, turned _ _ _ c.in_ok-top.ensures.cases.0)
-    (rest_lacks _ _ _ _ _ _ more.1 turn (counts c.split-front.ensures.rest) c.if-old_length-front.false c.in_err-growth-2.ensures)
 
 pub returns-in_err-old : goal.returns-in_err-old
 returns-in_err-old g t c =

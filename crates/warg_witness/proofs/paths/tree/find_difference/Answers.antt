@@ -1,9 +1,6 @@
 use Rattle.warg_witness.proofs.ShownLemmas.{differs_not_begins}
-use Rattle.warg_witness.proofs.GrowthLemmas.{whole_growth, growth_shown}
+use Rattle.warg_witness.proofs.GrowthLemmas.{growth_shown}
 use Rattle.warg_witness.proofs.paths.tree.find_difference.Goals as goal
-
-pub growth_divergence-divergence-requires-clause-leads : goal.growth_divergence-divergence-requires-clause-leads
-growth_divergence-divergence-requires-clause-leads g c = whole_growth _ _ _ _ _ c.requires
 
 pub collide-requires : goal.collide-requires
 collide-requires g c =
