@@ -14,6 +14,7 @@ use Rattle.warg_witness.specs.Inputs.{plain_input, cut_input}
 use Rattle.warg_witness.specs.Private.Turns.{IsUp}
 use Rattle.warg_witness.specs.Private.Divergence.{at_bottom, HaveOneDigest, DivergesAt, LackDigest, IsRangeClimb, IsNodeRange, IsAbove, side_of}
 use Rattle.warg_witness.specs.declared.divergence.Climb.{Climb}
+use Rattle.warg_witness.proofs.HashLemmas.{entries_count}
 use Rattle.warg_witness.proofs.ClimbLemmas.{parts_placed, up_parts, both_there}
 use Rattle.warg_witness.proofs.RangeLemmas.{Digest, Data, node_some, side_part, IsPart-trans, whole_aligned, front_aligned, rest_aligned, part_in}
 
@@ -89,6 +90,8 @@ module _ (H : Digest) (F : Data) (x : List ℕ) (G : Data) (y : List ℕ) (targe
 -- the leaves are as many as the entries
 pub leaves_count : (H : Digest) (entries : List (List ℕ)) → length (leaves_of H entries) ≡ length entries
 leaves_count H entries = length-map entries (λ e. H (0 ∷ e))
+
+pub ruleset counted = (leaves_count, entries_count)
 
 -- An evaluation and the tree of these leaf digests diverge at these inputs.
 abbrev pub DivergesFrom : Digest → Evaluation → List (List ℕ) → List ℕ → List ℕ → Type 0

@@ -7,7 +7,7 @@ use Rattle.warg_crypto.specs.Tree.{branch_input, input_beside}
 use Rattle.warg_log.specs.Cut.{with_own}
 use Rattle.warg_log.specs.Tree.{front_of, leaves_of, root_of}
 use Rattle.warg_log.proofs.ForCallers.{front_is_greatest, front_of_is, root_over_parts}
-use Rattle.warg_log.specs.Ranges.{Range, leaves_from, front_part, rest_part, IsAligned}
+use Rattle.warg_log.specs.Ranges.{Range, leaves_from, front_part, rest_part}
 use Rattle.warg_paths.specs.Paths.{roots_down, consistency_roots, subproof_roots, one_root, twice, grown, both_over}
 use Rattle.warg_witness.specs.Ranges.{IsPart, IsAround}
 use Rattle.warg_witness.specs.Ranges.IsPart.{whole as part_whole, front as part_front, rest as part_rest}
@@ -27,10 +27,12 @@ use Rattle.warg_witness.specs.declared.paths.growth.Growth.{Growth}
 use Rattle.warg_witness.specs.declared.trees.Trees.{Trees}
 use Rattle.warg_witness.specs.declared.divergence.Divergence.TheVariants.{Target, Branch}
 use Rattle.warg_witness.proofs.ClimbLemmas.{parts_placed, up_parts}
+use Rattle.warg_paths.proofs.ForCallers.{both_short}
+use Rattle.warg_witness.proofs.HashLemmas.{entries_count}
 use Rattle.warg_witness.proofs.CutLemmas.{leaves_count}
-use Rattle.warg_witness.proofs.RangeLemmas.{Digest, IsPart-trans, front_aligned, rest_aligned}
-use Rattle.warg_witness.proofs.ShownLemmas.{both_shown}
-use Rattle.warg_witness.proofs.RecordLemmas.{plain_root}
+use Rattle.warg_witness.proofs.RangeLemmas.{Digest, IsPart-trans}
+use Rattle.warg_witness.proofs.ShownLemmas.{both_shown, difference_in}
+use Rattle.warg_witness.proofs.RecordLemmas.{plain_root, turned}
 
 -- two roots are the same one by one
 pub pair_parts : (p q : List ℕ × List ℕ) → Some p ≡ Some q → (p.0 ≡ q.0) × (p.1 ≡ q.1)
@@ -77,28 +79,6 @@ front_some n more = let f = front_is_greatest n more in rw f.0.1 (pow_pos f.0.0)
 pub still_more : {place a m n l : ℕ} → IsAround (leaves_from place 1) (leaves_from a m) → m ≤ n → (m ≡ l → ⊥) → l ≡ n → (0 < m) × (m < n) × (1 < n)
 still_more {m = m} {n = n} around order other is = let more : 0 < m = omega arith in let wide : m < n = grind arith in
     (more, wide, omega arith)
-
--- what holds of a range around a place, not all of whose leaves are old, holds of the part in which the old leaves end
-module _ {place a m n k old new : ℕ} (more : m < n) (front_is : k ≡ front_of n)
-    (around : IsAround (leaves_from place 1) (leaves_from a m)) (aligned : IsAligned a n) (in_old : a + m ≤ old)
-    (in_new : a + n ≤ new) where
-  pub front_takes : m ≤ k → (m ≤ front_of n)
-      × (IsAround (leaves_from place 1) (leaves_from a m) × (IsAligned a (front_of n) × ((a + m ≤ old) × (a + front_of n ≤ new))))
-  front_takes low = let f = front_is_greatest n (omega arith) in
-      (omega arith, (around, (front_aligned aligned (omega arith), (in_old, omega arith))))
-
-  pub rest_takes : {e : ℕ} → e ≡ a + front_of n → k < m → e ≤ place
-      → (m - k ≤ n - front_of n) × (IsAround (leaves_from place 1) (leaves_from (a + front_of n) (m - k))
-      × (IsAligned (a + front_of n) (n - front_of n)
-      × ((a + front_of n + (m - k) ≤ old) × (a + front_of n + (n - front_of n) ≤ new))))
-  rest_takes rest_is high right =
-      let f = front_is_greatest n (omega arith) in (
-        omega arith,
-        (
-          record { starts = omega arith; ends = omega arith },
-          (rest_aligned aligned (omega arith), (omega arith, omega arith)),
-        ),
-      )
 
 -- where all leaves are old, there is one root
 pub all_old : (H : Digest) (known : Option (List ℕ)) (m n : ℕ) (digests : List (List ℕ)) (o w : List ℕ) → m ≡ n
@@ -404,3 +384,8 @@ module _ (H : Digest) (old new : List (List ℕ)) {m n : ℕ} {plain o v : List 
     new_is = new_is;
     met = rw (old_count, new_count, ← plain_is) (sym led ∙ rw (old_root, new_root, plain_is) refl);
   }
+
+-- what the checks of functions over paths and both trees try
+pub ruleset lacking = (turned, still_more, front_lacks, rest_lacks, rest_led, subproof_is, both_short)
+
+pub ruleset whole_trees = (leaves_count, entries_count, difference_in, whole_growth)

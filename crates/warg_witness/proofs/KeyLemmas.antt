@@ -247,3 +247,5 @@ module _ (H : List ℕ → List ℕ) (peers : List (Option (List ℕ))) (key val
         of_value true t = keys_shown e digests last ((bytes_eq-Decides value e.1).0 t)
         of_value false f = leaf_shown e.1 is (ap value_in (sym last))
             (not_from_Decides _ (bytes_eq-Decides value e.1) f)
+
+pub ruleset same_values = (bytes_eq-Decides)

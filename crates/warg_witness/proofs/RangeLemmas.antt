@@ -10,7 +10,7 @@ use Rattle.warg_witness.specs.Ranges.IsPart.{whole, front, rest}
 use Rattle.warg_log.specs.Ranges.{Range, leaves_from, range_of, front_part, rest_part, IsAligned}
 use Rattle.warg_witness.specs.Private.Divergence.{IsNodeRange, IsAbove, IsRootOf, side_of}
 use Rattle.warg_witness.specs.Private.Divergence.IsRootOf.{all_leaves, at_front, in_rest}
-use Rattle.warg_log.proofs.ForCallers.{same_range, starts, target_decides, below_pow, front_is_greatest, balanced_full, balanced_parts, over_at, pow_below_pow}
+use Rattle.warg_log.proofs.ForCallers.{same_range, starts, counts, target_decides, below_pow, front_is_greatest, balanced_full, balanced_parts, over_at, pow_below_pow}
 use Rattle.std.specs.List.{Contains}
 
 -- A digest function, and digests by node, as data holds them.
@@ -178,6 +178,15 @@ front_node range aligned more = let f = front_is_greatest range.count more in
     full_node (front_aligned aligned (omega arith)) f.0
 
 pub ruleset root_parts = (all_leaves, at_front, in_rest)
+
+-- what the checks of functions over ranges try
+pub ruleset wholes = (whole_aligned, starts)
+
+pub ruleset leaves = (leaf_aligned, leaf_node, counts)
+
+pub ruleset parts = (front_aligned, rest_aligned, starts, counts)
+
+pub ruleset sides = (above_one, front_side, rest_side, starts)
 
 -- the leaves below the node over a range
 pub node_bounds : {range : Range} → IsNodeRange range → range_of (node_over range.start range.count) ≡ range

@@ -245,8 +245,8 @@ pub consistency_met : {X : Type 0} (H : Digest) (F : Data) {m n : ℕ} (old new 
     (old_of new_of : X → List (List ℕ)) → length old ≡ m → length new ≡ n → length new ≤ 2 ^ 63 → consistency H F m n
     ≡ Ok (x, y) → (met : Option X)
     → MatchOption met ((x ≡ root_of H (leaves_of H old)) × (y ≡ root_of H (leaves_of H new)) → ⊥)
-    (λ t. (old_of t ≡ leaves_of H old) × (new_of t ≡ leaves_of H new) × (x ≡ root_of H (leaves_of H old))
-    × (y ≡ root_of H (leaves_of H new)))
+    (λ t. (old_of t ≡ leaves_of H old) × (new_of t ≡ leaves_of H new)
+    × ((x ≡ root_of H (leaves_of H old)) × (y ≡ root_of H (leaves_of H new))))
     → MatchOption met (IsConsistencyMet H F m n old new → ⊥)
     (λ t. IsConsistencyMet H F m n old new × IsConsistencyMeeting H F old new (old_of t) (new_of t))
 consistency_met H F old new {x} {y} old_of new_of old_count new_count fits leads None other = λ met.
@@ -255,7 +255,7 @@ consistency_met H F old new {x} {y} old_of new_of old_count new_count fits leads
     other (ap (λ (two : List ℕ × List ℕ). two.0) same, ap (λ (two : List ℕ × List ℕ). two.1) same)
 consistency_met H F {m} {n} old new old_of new_of old_count new_count fits leads (Some t) is =
     let roots : IsConsistent H F m n (root_of H (leaves_of H old)) (root_of H (leaves_of H new)) =
-    rw (← is.2, ← is.3) (consistency_only H F _ _ _ _ leads) in (
+    rw (← is.2.0, ← is.2.1) (consistency_only H F _ _ _ _ leads) in (
       record { old_count = old_count; new_count = new_count; roots = roots },
       record {
         old_is = is.0;

@@ -40,7 +40,7 @@ pub(crate) struct Meeting<D: SupportedDigest, V: VisitBytes, A: Allocator> {
 }
 
 // The meeting of a proof with a digest at its node with the entries, or None where they don't meet.
-#[tactic(auto, using(crate::proofs::CutLemmas::leaves_count, crate::proofs::HashLemmas::entries_count, warg_log::proofs::ForCallers::inclusion_leads))]
+#[tactic(auto, using(crate::proofs::CutLemmas::counted, warg_log::proofs::ForCallers::inclusion_leads))]
 fn meet_entries<D: SupportedDigest, V: VisitBytes, L: LogData<D, V>, A: Allocator + Copy>(
     alloc: A,
     proof: &InclusionProof<D, V>,
@@ -70,7 +70,7 @@ fn meet_entries<D: SupportedDigest, V: VisitBytes, L: LogData<D, V>, A: Allocato
 }
 
 // The meeting of a proof with a tree that is as long as it says, or None where they don't meet.
-#[tactic(auto, using(crate::proofs::RangeLemmas::whole_aligned, warg_log::proofs::ForCallers::starts))]
+#[tactic(auto, using(crate::proofs::RangeLemmas::wholes))]
 fn meet_tree<D: SupportedDigest, V: VisitBytes, L: LogData<D, V>, A: Allocator>(
     proof: &InclusionProof<D, V>,
     hashes: &L,
@@ -184,7 +184,7 @@ fn is_entry_at<V: VisitBytes>(
 }
 
 // The collision of a value's leaf with what the tree over the entries hashes at the target, or of the branches above.
-#[tactic(auto, using(crate::proofs::RangeLemmas::rest_aligned, warg_log::proofs::ForCallers::starts, warg_log::proofs::ForCallers::counts, crate::proofs::CutLemmas::leaves_count, crate::proofs::HashLemmas::entries_count))]
+#[tactic(auto, using(crate::proofs::RangeLemmas::parts, crate::proofs::CutLemmas::counted))]
 fn collide_value<D: SupportedDigest, V: VisitBytes, A: Allocator + Copy>(
     alloc: A,
     value: &V,
@@ -273,7 +273,7 @@ fn find_hash<D: SupportedDigest, A: Allocator + Copy>(
 ///
 /// It hashes both values, and each branch of both evaluations once. It fails only if allocation fails. A value of more
 /// than `usize::MAX` bytes counts as that.
-#[tactic(auto, using(crate::proofs::RangeLemmas::whole_aligned, warg_log::proofs::ForCallers::starts))]
+#[tactic(auto, using(crate::proofs::RangeLemmas::wholes))]
 pub fn agree_value<
     D: SupportedDigest,
     V: VisitBytes,

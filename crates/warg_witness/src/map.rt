@@ -109,6 +109,7 @@ fn collide<D: SupportedDigest, K: VisitBytes, V: VisitBytes, W: VisitBytes, A: A
 
 // The collision of a key and a value with an insertion: of the keys where the values have the same bytes, else of the
 // leaves.
+#[tactic(auto, using(crate::proofs::KeyLemmas::same_values))]
 fn collide_inserted<
     D: SupportedDigest,
     K: VisitBytes,

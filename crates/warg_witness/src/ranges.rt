@@ -11,7 +11,7 @@ use warg_crypto::{Hash, SupportedDigest, VisitBytes};
 use warg_log::{LeafRange, LogData, range_root};
 
 /// The part of a larger range that has the target, the part beside it, and whether the first is the one on the right.
-#[tactic(auto, using(crate::proofs::RangeLemmas::above_one, crate::proofs::RangeLemmas::front_side, crate::proofs::RangeLemmas::rest_side, warg_log::proofs::ForCallers::starts))]
+#[tactic(auto, using(crate::proofs::RangeLemmas::sides))]
 pub(crate) fn sides_around(target: &LeafRange, range: &LeafRange) -> (LeafRange, LeafRange, bool)
     requires node { IsNodeRange target.now }
     requires aligned { IsAligned range.now.start range.now.count }

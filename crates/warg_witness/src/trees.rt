@@ -33,13 +33,11 @@ pub(crate) fn trees_with_roots<D: SupportedDigest, V: VisitBytes, A: Allocator +
 ) -> Result<Option<Trees<D, V, A>>, AllocError>
     requires old_fits { length old.now ≤ GREATEST_LENGTH }
     requires new_fits { length new.now ≤ GREATEST_LENGTH }
-    ensures { IfOk result (λ found. MatchOption found
-        ((old_root.now ≡ root_of D.digest (leaves_of D.digest (map V.bytes old.now)))
-        × (new_root.now ≡ root_of D.digest (leaves_of D.digest (map V.bytes new.now))) → ⊥)
-        (λ trees. (trees.old ≡ leaves_of D.digest (map V.bytes old.now))
-        × (trees.new ≡ leaves_of D.digest (map V.bytes new.now))
-        × (old_root.now ≡ root_of D.digest (leaves_of D.digest (map V.bytes old.now)))
-        × (new_root.now ≡ root_of D.digest (leaves_of D.digest (map V.bytes new.now))))) }
+    ensures { let xs = leaves_of D.digest (map V.bytes old.now) in
+        let ys = leaves_of D.digest (map V.bytes new.now) in
+        let met = (old_root.now ≡ root_of D.digest xs) × (new_root.now ≡ root_of D.digest ys) in
+        IfOk result (λ found. MatchOption found (¬ met)
+        (λ trees. (trees.old ≡ xs) × (trees.new ≡ ys) × met)) }
 {
     let Some(old_tree) = tree_with_root(alloc, old_root, old)? else {
         return Ok(None);
@@ -79,7 +77,7 @@ fn is_same_entry<D: SupportedDigest, V: VisitBytes, A: Allocator>(
 }
 
 /// The first place at which the new entries have other bytes than the old ones, if there is one.
-#[tactic(auto, using(crate::proofs::ShownLemmas::leaf_at, crate::proofs::CutLemmas::leaves_count, crate::proofs::HashLemmas::entries_count))]
+#[tactic(auto, using(crate::proofs::ShownLemmas::leaf_at, crate::proofs::CutLemmas::counted))]
 pub(crate) fn first_difference<D: SupportedDigest, V: VisitBytes, A: Allocator>(
     trees: &Trees<D, V, A>,
     old: &[V],
@@ -101,7 +99,7 @@ pub(crate) fn first_difference<D: SupportedDigest, V: VisitBytes, A: Allocator>(
 }
 
 /// Where two trees that have one digest at a range diverge on the way to the leaf at `place`.
-#[tactic(auto, using(crate::proofs::RangeLemmas::leaf_aligned, crate::proofs::RangeLemmas::leaf_node, warg_log::proofs::ForCallers::counts))]
+#[tactic(auto, using(crate::proofs::RangeLemmas::leaves))]
 pub(crate) fn divergence_below<D: SupportedDigest, V: VisitBytes, A: Allocator>(
     trees: &Trees<D, V, A>,
     range: &LeafRange,

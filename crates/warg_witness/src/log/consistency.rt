@@ -103,7 +103,7 @@ fn held_root<D: SupportedDigest, V: VisitBytes, L: LogData<D, V>, A: Allocator>(
 }
 
 // Where the evaluation, with a digest at a node, diverges from the tree to whose root it leads.
-#[tactic(auto, using(crate::proofs::RangeLemmas::whole_aligned, warg_log::proofs::ForCallers::starts))]
+#[tactic(auto, using(crate::proofs::RangeLemmas::wholes))]
 fn divergence_from<D: SupportedDigest, V: VisitBytes, L: LogData<D, V>, A: Allocator>(
     hashes: &L,
     hash: &Hash<D>,
@@ -199,7 +199,7 @@ pub fn witness_consistency<
 }
 
 // What the trees over the entries show to whose roots the proof leads.
-#[tactic(auto, using(crate::proofs::CutLemmas::leaves_count, crate::proofs::HashLemmas::entries_count, crate::proofs::ShownLemmas::difference_in))]
+#[tactic(auto, using(crate::proofs::CutLemmas::counted, crate::proofs::ShownLemmas::difference_in))]
 fn find_difference<D: SupportedDigest, V: VisitBytes, L: LogData<D, V>, A: Allocator + Copy>(
     alloc: A,
     hashes: &L,

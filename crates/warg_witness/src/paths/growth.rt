@@ -76,7 +76,7 @@ fn growth_at<D: SupportedDigest, V: VisitBytes, A: Allocator>(
 
 // The evaluation and both trees up to a range, from the part that has the leaf at `place` and one digest in the path.
 // None where the path leads to no roots over the range.
-#[tactic(auto, using(warg_log::proofs::ForCallers::starts, warg_log::proofs::ForCallers::counts, crate::proofs::RangeLemmas::front_aligned, crate::proofs::RangeLemmas::rest_aligned, crate::proofs::RecordLemmas::turned, crate::proofs::GrowthLemmas::still_more, crate::proofs::GrowthLemmas::front_lacks, crate::proofs::GrowthLemmas::rest_lacks, warg_paths::proofs::ForCallers::both_short))]
+#[tactic(auto, using(crate::proofs::RangeLemmas::parts, crate::proofs::GrowthLemmas::lacking))]
 fn climb_growth<D: SupportedDigest, V: VisitBytes, A: Allocator>(
     trees: &Trees<D, V, A>,
     place: usize,
@@ -124,7 +124,7 @@ fn climb_growth<D: SupportedDigest, V: VisitBytes, A: Allocator>(
 /// Where the evaluation of a path that leads to the roots of both trees diverges from one of them, or else both trees
 /// diverge on the way to the leaf at `place`. It hashes each branch of the evaluation once, and each of the trees' beside
 /// it.
-#[tactic(auto, using(crate::proofs::RangeLemmas::whole_aligned, warg_log::proofs::ForCallers::starts))]
+#[tactic(auto, using(crate::proofs::RangeLemmas::wholes))]
 pub(super) fn growth_divergence<D: SupportedDigest, V: VisitBytes, A: Allocator>(
     trees: &Trees<D, V, A>,
     place: usize,

@@ -110,7 +110,7 @@ pub fn witness_tree<D: SupportedDigest, V: VisitBytes, A: Allocator + Copy>(
 }
 
 // What the trees over the entries show to whose roots the path leads.
-#[tactic(auto, using(crate::proofs::CutLemmas::leaves_count, crate::proofs::HashLemmas::entries_count, crate::proofs::ShownLemmas::difference_in, crate::proofs::GrowthLemmas::whole_growth))]
+#[tactic(auto, using(crate::proofs::GrowthLemmas::whole_trees))]
 fn find_difference<D: SupportedDigest, V: VisitBytes, A: Allocator + Copy>(
     alloc: A,
     path: &[Hash<D>],

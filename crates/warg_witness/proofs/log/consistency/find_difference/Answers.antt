@@ -1,12 +1,6 @@
 use Rattle.warg_witness.proofs.ShownLemmas.{differs_not_begins}
 use Rattle.warg_witness.proofs.log.consistency.find_difference.Goals as goal
 
-pub collide-requires : goal.collide-requires
-collide-requires g c =
-    let differs = rw c.in-Some.is at c.in_ok-place.ensures in
-    rw (← c.entry_at-old_entry.ensures, ← c.entry_at-new_entry.ensures)
-    (c.divergence_at-divergence.ensures _ _ c.requires.old_is c.requires.new_is differs.differ).collides
-
 pub returns : goal.returns
 returns g c =
     let differs = rw c.in-Some.is at c.in_ok-place.ensures in

@@ -1,17 +1,10 @@
-use Rattle.std.proofs.Common.{◌≡◌, refl, sym, ◌∙◌, reverse, arith, rules}
+use Rattle.std.proofs.Common.{◌≡◌, sym, ◌∙◌, reverse, arith}
 use Rattle.warg_log.specs.Tree.{front_of}
 use Rattle.warg_log.proofs.ForCallers.{starts, counts}
 use Rattle.warg_witness.proofs.RangeLemmas.{front_aligned, rest_aligned}
 use Rattle.warg_witness.proofs.RecordLemmas.{turned}
-use Rattle.warg_witness.proofs.GrowthLemmas.{subproof_is, growth_starts, still_more, front_up, rest_up, shared_up, rest_lacks, rest_led, front_takes, rest_takes}
+use Rattle.warg_witness.proofs.GrowthLemmas.{subproof_is, growth_starts, still_more, front_up, rest_up, shared_up, rest_led}
 use Rattle.warg_witness.proofs.paths.growth.+climb_growth.Goals as goal
-
-pub returns-in_err-root : goal.returns-in_err-root
-returns-in_err-root g t c =
-    let all = c.if-old_length-range.true ∙ counts c.range.view_is in
-    let n = c.args.range.now.count in
-    let same = subproof_is g.D.SupportedDigest.digest c.args.old_root n n c.args.path.now (omega arith) (omega arith) in
-    rw (c.from_residual.ensures, all) (sym same ∙ rw (counts c.range.view_is) at (sym c.in_err-root.ensures))
 
 pub returns-then-old_length-range : goal.returns-then-old_length-range
 returns-then-old_length-range g t c =
@@ -54,56 +47,6 @@ returns g t c =
     c.requires.in_new (rw turn at c.if-old_length-front.false)
     (rw (turn, c.split-front.ensures.rest) at c.in_ok-growth-2.ensures) up.shared (rw front at up.old)
     (rw front at up.new))
-
-pub returns-in_err-old : goal.returns-in_err-old
-returns-in_err-old g t c =
-    let n = c.args.range.now.count in
-    let more = still_more c.requires.around c.requires.order c.if-old_length-range.false (counts c.range.view_is) in
-    let turn : c.front.inside.count ≡ front_of n = counts (c.front.view_is ∙ c.split-front.ensures.front) in
-    let rest = counts (c.rest.view_is ∙ c.split-front.ensures.rest) in
-    rw (c.from_residual-in_err-old.ensures, turned _ _ _ c.in_ok-top.ensures.cases.0)
-    (rest_lacks _ _ _ _ _ _ more.1 turn refl c.if-old_length-front.false
-    (rw turn (rest_led _ _ n _ _ c.in_ok-top.below.now more.1 turn rest c.if-old_length-front.false
-    c.in_err-old.ensures)))
-
-pub climb_growth-requires : goal.climb_growth-requires
-climb_growth-requires g t c κs within =
-    let more = still_more c.requires.around c.requires.order c.if-old_length-range.false (counts c.range.view_is) in
-    let front = c.front.view_is ∙ c.split-front.ensures.front in
-    rw c.split-front.ensures.front (
-      search rules,
-      (
-        within.0,
-        (
-          within.1.0,
-          (
-            within.1.1,
-            front_takes more.1 (counts front) c.requires.around c.requires.aligned c.requires.in_old
-                c.requires.in_new c.if-old_length-front.true,
-          ),
-        ),
-      ),
-    )
-
-pub climb_growth-requires-2 : goal.climb_growth-requires-2
-climb_growth-requires-2 g t c κs within =
-    let more = still_more c.requires.around c.requires.order c.if-old_length-range.false (counts c.range.view_is) in
-    let front = c.front.view_is ∙ c.split-front.ensures.front in
-    let rest = c.rest.view_is ∙ c.split-front.ensures.rest in
-    rw c.split-front.ensures.rest (
-      search rules,
-      (
-        within.0,
-        (
-          within.1.0,
-          (
-            within.1.1,
-            rest_takes more.1 (counts front) c.requires.around c.requires.aligned c.requires.in_old
-                c.requires.in_new (starts rest) c.if-old_length-front.false c.if-place-rest.false,
-          ),
-        ),
-      ),
-    )
 
 pub up-requires-then-place-rest-clause-old_aligned : goal.up-requires-then-place-rest-clause-old_aligned
 up-requires-then-place-rest-clause-old_aligned g t c =
