@@ -1,5 +1,5 @@
 -- Hashes and entries that the code compares and counts.
-use Rattle.std.proofs.Common.{◌≡◌, ℕ, List, length, map, Option, Some, None, Result, Ok}
+use Rattle.std.proofs.Common.{◌≡◌, ℕ, List, length, map, Option, Some, None}
 use Rattle.std.proofs.lemmas.List.{length-map}
 use Rattle.std.specs.Cmp.Lexicographic.{bytes_decides}
 
@@ -11,9 +11,5 @@ entries_count bytes entries = length-map entries bytes
 pub ruleset meets = (bytes_decides, entries_count)
 
 -- what is there isn't nothing
-pub found_none : {T E : Type 0} {found : Option T} {it : T} → ◌≡◌ {A = Result (Option T) E} (Ok found) (Ok None)
-    → found ≡ Some it → ⊥
-found_none none is = cc
-
 pub none_some : {T : Type 0} {found : Option T} {it : T} → None ≡ found → found ≡ Some it → ⊥
 none_some none is = cc
