@@ -18,7 +18,7 @@ use Rattle.warg_witness.specs.TreePlaced.{Turning, IsTreePlaced}
 use Rattle.warg_paths.specs.Ways.IsOnGrowth.{whole, front, rest}
 use Rattle.warg_witness.specs.Private.Agreement.{DiffersFirst}
 use Rattle.warg_witness.specs.Private.Divergence.{at_bottom, IsDivergence, Shows, inputs_of, root_at, side_of}
-use Rattle.warg_witness.specs.Private.TreeDivergence.{IsBesideTree, IsTreeMeeting, Descent, descent, whole_descent, LeadsOver, IsTreeDivergence, PlacedOnGrowth, growth_from, IsGrowth}
+use Rattle.warg_witness.specs.Private.Meeting.{IsBesideTree, IsTreeMeeting, Descent, descent, whole_descent, LeadsOver, IsTreeDivergence, PlacedOnGrowth, growth_from, IsGrowth}
 use Rattle.warg_witness.specs.Private.Turns.{IsUp}
 use Rattle.warg_witness.specs.declared.divergence.Branches.{Branches}
 use Rattle.warg_witness.specs.declared.divergence.Climb.{Climb}

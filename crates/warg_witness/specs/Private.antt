@@ -3,5 +3,4 @@ pub mod MapMeeting
 pub mod Meeting
 pub mod Divergence
 pub mod Turns
-pub mod TreeDivergence
 pub mod Agreement

@@ -1,15 +1,24 @@
--- A proof that leads to the root of given entries, and what a witness knows of it.
-use Rattle.std.specs.Prelude.{◌≡◌, ℕ, ◌+◌, ◌^◌, ◌≤◌, List, [], ◌∷◌, length, Option, Some, slice_index_or}
+-- A proof or a path that leads to the roots of given entries, what a witness knows of it, and where its evaluation and the
+-- trees over them diverge. The digests of a path are given from the topmost down.
+use Rattle.std.specs.Prelude.{◌≡◌, ℕ, ◌+◌, ◌^◌, ◌≤◌, List, [], ◌∷◌, length, Option, Some, slice_index_or, ◌<◌, reverse}
 use Rattle.warg_log.specs.Nodes.{node_over}
 use Rattle.warg_log.specs.Tree.{leaves_of, root_of, root_over}
 use Rattle.warg_log.specs.Cut.{Evaluation, with_target, with_own, cut_over}
 use Rattle.warg_log.specs.Consistency.{IsConsistent}
 use Rattle.warg_log.specs.Claims.{InclusionClaim}
 use Rattle.warg_log.specs.Ranges.{Range, leaves_from, range_of, IsAligned}
-use Rattle.warg_witness.specs.Private.Divergence.{IsNodeRange, IsRootOf, IsDivergence, Shows, inputs_of}
+use Rattle.warg_witness.specs.Private.Divergence.{IsNodeRange, IsRootOf, IsDivergence, Shows, inputs_of, at_bottom, Parts, root_at}
 use Rattle.warg_witness.specs.Claims.{IsMet}
 use Rattle.warg_witness.specs.Placed.{IsConsistencyPlaced}
 use Rattle.warg_witness.specs.declared.divergence.Divergence.{Divergence}
+use Rattle.warg_paths.specs.Paths.{roots_down}
+use Rattle.warg_paths.specs.Ways.{IsOnGrowth}
+use Rattle.warg_witness.specs.PathClaims.{IsTreeMet}
+use Rattle.warg_witness.specs.Ranges.{IsPart, IsAround}
+use Rattle.warg_witness.specs.TreePlaced.{IsTreePlaced}
+use Rattle.warg_witness.specs.declared.divergence.Climb.{Climb}
+use Rattle.warg_witness.specs.declared.paths.growth.Growth.{Growth}
+use Rattle.warg_witness.specs.declared.trees.Trees.{Trees}
 
 -- The target is a node's range, within the tree, which has this digest there.
 pub record IsPlainAt (H : List ℕ → List ℕ) (node : ℕ) (tree : List (List ℕ)) (target : Range) (plain : List ℕ) : Type 0 where
@@ -46,3 +55,76 @@ pub record LeadsToBoth (H : List ℕ → List ℕ) (e : Evaluation) (old_tree ne
   pub held : e.held (node_over e.target.start e.target.count) ≡ Some e.digest
   pub to_old : cut_over H e (leaves_from 0 (length old_tree)) ≡ Some (root_of H old_tree)
   pub to_new : cut_over H e (leaves_from 0 (length new_tree)) ≡ Some (root_of H new_tree)
+
+-- A climb's second digest is that of a tree over the range; where an evaluation comes to it there, both diverge nowhere,
+-- and meet at the bottom as said, or they diverge at branches that collide and stand where P says.
+pub record IsBesideTree {D : _} (H : List ℕ → List ℕ) (tree : List (List ℕ)) (P : List ℕ → List ℕ → Type 0) (meet : Type 0) (range : Range) (climb : Climb D) : Type 0 where
+  pub is : climb.second ≡ root_at H tree range
+  pub parts : climb.first ≡ climb.second → Parts H P meet climb.divergence
+
+-- The path leads from the root of the tree over the old entries to the roots of both trees, which can be numbered.
+pub record IsTreeMeeting {D V A : _} (H : List ℕ → List ℕ) (path old new : List (List ℕ)) (trees : Trees D V A) : Type 0 where
+  pub some : 0 < length old
+  pub order : length old ≤ length new
+  pub fits : length new ≤ 2 ^ 63
+  pub old_is : trees.old ≡ leaves_of H old
+  pub new_is : trees.new ≡ leaves_of H new
+  pub met : IsTreeMet H path old new
+
+-- Where a path has come to on the way down: at a range of which so many leaves are old, with the root over these, if it is
+-- known, and with the digests that are left.
+pub record Descent : Type 0 where
+  pub known : Option (List ℕ)
+  pub old_count : ℕ
+  pub range : Range
+  pub digests : List (List ℕ)
+
+abbrev pub descent : Option (List ℕ) → ℕ → Range → List (List ℕ) → Descent
+descent known m range digests = record { known = known; old_count = m; range = range; digests = digests }
+
+-- At its top, from the old tree's root over all leaves.
+abbrev pub whole_descent : {D V A : _} → (List ℕ → List ℕ) → Trees D V A → List (List ℕ) → Descent
+whole_descent H trees path = descent (Some (root_of H trees.old)) (length trees.old) (leaves_from 0 (length trees.new)) (reverse path)
+
+-- What is left of the path leads to the roots of the old tree over the old leaves, and of the new one over all.
+abbrev pub LeadsOver : {D V A : _} → (List ℕ → List ℕ) → Trees D V A → Descent → Type 0
+LeadsOver H trees d = roots_down H d.known d.old_count d.range.count d.digests ≡ Some (root_at H trees.old (leaves_from d.range.start d.old_count), root_at H trees.new d.range)
+
+-- The trees are those over entries that differ at the place, and the range is on a path's way from the old to the new: one of
+-- the new tree, and its old leaves one of the old tree.
+pub record IsOnWayOver {D V A : _} (H : List ℕ → List ℕ) (path old new : List (List ℕ)) (trees : Trees D V A) (place : ℕ) (d : Descent) : Type 0 where
+  pub old_is : trees.old ≡ leaves_of H old
+  pub new_is : trees.new ≡ leaves_of H new
+  pub differ : slice_index_or old place [] ≡ slice_index_or new place [] → ⊥
+  pub on_way : IsOnGrowth (Some (root_of H (leaves_of H old))) (length old) (length new) (reverse path) d.known d.old_count d.range.start d.range.count d.digests
+  pub in_old : IsPart 0 (length old) d.range.start d.old_count
+  pub in_new : IsPart 0 (length new) d.range.start d.range.count
+
+-- Of all entries and all paths for which it is such a range, the divergence shows a collision, or both entries do.
+abbrev pub IsTreeDivergence : {D V A : _} → (List ℕ → List ℕ) → Trees D V A → ℕ → Descent → Divergence D → Type 0
+IsTreeDivergence H trees place d p = (path old new : List (List ℕ)) → IsOnWayOver H path old new trees place d
+    → Shows H (IsTreePlaced H path old new) (inputs_of p (0 ∷ slice_index_or old place []) (0 ∷ slice_index_or new place []))
+
+-- Of all entries and all paths for which it is such a range, two byte lists stand where a collision may.
+abbrev pub PlacedOnGrowth : {D V A : _} → (List ℕ → List ℕ) → Trees D V A → ℕ → Descent → List ℕ → List ℕ → Type 0
+PlacedOnGrowth H trees place d first second =
+    (path old new : List (List ℕ)) → IsOnWayOver H path old new trees place d → IsTreePlaced H path old new first second
+
+-- Both evaluations, from one digest at a range, and both trees there.
+abbrev pub growth_from : {D V A : _} → (List ℕ → List ℕ) → Trees D V A → Range → List ℕ → Growth D
+growth_from H trees range digest = record {
+  shared = range;
+  old = at_bottom digest (root_at H trees.old range);
+  new = at_bottom digest (root_at H trees.new range);
+}
+
+-- What is left of a path leads to the growth's first digests, beside those of the trees. The shared range, with the place,
+-- is one of both, and the evaluations of both roots go up from one digest there.
+pub record IsGrowth {D V A : _} (H : List ℕ → List ℕ) (trees : Trees D V A) (place : ℕ) (d : Descent) (growth : Growth D) : Type 0 where
+  pub roots : roots_down H d.known d.old_count d.range.count d.digests ≡ Some (growth.old.first, growth.new.first)
+  pub around : IsAround (leaves_from place 1) growth.shared
+  pub in_old : IsPart d.range.start d.old_count growth.shared.start growth.shared.count
+  pub in_new : IsPart d.range.start d.range.count growth.shared.start growth.shared.count
+  pub digest : List ℕ
+  pub old : IsBesideTree H trees.old (PlacedOnGrowth H trees place d) (digest ≡ root_at H trees.old growth.shared) (leaves_from d.range.start d.old_count) growth.old
+  pub new : IsBesideTree H trees.new (PlacedOnGrowth H trees place d) (digest ≡ root_at H trees.new growth.shared) d.range growth.new

@@ -6,7 +6,7 @@ ghost use Rattle.warg_paths.specs.Paths.{roots_down};
 ghost use Rattle.warg_witness.specs.Ranges.{IsAround};
 ghost use Rattle.warg_witness.specs.Private.Divergence.{root_at};
 ghost use Rattle.warg_witness.specs.Private.Turns.{IsUp};
-ghost use Rattle.warg_witness.specs.Private.TreeDivergence.{descent, whole_descent, growth_from, LeadsOver, IsGrowth, IsTreeDivergence};
+ghost use Rattle.warg_witness.specs.Private.Meeting.{descent, whole_descent, growth_from, LeadsOver, IsGrowth, IsTreeDivergence};
 
 use crate::divergence::{Climb, Divergence};
 use crate::plain::plain_digest;

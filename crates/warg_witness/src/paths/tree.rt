@@ -7,7 +7,7 @@ ghost use Rattle.warg_witness.specs.Findings.{Finds};
 ghost use Rattle.warg_witness.specs.Claims.{Begins};
 ghost use Rattle.warg_witness.specs.PathClaims.{IsTreeMet};
 ghost use Rattle.warg_witness.specs.TreePlaced.{IsTreePlaced};
-ghost use Rattle.warg_witness.specs.Private.TreeDivergence.{IsTreeMeeting};
+ghost use Rattle.warg_witness.specs.Private.Meeting.{IsTreeMeeting};
 
 use super::MOST_LEAVES;
 use super::growth::growth_divergence;
