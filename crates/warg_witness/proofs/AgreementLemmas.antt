@@ -94,8 +94,8 @@ pub records_agreed : {D : Type 0} (H : Digest) (m n : ℕ) (path : List (List �
     → (met : Option (Divergence D))
     → MatchOption met (NeverMeet H (x, path) (y, other_path) m n)
     (IsPathsMeeting H (x, path) (y, other_path) m n)
-    → IsAgreed H (IsRecordAgreement H m n path v other_path u) (IsRecordAgreementPlaced H m n (path, v) (other_path, u)) v u
-    met
+    → IsAgreed H (IsRecordAgreement H m n path v other_path u)
+    (IsRecordAgreementPlaced H m n (path, v) (other_path, u)) v u met
 records_agreed H m n path v other_path u first second None none =
     record { is = λ agrees. (rw (first, second) at none) agrees.root agrees.first_is agrees.second_is }
 records_agreed H m n path v other_path u first second (Some p) meeting =

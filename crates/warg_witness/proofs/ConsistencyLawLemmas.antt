@@ -234,7 +234,8 @@ consistency_collides H F m n old new gives met untrue =
     (rw (leaves_count H old, leaves_count H new) roots) (rw (leaves_count H old) last.is) in
     let to_new = subst (λ k. cut_over H (with_target F root x) (leaves_from 0 k)
     ≡ Some (root_of H (leaves_of H new))) (leaves_count H new) leads.to_new in
-    down H gives (with_target F root x) old new last leads.held differs.0 differs.2 (length new) 0 (length old) (length new)
+    down H gives (with_target F root x) old new last leads.held differs.0 differs.2 (length new) 0 (length old)
+    (length new)
     (omega arith) roots.order (omega (arith, differs.1)) last whole whole
     (roots.old_root_is ∙ ap Some (sym (plain_root H old)))
     (to_new ∙ ap Some (sym (plain_root H new)))

@@ -80,7 +80,8 @@ module _ (H : Digest) (F : Data) (x : List ℕ) (G : Data) (y : List ℕ) (targe
         let outer = side_part right range whole (omega (arith, over.more)) in record {
           first_is = first.1 ∙ ap Some (sym up.first_is);
           second_is = second.1 ∙ ap Some (sym up.second_is);
-          diverges = up_parts (DivergesAt H e f range) ((x ≡ y) × IsPart range.start range.count target.start target.count) up
+          diverges = up_parts (DivergesAt H e f range)
+              ((x ≡ y) × IsPart range.start range.count target.start target.count) up
               (λ same _. parts_placed H before.divergence
               (λ _ _ is. search (IsPart-trans, outer, is)) (λ is. (is.0, IsPart-trans outer is.1))
               (climb.diverges same))

@@ -76,7 +76,8 @@ pub front_some : (n : ℕ) → 1 < n → 0 < front_of n
 front_some n more = let f = front_is_greatest n more in rw f.0.1 (pow_pos f.0.0)
 
 -- a range around a place, not all of whose leaves are old, has more of them, and more than one leaf
-pub still_more : {place a m n l : ℕ} → IsAround (leaves_from place 1) (leaves_from a m) → m ≤ n → (m ≡ l → ⊥) → l ≡ n → (0 < m) × (m < n) × (1 < n)
+pub still_more : {place a m n l : ℕ} → IsAround (leaves_from place 1) (leaves_from a m) → m ≤ n → (m ≡ l → ⊥) → l ≡ n
+    → (0 < m) × (m < n) × (1 < n)
 still_more {m = m} {n = n} around order other is = let more : 0 < m = omega arith in let wide : m < n = grind arith in
     (more, wide, omega arith)
 
@@ -119,7 +120,8 @@ beside_up : {D : Type 0} {H : Digest} (tree : List (List ℕ)) {P Q : List ℕ �
     (right : Bool) (range : Range) {near far : Range} {before after : Climb D} {u z : List ℕ} → 1 < range.count
     → range.start + range.count ≤ length tree → near ≡ side_of right range → far ≡ side_of (not right) range
     → IsBesideTree H tree P A near before → z ≡ root_at H tree far → IsUp H right before u z after
-    → ((i j : List ℕ) → P i j → Q i j) → ((j : List ℕ) → j ≡ tree_input H tree range → Q (input_beside right u before.first) j)
+    → ((i j : List ℕ) → P i j → Q i j)
+    → ((j : List ℕ) → j ≡ tree_input H tree range → Q (input_beside right u before.first) j)
     → IsBesideTree H tree Q A range after
 beside_up {H = H} tree {Q = Q} {A = A} right range {near} {far} {before} {z = z} more within near_is far_is below z_is
     up widen here =
@@ -265,7 +267,8 @@ module _ {D V A : Type 0} (H : Digest) (trees : Trees D V A) (place : ℕ) (know
           let new_in = part_rest range.start n part_whole (omega arith) in
           let down = widened (descent None (m - front_of n) (rest_part range) below)
           (λ _ _ _ _ way. rest _ _ _ _ _ _ way more high) old_in new_in in
-          subst (λ s. IsGrowth H trees place here (record { shared = s; old = after.old; new = after.new })) (sym shared)
+          subst (λ s. IsGrowth H trees place here (record { shared = s; old = after.old; new = after.new }))
+          (sym shared)
           (record {
             roots = rest_turn H known m n top below more high ∙ ap (both_over H top) is.roots
                 ∙ rw (old_up.first_is, new_up.first_is) refl;

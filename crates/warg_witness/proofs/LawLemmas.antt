@@ -157,7 +157,8 @@ module _ (H : Digest) where
       let second = (inclusion_leads H G p _ met.root).0 met.second_is in
       let (at, diverges) = diverged H F _ G _ (range_of p.leaf.0) (sizes digests)
       (sizes digests (0 ∷ value) ∙ sym (sizes digests (0 ∷ other))) (node_range p.leaf.0)
-      (leaves_from 0 n) (whole_aligned n refl) (omega arith) (record { digest = met.root; first = first.1; second = second.1 }) in
+      (leaves_from 0 n) (whole_aligned n refl) (omega arith)
+      (record { digest = met.root; first = first.1; second = second.1 }) in
       shown_collides _ (agreement_shown H F value G other p.leaf.0 n at untrue diverges)
 
 -- what is evaluated has 32 bytes

@@ -1,5 +1,5 @@
--- A path that leads to the root of a tree leads from its entry, or collides with it; two paths that lead to one root lead
--- from one value, or collide; and a branch with the digest of a tree is the tree's, or collides with it.
+-- A path that leads to the root of a tree leads from its entry, or collides with it; two paths that lead to one root
+-- lead from one value, or collide; and a branch with the digest of a tree is the tree's, or collides with it.
 use Rattle.std.proofs.Common.{◌≡◌, ℕ, ◌+◌, ◌<◌, ◌≤◌, ◌≢◌, ◌⊎◌, inl, inr, List, ◌∷◌, [], length, reverse, slice_index_or, Some, refl, sym, ap, ◌∙◌, arith, length-append, ◌-◌}
 use Rattle.std.proofs.lemmas.List.{reverse-reverse}
 use Rattle.warg_crypto.specs.Collisions.{GivesHashes, AreHashes, SomeCollision}
@@ -122,7 +122,8 @@ module _ (H : List ℕ → List ℕ) where
 
     -- two trees of one root over a range in which the entries differ collide
     pub both_collide : GivesHashes H → (old new : List (List ℕ)) (place a n : ℕ)
-        → ((first second : List ℕ) → IsPlacedInBoth H old new first second → P first second) → IsAround (leaves_from place 1) (leaves_from a n)
+        → ((first second : List ℕ) → IsPlacedInBoth H old new first second → P first second)
+        → IsAround (leaves_from place 1) (leaves_from a n)
         → (slice_index_or old place [] ≡ slice_index_or new place [] → ⊥) → IsPart 0 (length old) a n
         → IsPart 0 (length new) a n → over old a n ≡ over new a n → SomeCollision H P
     both_collide gives old new place a n placed around differ old_part new_part same =

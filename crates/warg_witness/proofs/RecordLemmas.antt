@@ -460,7 +460,8 @@ module _ (H : Digest) (index : ℕ) (path : List (List ℕ)) (value : List ℕ) 
               let took = rw (le-leb (front_of n) m le) at takes in rw (lt-leb n 1 more, ← top_is) (cc)
         ]
 
-    pub record_placed : (first second : List ℕ) → IsRecordAgreementPlaced H index (length entries) (path, value) (own, entry)
+    pub record_placed : (first second : List ℕ)
+        → IsRecordAgreementPlaced H index (length entries) (path, value) (own, entry)
         first second → IsRecordPlaced H index path value entries first second
     record_placed first second at = record {
       leaf = at.leaf;

@@ -223,7 +223,8 @@ module _ {H : Digest} {e : Evaluation} {old new old_tree new_tree : List (List �
   -- where both trees have one digest at the root's range
   pub below_shown : {D : Type 0} (place : ℕ) → IsPart 0 (length new_tree) e.target.start e.target.count
       → (get_or old place [] ≡ get_or new place [] → ⊥) → (p : Divergence D)
-      → IsDivergence H (with_own H old_tree (leaves_from place 1)) (with_own H new_tree (leaves_from place 1)) e.target p
+      → IsDivergence H (with_own H old_tree (leaves_from place 1)) (with_own H new_tree (leaves_from place 1))
+      e.target p
       → Shows H (IsConsistencyPlaced H e.held old new) (inputs_of p (0 ∷ get_or old place []) (0 ∷ get_or new place []))
   below_shown place new_part differ p diverges =
       let old_part = (root_stands at.root (whole_aligned (length old_tree) refl)).part in

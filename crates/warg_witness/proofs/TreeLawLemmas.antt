@@ -88,14 +88,16 @@ module _ (H : List ℕ → List ℕ) (gives : GivesHashes H) (path old new : Lis
       → new_turn_input H known m n top below ≡ Some (branch_input l r) → H (branch_input l r) ≡ over H new a n
       → (branch_input l r ≡ branch_at H new a n) ⊎ Collide
   new_fork known m a n top below l r less more within way takes root =
-      fork H Placed new a n l r more within root (inr (inl (record { turn = turning way less; evaluation = takes; plain = refl })))
+      fork H Placed new a n l r more within root
+      (inr (inl (record { turn = turning way less; evaluation = takes; plain = refl })))
 
   old_fork : (known : Option (List ℕ)) (m a n : ℕ) (top : List ℕ) (below : List (List ℕ)) (l r : List ℕ) → m < n → 1 < m
       → front_of n < m → a + m ≤ length old → OnWay known m a n (top ∷ below)
       → old_turn_input H m n top below ≡ Some (branch_input l r) → H (branch_input l r) ≡ over H old a m
       → (branch_input l r ≡ branch_at H old a m) ⊎ Collide
   old_fork known m a n top below l r less more turns within way takes root =
-      fork H Placed old a m l r more within root (inl (record { turn = turning way less; in_rest = turns; evaluation = takes; plain = refl }))
+      fork H Placed old a m l r more within root
+      (inl (record { turn = turning way less; in_rest = turns; evaluation = takes; plain = refl }))
 
   -- the new root of a part has 32 bytes: it is reckoned, or the old one where all leaves are old
   part_size : (digests : List (List ℕ)) (known : Option (List ℕ)) (m a n : ℕ) (x : List ℕ) → 0 < m → m ≤ n
@@ -107,7 +109,8 @@ module _ (H : List ℕ → List ℕ) (gives : GivesHashes H) (path old new : Lis
   ]
 
   module _ (place : ℕ) (differ : slice_index_or old place [] ≡ slice_index_or new place [] → ⊥) where
-    level : (digests : List (List ℕ)) (known : Option (List ℕ)) (m a n : ℕ) → n ≡ m → IsAround (leaves_from place 1) (leaves_from a m)
+    level : (digests : List (List ℕ)) (known : Option (List ℕ)) (m a n : ℕ) → n ≡ m
+        → IsAround (leaves_from place 1) (leaves_from a m)
         → IsPart 0 (length old) a m → IsPart 0 (length new) a n → roots_down H known m n digests
         ≡ Some (over H old a m, over H new a n) → Collide
     level digests known m a n equal around old_part new_part leads =
@@ -115,7 +118,8 @@ module _ (H : List ℕ → List ℕ) (gives : GivesHashes H) (path old new : Lis
         both_collide H Placed gives old new place a m (λ _ _ both. inr (inr both)) around differ old_part
         (subst (λ k. IsPart 0 (length new) a k) equal new_part) (one ∙ ap (over H new a) equal)
 
-    down : (digests : List (List ℕ)) (known : Option (List ℕ)) (m a n : ℕ) → m ≤ n → IsAround (leaves_from place 1) (leaves_from a m)
+    down : (digests : List (List ℕ)) (known : Option (List ℕ)) (m a n : ℕ) → m ≤ n
+        → IsAround (leaves_from place 1) (leaves_from a m)
         → IsPart 0 (length old) a m → IsPart 0 (length new) a n → OnWay known m a n digests
         → roots_down H known m n digests ≡ Some (over H old a m, over H new a n) → Collide
     down [] known m a n order around old_part new_part way leads = elim (cases_lt m n) [

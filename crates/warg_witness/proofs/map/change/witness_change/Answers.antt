@@ -14,7 +14,8 @@ use Rattle.warg_witness.proofs.map.change.witness_change.Goals as goal
 use Rattle.warg_witness.proofs.map.change.witness_change.Goals.{In-Some, Else-not-branch, After-deref-2}
 
 -- the old insertions, as the proof meets them
-meeting : (g : _) (c : In-Some g) → let H = g.D.SupportedDigest.digest in let key = g.K.VisitBytes.bytes c.args.key.now in
+meeting : (g : _) (c : In-Some g)
+    → let H = g.D.SupportedDigest.digest in let key = g.K.VisitBytes.bytes c.args.key.now in
     let xs = pair_bytes g.K.VisitBytes.bytes g.V.VisitBytes.bytes c.args.old.now in
     (last_under H (key_bits H key) xs ≡ lent_pair g.K.VisitBytes.bytes g.V.VisitBytes.bytes c.in-Some.met.last)
     × IsKeyMeeting H c.args.proof.now key (g.W.VisitBytes.bytes c.args.old_value.now) xs c.in-Some.met.divergence

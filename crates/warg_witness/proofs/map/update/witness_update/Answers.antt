@@ -12,5 +12,6 @@ returns g c =
     (pair_bytes g.K.VisitBytes.bytes g.V.VisitBytes.bytes c.args.insertions.now) = met.1.met in
     record {
       found = IfOk-weaker c.find_update.result _ _
-          (update_found (g.V.VisitBytes.bytes c.args.new_value.now) c.in-Some.met.divergence met.1) c.find_update.ensures;
+          (update_found (g.V.VisitBytes.bytes c.args.new_value.now) c.in-Some.met.divergence met.1)
+          c.find_update.ensures;
     }
