@@ -20,7 +20,8 @@ pub record IsPlacedAtKeys (key : List ℕ) (insertions : List (List ℕ × List 
 abbrev pub IsKeyPlaced : (List ℕ → List ℕ) → List (Option (List ℕ)) → List ℕ → List ℕ → List (List ℕ × List ℕ) → List ℕ → List ℕ → Type 0
 IsKeyPlaced H peers value key insertions first second = IsPlacedAtPrefix H peers value key insertions first second ⊎ IsPlacedAtKeys key insertions first second
 
--- For an agreement of two proofs on a key, each with its value: the two evaluations' inputs at one prefix of its bits, in the order given.
+-- For an agreement of two proofs on a key, each with its value: the two evaluations' inputs at one prefix of its bits, in the
+-- order given.
 pub record IsKeyAgreementPlaced (H : List ℕ → List ℕ) (key : List ℕ) (one other : List (Option (List ℕ)) × List ℕ) (first second : List ℕ) : Type 0 where
   pub prefix : List Bool
   pub rest : List Bool

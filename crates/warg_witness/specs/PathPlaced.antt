@@ -21,8 +21,8 @@ pub record IsRecordPlaced (H : List ℕ → List ℕ) (index : ℕ) (path : List
   pub evaluation : record_input H value leaf count digests ≡ Some first
   pub plain : second ≡ plain_input H entries from count
 
--- For an agreement of two paths of one place of n entries, each with its value: both evaluations' inputs at one range on the way to the
--- leaf, in the order given.
+-- For an agreement of two paths of one place of n entries, each with its value: both evaluations' inputs at one range on the
+-- way to the leaf, in the order given.
 pub record IsRecordAgreementPlaced (H : List ℕ → List ℕ) (index n : ℕ) (one other : List (List ℕ) × List ℕ) (first second : List ℕ) : Type 0 where
   pub leaf : ℕ
   pub from : ℕ
