@@ -45,10 +45,10 @@ fn roots_of_range<D: SupportedDigest>(
         let root = root_of_range(after, first, levels, height);
         return (root.copied(), root);
     }
-    if levels == 0 {
+    if levels == 0 || before.is_empty() {
         return (
-            root_of_range(before, first, 0, height),
-            root_of_range(after, first, 0, height),
+            root_of_range(before, first, levels, height),
+            root_of_range(after, first, levels, height),
         );
     }
     let half = levels - 1;

@@ -135,7 +135,7 @@ impl From<CommitError> for PublishError {
     }
 }
 
-/// That a file isn't what it is to be.
+/// That a file is missing or corrupt.
 pub(crate) fn damaged(alloc: Global, name: &str, fault: &'static str) -> LogError {
     match String::from_str(alloc, name) {
         Ok(name) => LogError::Damaged(Damage { name, fault }),

@@ -322,20 +322,26 @@ keeps_beside served old s t same keeps = same_kept served old s t
     (⊎_elim (λ one. file_served old n one) (λ other. file_served served n other) is)))
     (same checkpoint refl) (same state refl) keeps
 
+-- opening a folder beside which only staged files differ leaves what it keeps
+opened_same : (s c : Files) → IsBeside s c → (n : List ℕ) → is_staged n ≡ false → opened c n ≡ c n
+opened_same s c beside n isnt = ap (λ (o : Option (List ℕ)). opened_by o c n) beside.no_mark
+    ∙ ap (λ b. if b then None else c n) isnt
+
+pub opened_beside : (served old : LogOf) (s c : Files) → Keeps served old s → IsBeside s c → Keeps served old (opened c)
+opened_beside served old s c keeps beside = keeps_beside served old s (opened c)
+    (λ n isnt. opened_same s c beside n isnt ∙ beside.outside n isnt) keeps
+
 -- A crash that leaves what a folder keeps, but for staged files, leaves the log.
 pub beside_one_of : (served old next : LogOf) (s c : Files) → Keeps served old s → IsBeside s c
     → IsOneOf served old next c
-beside_one_of served old next s c keeps beside =
-    let same : (n : List ℕ) → is_staged n ≡ false → opened c n ≡ c n =
-    λ n isnt. ap (λ (o : Option (List ℕ)). opened_by o c n) beside.no_mark ∙ ap (λ b. if b then None else c n) isnt in
-    record {
-      read = inl (record {
-        serves = (keeps_beside served old s c beside.outside keeps).serves;
-        stay = λ n is. same n (served_not_staged n (file_served served n is));
-      });
-      state = inl (record { can = keeps.can; text = beside.outside state refl ∙ keeps.state });
-      opened = inl (keeps_beside served old s (opened c) (λ n isnt. same n isnt ∙ beside.outside n isnt) keeps);
-    }
+beside_one_of served old next s c keeps beside = record {
+  read = inl (record {
+    serves = (keeps_beside served old s c beside.outside keeps).serves;
+    stay = λ n is. opened_same s c beside n (served_not_staged n (file_served served n is));
+  });
+  state = inl (record { can = keeps.can; text = beside.outside state refl ∙ keeps.state });
+  opened = inl (opened_beside served old s c keeps beside);
+}
 
 pub beside_committing : (served old next : LogOf) (s c : Files) → Keeps served old s → IsBeside s c
     → IsCommitting served old next s c

@@ -12,6 +12,7 @@ use crate::edge::read_tile;
 use crate::error::LogError;
 use crate::log::stage_tiles;
 use crate::names::STATE;
+use crate::older::{compare_older_bundles, compare_older_tiles};
 use crate::opening::read_state;
 use crate::reading::read_entries;
 use crate::recovery::recover;
@@ -152,6 +153,7 @@ fn replay_bundle<F: Folder, P: Progress>(
 {
     let entries = read_entries(alloc, folder, number, length)?;
     push_all(log, entries.as_slice(), progress)?;
+    use_bundle(alloc, folder, use_as, number, entries.as_slice())?;
     use_tiles(alloc, folder, use_as, log.take_full().as_slice())
 }
 
@@ -183,6 +185,26 @@ fn push_one(log: &mut TileLog<Sha256, Vec<u8>>, entry: &Vec<u8>) -> Result<(), F
     }
     log.push(entry)?;
     Ok(())
+}
+
+// Compares the older partial bundles at the place of one, where tiles are compared.
+fn use_bundle<F: Folder>(
+    alloc: Global,
+    folder: &mut F,
+    use_as: Use,
+    number: usize,
+    entries: &[Vec<u8>],
+) -> Result<(), LogError>
+    requires { use_as ≡ Use.Stage → F.IsFaithful → IsStaging (F.seen folder.old) (F.may_leave folder.old) }
+    ensures staging { use_as ≡ Use.Stage → F.IsFaithful
+        → OnOk result (IsStaging (F.seen folder.new) (F.may_leave folder.new)) }
+    ensures cause { HasCauseOf (LogError.Folder FolderError.Failed) F.IsFaithful
+        (F.faults folder.old) (F.faults folder.new) result }
+{
+    match use_as {
+        Use::Stage => Ok(()),
+        Use::Compare => compare_older_bundles(alloc, folder, number, entries),
+    }
 }
 
 // Compares tiles with their files, or stages them.
@@ -218,7 +240,7 @@ fn compare_tiles<F: Folder>(
     Ok(())
 }
 
-// Refuses a tile's file that hasn't its digests.
+// Refuses a tile's file that hasn't its digests, and an older partial one that isn't a beginning of it.
 fn compare_tile<F: Folder>(
     alloc: Global,
     folder: &mut F,
@@ -229,7 +251,7 @@ fn compare_tile<F: Folder>(
 {
     let found = read_tile(alloc, folder, stored.tile)?;
     if found.digests.as_slice() == stored.digests.as_slice() {
-        return Ok(());
+        return compare_older_tiles(alloc, folder, stored);
     }
     let path = stored.tile.path(alloc)?;
     let fault = "isn't the tile over the entries of their bundles, so one of these files differs";

@@ -200,7 +200,7 @@ pub(crate) fn entries_of<'a>(
     Ok(entries)
 }
 
-/// That a bundle isn't what it is to be.
+/// That a bundle is corrupt.
 pub(crate) fn damaged_bundle(alloc: Global, tile: &Tile, fault: &'static str) -> LogError
     requires { tile.now.level ≡ 0 }
     ensures { IsNoFailure result }

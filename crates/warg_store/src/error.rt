@@ -7,7 +7,7 @@ use crate::recovery::RecoverError;
 use std::alloc::{AllocError, AllocFailed, Global};
 use thiserror::Error;
 
-/// A file that isn't what it is to be.
+/// A file that is missing or corrupt.
 #[derive(Debug, PartialEq, Eq, Drop)]
 pub struct Damage {
     /// The file's name below the folder.
@@ -22,7 +22,7 @@ pub enum LogError {
     /// The folder has no log.
     #[error("no log")]
     NoLog,
-    /// A file isn't what it is to be.
+    /// A file is missing or corrupt.
     #[error("a file is damaged")]
     Damaged(Damage),
     /// The checkpoint is an older one than that of the log's state: how many entries each has.
@@ -71,7 +71,7 @@ impl<T: Drop> From<AllocFailed<T>> for LogError {
 impl LogError {
     ghost use Rattle.warg_store.specs.Refusals.{IsNoFault, IsNoFailure};
 
-    /// That a file isn't what it is to be.
+    /// That a file is missing or corrupt.
     pub(crate) fn damaged(alloc: Global, name: &str, fault: &'static str) -> LogError
         ensures { IsNoFailure result }
     {

@@ -6,6 +6,7 @@
 mod auditing;
 mod committing;
 mod device;
+mod discarding;
 mod edge;
 mod error;
 mod fetched;
@@ -13,6 +14,7 @@ mod log;
 mod log_folder;
 mod memory;
 mod names;
+mod older;
 mod older_staging;
 mod opening;
 mod pages;

@@ -265,8 +265,8 @@ impl<F: Folder + Drop> LogFolder<F> {
 
     /// Puts a page beside what was pushed: a file at this path below `map/`, which no page has that is served, kept or to be
     /// kept. Nothing that is served changes before a commit, and only a commit of at least one new entry keeps the page. `Closed`
-    /// exactly if a commit has failed; else it fails only if
-    /// memory is refused or the device fails, and the folder is then opened again.
+    /// exactly if a commit has failed; else it fails only if memory is refused or the device fails, and the folder is then opened
+    /// again.
     pub fn put_page(&mut self, path: &str, bytes: &[u8]) -> Result<(), PushError>
         requires { F.IsFaithful → IsReady F.seen F.may_leave self.old }
         ensures page { F.IsFaithful → OnOk result ((served old next : LogOf)

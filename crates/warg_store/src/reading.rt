@@ -92,8 +92,9 @@ impl<F: Folder + Drop> LogFolder<F> {
         growth(self.alloc, &mut self.folder, old, new, &checkpoint)
     }
 
-    /// Reads every entry that the log keeps, makes each tile again, and compares. `Damaged` names the first file that differs. A
-    /// checkpoint that passes is that of entries: those that were read.
+    /// Reads every entry that the log keeps, makes each tile again, and compares, also with the partial tiles and bundles of older
+    /// lengths that are still there. `Damaged` names the first file that differs. A checkpoint that passes is that of entries:
+    /// those that were read.
     pub fn audit<P: Progress>(&mut self, progress: &mut P) -> Result<Checkpoint<Sha256>, LogError>
         ensures entries { IfOk result IsOfEntries }
         ensures cause { HasCauseOf (LogError.Folder FolderError.Failed) F.IsFaithful
