@@ -17,6 +17,12 @@ pub const MARK: &str = ".log/staged/state";
 /// Where the files of a commit stand before it does.
 pub const STAGED: &str = ".log/staged/";
 
+/// The same as a folder.
+pub(crate) const STAGED_FOLDER: &str = ".log/staged";
+
+/// The name under which a file is written before it takes another one's place.
+pub(crate) const REPLACING: &str = ".log/replacing";
+
 /// The name under which a file is staged. It fails only if allocation fails.
 pub fn staged_name(alloc: Global, name: &str) -> Result<String, AllocError>
     ensures { IfOk result (λ text. string_bytes text ≡ staged name.now) }
