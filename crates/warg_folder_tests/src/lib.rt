@@ -16,3 +16,5 @@ mod registry;
 mod registry_folder;
 #[cfg(test)]
 mod registry_refused;
+#[cfg(test)]
+mod served;

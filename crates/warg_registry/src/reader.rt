@@ -6,7 +6,7 @@ ghost use Rattle.warg_crypto.specs.Tree.{leaf_digest};
 ghost use Rattle.warg_map.specs.Bits.{key_bits};
 ghost use Rattle.warg_map.specs.ProofValue.{proof_value};
 ghost use Rattle.warg_pages.specs.ProvedKeys.{LeadsTo, IsProved};
-ghost use Rattle.warg_store.specs.Log.{HasLog, Serves};
+ghost use Rattle.warg_store.specs.Log.{Serves};
 ghost use Rattle.warg_store.specs.Reading.{IsShown, checkpoint_said};
 ghost use Rattle.warg_store.specs.Refusals.{IsNoFault as IsNoLogFault};
 ghost use Rattle.warg_registry.specs.Folder.{registry_of, IsNoFault};
@@ -59,16 +59,16 @@ impl<F: Folder + Drop> Model for RegistryReader<F> {
 }
 
 impl<F: Folder + Drop> RegistryReader<F> {
-    /// Reads a folder's checkpoint, as [`LogReader::open`] does. `NoMap` where it names no map.
+    /// Reads the checkpoint that a folder serves, as [`LogReader::open_served`] does. `NoMap` where it names no map.
     pub fn open(alloc: Global, folder: F) -> Result<RegistryReader<F>, RegistryError>
         ensures reads { F.IsFaithful → IfOk result (λ r. (origin : List ℕ) (insertions : List (List ℕ × List ℕ))
             → Serves (registry_of origin insertions) (F.seen folder)
             → ReadsRegistry F.seen origin insertions r) }
-        ensures opens { F.IsFaithful → (origin : List ℕ) (served kept : List (List ℕ × List ℕ))
-            → HasLog (registry_of origin served) (registry_of origin kept) (F.seen folder)
+        ensures opens { F.IsFaithful → (origin : List ℕ) (insertions : List (List ℕ × List ℕ))
+            → Serves (registry_of origin insertions) (F.seen folder)
             → IfErr result IsNoFault }
     {
-        let log = LogReader::open(alloc, folder)?;
+        let log = LogReader::open_served(alloc, folder)?;
         let root = root_said(alloc, log.text())?;
         let pages = ServedPages {
             alloc,

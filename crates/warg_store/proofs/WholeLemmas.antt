@@ -34,6 +34,10 @@ pub err_same : {X E : Type 0} (P : E → Type 0) (e : E) (r : Result X E) → Is
 err_same P e (Ok x) is holds = tt
 err_same P e (Err f) is holds = subst P (sym is) holds
 
+pub err_and : {X E : Type 0} (P : E → Type 0) (e : E) (r : Result X E) → IsErrAnd r (λ f. f ≡ e) → P e → IsErrAnd r P
+err_and P e (Ok x) is holds = absurd is
+err_and P e (Err f) is holds = subst P (sym is) holds
+
 pub err_match : {X E : Type 0} (Q : X → Type 0) (P : E → Type 0) (e : E) (r : Result X E) → IsErrAnd r (λ f. f ≡ e) → P
     e → MatchResult r Q P
 err_match Q P e (Ok x) is holds = absurd is

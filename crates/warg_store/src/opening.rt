@@ -283,9 +283,9 @@ pub(crate) fn read_state<F: Folder>(
     read_text(alloc, folder, STATE)?.ok_or(LogError::NoLog)
 }
 
-// What a checkpoint's file says, if it is there.
+/// What a checkpoint's file says, if it is there.
 #[tactic(auto, using(crate::proofs::ReadyLemmas::staging_kept))]
-fn read_text<F: Folder>(
+pub(crate) fn read_text<F: Folder>(
     alloc: Global,
     folder: &mut F,
     name: &str,

@@ -1,11 +1,11 @@
 //! A log as a folder serves it, as whoever reads it holds it.
 
-ghost use Rattle.std.specs.Prelude.{◌≡◌, ◌⊎◌, ◌+◌, ◌-◌, ◌*◌, ◌<◌, ◌≤◌, length, map, take, min, Some, IfOk, IfErr, OnOk, MatchResult, option_map, slice_get};
+ghost use Rattle.std.specs.Prelude.{◌≡◌, ◌⊎◌, ◌+◌, ◌-◌, ◌*◌, ◌<◌, ◌≤◌, length, map, take, min, Some, None, IsErrAnd, IfOk, IfErr, OnOk, MatchResult, option_map, slice_get};
 ghost use Rattle.warg_tiles.specs.CheckpointText.{text_of};
 ghost use Rattle.warg_store.specs.Audited.{IsOfEntries};
 ghost use Rattle.warg_store.specs.Log.{LogOf, HasLog, Serves, IsOneOf};
 ghost use Rattle.warg_store.specs.Moments.{IsRead, HasCause, HasCauseOf, HasLostCause};
-ghost use Rattle.warg_store.specs.Names.{page_name};
+ghost use Rattle.warg_store.specs.Names.{checkpoint, page_name};
 ghost use Rattle.warg_store.specs.Reading.{Reads, checkpoint_said, bundle_in, inclusion_in, consistency_in, IsShown, IncludesBy, GrowsBy};
 ghost use Rattle.warg_store.specs.Refusals.{IsNoFault};
 
@@ -13,7 +13,8 @@ use crate::auditing::{Progress, audited};
 use crate::device::{Folder, FolderError};
 use crate::edge::{open_edge, read_edge};
 use crate::error::LogError;
-use crate::opening::read_newest;
+use crate::names::CHECKPOINT;
+use crate::opening::{read_newest, read_text};
 use crate::pages::read_page;
 use crate::reading::{Path, entry, growth, inclusion, read_entries, read_entry};
 use std::alloc::Global;
@@ -60,6 +61,32 @@ impl<F: Folder + Drop> LogReader<F> {
             folder,
             text,
         })
+    }
+
+    /// Reads the checkpoint that a folder serves, and no other file: as [`open`](LogReader::open), but for the comparison with the
+    /// log's state, so an older checkpoint that was put back isn't noticed. `NoLog` where there is none; `Damaged` where it is
+    /// corrupt.
+    pub fn open_served(alloc: Global, mut folder: F) -> Result<LogReader<F>, LogError>
+        ensures reads { F.IsFaithful → IfOk result (λ reader. (log : LogOf) → Serves log (F.seen folder)
+            → Reads F.seen log reader) }
+        ensures opens { F.IsFaithful → (log : LogOf) → Serves log (F.seen folder) → IfErr result (IsNoFault ⊥) }
+        ensures none { F.IsFaithful → F.seen folder checkpoint ≡ None
+            → IsErrAnd result (λ error. (error ≡ LogError.NoLog) ⊎ IsNoFault ⊥ error) }
+
+        // At each moment of a commit, a signing or a pruning it reads the log that was served, or the next one.
+        ensures meanwhile { F.IsFaithful → (served old next : LogOf) → IsOneOf served old next (F.seen folder)
+            → MatchResult result (λ reader. Reads F.seen served reader ⊎ Reads F.seen next reader) (IsNoFault ⊥) }
+
+        ensures cause { HasLostCause F.faults (LogError.Folder FolderError.Failed) F.IsFaithful folder result }
+    {
+        match read_text(alloc, &mut folder, CHECKPOINT)? {
+            Some(text) => Ok(LogReader {
+                alloc,
+                folder,
+                text,
+            }),
+            None => Err(LogError::NoLog),
+        }
     }
 
     /// The folder.

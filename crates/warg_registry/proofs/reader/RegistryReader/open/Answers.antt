@@ -1,9 +1,7 @@
-use Rattle.std.proofs.Common.{◌≡◌, ⊎_elim, [], ◌∷◌, sym, ap, subst, ◌∙◌}
+use Rattle.std.proofs.Common.{◌≡◌, [], ◌∷◌, sym, ap, ◌∙◌}
 use Rattle.warg_crypto.specs.Digests.{sha256}
 use Rattle.warg_map.specs.Sparse.{map_of, sparse_root}
 use Rattle.warg_tiles.specs.CheckpointText.{Said}
-use Rattle.warg_store.specs.Files.{Files}
-use Rattle.warg_store.specs.Log.{LogOf, HasLog, Serves}
 use Rattle.warg_registry.specs.Folder.{registry_of, IsNoFault}
 use Rattle.warg_registry.specs.Registry.{line_of}
 use Rattle.warg_registry.specs.declared.error.RegistryError.TheVariants as RegistryError
@@ -11,22 +9,16 @@ use Rattle.warg_registry.proofs.MapLines.{one_root, map_digest}
 use Rattle.warg_registry.proofs.Refused.{told_as}
 use Rattle.warg_registry.proofs.reader.RegistryReader.open.Goals as goal
 
--- a folder with a log serves it
-served_log : (served log : LogOf) (files : Files) → HasLog served log files → Serves served files
-served_log served log files has = ⊎_elim (λ keeps. keeps.serves)
-    (λ other. subst (λ (l : LogOf). Serves l files) (sym other.0) other.2) has
-
 pub returns-in_err-log-clause-opens : goal.returns-in_err-log-clause-opens
-returns-in_err-log-clause-opens g c = λ faithful origin served kept has.
+returns-in_err-log-clause-opens g c = λ faithful origin insertions serves.
     told_as IsNoFault (RegistryError.Log c.in_err-log.field-0.0) c.from_residual.result c.from_residual.ensures.1
-    (c.in_err-log.ensures.opens faithful (registry_of origin served) (registry_of origin kept) has)
+    (c.in_err-log.ensures.opens faithful (registry_of origin insertions) serves)
 
 pub returns-in_err-root-clause-opens : goal.returns-in_err-root-clause-opens
-returns-in_err-root-clause-opens g c = λ faithful origin served kept has.
-    let serves = served_log (registry_of origin served) (registry_of origin kept) _ has in
-    let found = c.in_ok-log.ensures.reads faithful (registry_of origin served) serves in
+returns-in_err-root-clause-opens g c = λ faithful origin insertions serves.
+    let found = c.in_ok-log.ensures.reads faithful (registry_of origin insertions) serves in
     told_as IsNoFault c.in_err-root.field-0.0 c.from_residual-in_err-root.result c.from_residual-in_err-root.ensures.1
-    (c.in_err-root.ensures.err (sparse_root sha256 256 (map_of sha256 served)) (map_digest (map_of sha256 served))
+    (c.in_err-root.ensures.err (sparse_root sha256 256 (map_of sha256 insertions)) (map_digest (map_of sha256 insertions))
     (ap (λ (t : Said). t.extensions) (c.text.ensures ∙ found.text)))
 
 pub returns-clause-reads : goal.returns-clause-reads
