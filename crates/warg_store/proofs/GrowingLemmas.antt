@@ -18,7 +18,7 @@ use Rattle.warg_tiles.proofs.ForCallers.{full_tiles, partial_of, own_tile, bundl
 use Rattle.warg_store.specs.Files.{File, Files, put, IsNameOf}
 use Rattle.warg_store.specs.Names.{checkpoint, state, staged, is_staged, is_tile, page_name}
 use Rattle.warg_store.specs.Opening.{IsBeside, IsStaging, NothingStaged, opened, opened_by}
-use Rattle.warg_store.specs.Log.{LogOf, said_of, Keeps, Extends, IsOneOf, IsCommitting, tile_bytes, bundle_bytes, IsTileIn, IsBundleIn, IsNewTile, ArePagesStaged, AreStagedFor}
+use Rattle.warg_store.specs.Log.{LogOf, said_of, Keeps, HasLog, Extends, IsOneOf, IsCommitting, tile_bytes, bundle_bytes, IsTileIn, IsBundleIn, IsNewTile, ArePagesStaged, AreStagedFor}
 use Rattle.warg_store.specs.Staged.{staged_all, new_files}
 use Rattle.warg_store.specs.Moments.{LeavesOnly}
 use Rattle.warg_store.specs.Growing.{LogIn, Has, HasAll, with_entry, IsNewFull, AreFullStaged}
@@ -330,6 +330,13 @@ opened_same s c beside n isnt = ap (λ (o : Option (List ℕ)). opened_by o c n)
 pub opened_beside : (served old : LogOf) (s c : Files) → Keeps served old s → IsBeside s c → Keeps served old (opened c)
 opened_beside served old s c keeps beside = keeps_beside served old s (opened c)
     (λ n isnt. opened_same s c beside n isnt ∙ beside.outside n isnt) keeps
+
+-- a folder that is ready keeps its log once it is opened
+pub kept_once_opened : {F : Type 0} (seen : F → Files) (may_leave : F → Files → Type 0)
+    → ((f : F) → may_leave f (seen f)) → (served old next : LogOf) (l : LogIn F) (f : F) → f ≡ l.folder
+    → Has seen may_leave served old next l → HasLog served old (opened (seen f))
+kept_once_opened seen may_leave stays served old next l f same has = rw same (inl (opened_beside served old
+    (seen l.folder) (seen l.folder) has.keeps (has.staging (seen l.folder) (stays l.folder))))
 
 -- A crash that leaves what a folder keeps, but for staged files, leaves the log.
 pub beside_one_of : (served old next : LogOf) (s c : Files) → Keeps served old s → IsBeside s c

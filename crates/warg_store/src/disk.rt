@@ -189,8 +189,8 @@ fn name_at(alloc: Global, folder: &str, place: &str) -> Result<String, AllocErro
     joined(alloc, folder, staged.as_str())
 }
 
-// A name below a folder. It takes no more memory than it has bytes.
-fn joined(alloc: Global, folder: &str, name: &str) -> Result<String, AllocError> {
+/// A name below a folder. It takes no more memory than it has bytes.
+pub(crate) fn joined(alloc: Global, folder: &str, name: &str) -> Result<String, AllocError> {
     if folder.is_empty() {
         return String::from_str(alloc, name);
     }

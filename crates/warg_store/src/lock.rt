@@ -1,7 +1,6 @@
 //! The lock of a folder of the system's. What a disk does no clause says: this file is to be read, and is tested.
 
-use crate::places::joined;
-use crate::system::Fault;
+use crate::disk::{Fault, joined};
 use std::alloc::AllocError;
 use std::fs::{File, TryLockError};
 use std::io::ErrorKind;

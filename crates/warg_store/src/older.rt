@@ -90,12 +90,28 @@ fn compare_older_bundle<F: Folder>(
 {
     let bytes = read_bundle(alloc, folder, tile)?;
     let older = entries_of(alloc, tile, bytes.as_slice())?;
-    'entries: for (entry, newer) in older.as_slice().iter().zip(entries) {
-        if *entry != newer.as_slice() {
-            return Err(damaged_bundle(alloc, tile, NO_BEGINNING));
+    if begin_with(entries, older.as_slice()) {
+        return Ok(());
+    }
+    Err(damaged_bundle(alloc, tile, NO_BEGINNING))
+}
+
+// Whether entries begin with older ones.
+fn begin_with(entries: &[Vec<u8>], older: &[&[u8]]) -> bool {
+    'older: for (place, entry) in older.iter().enumerate() {
+        if !is_entry(entries.get(place), entry) {
+            return false;
         }
     }
-    Ok(())
+    true
+}
+
+// Whether an entry is there and is this one.
+fn is_entry(found: Option<&Vec<u8>>, entry: &[u8]) -> bool {
+    match found {
+        Some(found) => found.as_slice() == entry,
+        None => false,
+    }
 }
 
 // The names of the partial files at the place of a full one.
