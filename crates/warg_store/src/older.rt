@@ -45,8 +45,8 @@ fn compare_older_tile<F: Folder>(
     ensures cause { HasCauseOf (LogError.Folder FolderError.Failed) F.IsFaithful
         (F.faults folder.old) (F.faults folder.new) result }
 {
-    let older = read_tile(alloc, folder, tile)?;
-    if newer.digests.as_slice().starts_with(older.digests.as_slice()) {
+    let older = read_tile(alloc, folder, tile)?.digests;
+    if newer.digests.as_slice().starts_with(older.as_slice()) {
         return Ok(());
     }
     let path = tile.path(alloc)?;
