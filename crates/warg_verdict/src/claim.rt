@@ -64,39 +64,63 @@ impl Claim {
     /// The claim that a subcommand makes of its options.
     pub fn of(rt: &HostRuntime, name: &str, asked: &ArgMatches<'_>) -> Result<Claim> {
         match name {
-            "entry" | "entry-path" => Ok(Claim::Entry {
-                index: number(asked, "index")?,
-                value: bytes(rt, asked, "value")?,
-                checkpoint: checkpoint(asked, "length", "root")?,
-            }),
-            "growth" | "growth-path" => Ok(Claim::Growth {
-                old: checkpoint(asked, "old-length", "old-root")?,
-                new: checkpoint(asked, "new-length", "new-root")?,
-            }),
-            "key" => Ok(Claim::Key {
-                key: bytes(rt, asked, "key")?,
-                value: bytes(rt, asked, "value")?,
-                root: root(asked, "root")?,
-            }),
-            "absent" => Ok(Claim::Absent {
-                key: bytes(rt, asked, "key")?,
-                root: root(asked, "root")?,
-            }),
-            "update" => Ok(Claim::Update {
-                key: bytes(rt, asked, "key")?,
-                old_value: bytes(rt, asked, "old-value")?,
-                new_value: bytes(rt, asked, "new-value")?,
-                old_root: root(asked, "old-root")?,
-                new_root: root(asked, "new-root")?,
-            }),
-            "insertion" => Ok(Claim::Insertion {
-                key: bytes(rt, asked, "key")?,
-                value: bytes(rt, asked, "value")?,
-                old_root: root(asked, "old-root")?,
-                new_root: root(asked, "new-root")?,
-            }),
+            "entry" | "entry-path" => Claim::of_entry(rt, asked),
+            "growth" | "growth-path" => Claim::of_growth(asked),
+            "key" => Claim::of_key(rt, asked),
+            "absent" => Claim::of_absence(rt, asked),
+            "update" => Claim::of_update(rt, asked),
+            "insertion" => Claim::of_insertion(rt, asked),
             _ => Err(anyhow!("no claim is called {name}")),
         }
+    }
+
+    fn of_entry(rt: &HostRuntime, asked: &ArgMatches<'_>) -> Result<Claim> {
+        Ok(Claim::Entry {
+            index: number(asked, "index")?,
+            value: bytes(rt, asked, "value")?,
+            checkpoint: checkpoint(asked, "length", "root")?,
+        })
+    }
+
+    fn of_growth(asked: &ArgMatches<'_>) -> Result<Claim> {
+        Ok(Claim::Growth {
+            old: checkpoint(asked, "old-length", "old-root")?,
+            new: checkpoint(asked, "new-length", "new-root")?,
+        })
+    }
+
+    fn of_key(rt: &HostRuntime, asked: &ArgMatches<'_>) -> Result<Claim> {
+        Ok(Claim::Key {
+            key: bytes(rt, asked, "key")?,
+            value: bytes(rt, asked, "value")?,
+            root: root(asked, "root")?,
+        })
+    }
+
+    fn of_absence(rt: &HostRuntime, asked: &ArgMatches<'_>) -> Result<Claim> {
+        Ok(Claim::Absent {
+            key: bytes(rt, asked, "key")?,
+            root: root(asked, "root")?,
+        })
+    }
+
+    fn of_update(rt: &HostRuntime, asked: &ArgMatches<'_>) -> Result<Claim> {
+        Ok(Claim::Update {
+            key: bytes(rt, asked, "key")?,
+            old_value: bytes(rt, asked, "old-value")?,
+            new_value: bytes(rt, asked, "new-value")?,
+            old_root: root(asked, "old-root")?,
+            new_root: root(asked, "new-root")?,
+        })
+    }
+
+    fn of_insertion(rt: &HostRuntime, asked: &ArgMatches<'_>) -> Result<Claim> {
+        Ok(Claim::Insertion {
+            key: bytes(rt, asked, "key")?,
+            value: bytes(rt, asked, "value")?,
+            old_root: root(asked, "old-root")?,
+            new_root: root(asked, "new-root")?,
+        })
     }
 
     /// The verdict by the evidence, or why this is refused.

@@ -2,7 +2,7 @@
 //! strings of one digest.
 
 use crate::claim::{Claim, Evidence};
-use crate::world::{entries, insertions, old_and_new};
+use crate::world::{entries, insertions, old_and_new_entries, old_and_new_insertions};
 use anyhow::Result;
 use warg_claims::{
     convict_absent, convict_entry, convict_entry_path, convict_growth, convict_growth_path,
@@ -64,8 +64,7 @@ fn of_growth(
     new: &Checkpoint<Sha256>,
     lines: &str,
 ) -> Result<Finding<Sha256>> {
-    let (before, after) = old_and_new(lines)?;
-    let (before, after) = (entries(rt, before)?, entries(rt, after)?);
+    let (before, after) = old_and_new_entries(rt, lines)?;
     Ok(match evidence {
         Evidence::Bundle { bytes, at } => {
             convict_growth(rt.alloc(), bytes, *at, old, new, &before, &after)?
@@ -99,8 +98,7 @@ fn of_map(
             old_root,
             new_root,
         } => {
-            let (old, new) = old_and_new(lines)?;
-            let (old, new) = (insertions(rt, old)?, insertions(rt, new)?);
+            let (old, new) = old_and_new_insertions(rt, lines)?;
             Ok(convict_update(
                 rt.alloc(),
                 bundle,
@@ -120,8 +118,7 @@ fn of_map(
             old_root,
             new_root,
         } => {
-            let (old, new) = old_and_new(lines)?;
-            let (old, new) = (insertions(rt, old)?, insertions(rt, new)?);
+            let (old, new) = old_and_new_insertions(rt, lines)?;
             Ok(convict_insertion(
                 rt.alloc(),
                 bundle,

@@ -42,14 +42,17 @@ fn main(rt: HostRuntime) -> ExitCode {
 // Reads the arguments, and prints what they ask for.
 fn judge(rt: &HostRuntime) -> Result<ExitCode> {
     let words = env::args(rt)?.collect::<Vec<String>>(rt.alloc())?;
-    let matches = match command(rt.alloc())?.try_get_matches_from(words.as_slice()) {
-        Ok(matches) => matches,
+    match command(rt.alloc())?.try_get_matches_from(words.as_slice()) {
+        Ok(matches) => answer(rt, &matches),
         Err(error) => {
             error.print(rt)?;
             let is_help = error.exit_code() == 0;
-            return Ok(ExitCode::from(if is_help { 0 } else { 3 }));
+            Ok(ExitCode::from(if is_help { 0 } else { 3 }))
         }
-    };
+    }
+}
+
+fn answer(rt: &HostRuntime, matches: &ArgMatches<'_>) -> Result<ExitCode> {
     match matches.subcommand() {
         Some(("convict", of)) => match of.subcommand() {
             Some((name, asked)) => answer_conviction(rt, name, asked),
@@ -60,13 +63,22 @@ fn judge(rt: &HostRuntime) -> Result<ExitCode> {
     }
 }
 
-// Prints the verdict on a claim, or why the evidence is refused.
 fn answer_verdict(rt: &HostRuntime, name: &str, asked: &ArgMatches<'_>) -> Result<ExitCode> {
     let claim = Claim::of(rt, name, asked)?;
     let evidence = Evidence::of(rt, name, asked)?;
-    match claim.verdict(rt.alloc(), &evidence) {
-        Ok(false) if asked.get_flag("verbose") => {
-            let reason = reason(rt.alloc(), &claim, &evidence)?;
+    tell_verdict(rt, &claim, &evidence, asked.get_flag("verbose"))
+}
+
+// Prints the verdict on a claim, or why the evidence is refused.
+fn tell_verdict(
+    rt: &HostRuntime,
+    claim: &Claim,
+    evidence: &Evidence,
+    is_verbose: bool,
+) -> Result<ExitCode> {
+    match claim.verdict(rt.alloc(), evidence) {
+        Ok(false) if is_verbose => {
+            let reason = reason(rt.alloc(), claim, evidence)?;
             println!(rt; "false: {reason}")?;
             Ok(status_of(false))
         }
@@ -78,7 +90,6 @@ fn answer_verdict(rt: &HostRuntime, name: &str, asked: &ArgMatches<'_>) -> Resul
     }
 }
 
-// Prints what evidence with a true verdict shows of the entries or insertions on standard input.
 fn answer_conviction(rt: &HostRuntime, name: &str, asked: &ArgMatches<'_>) -> Result<ExitCode> {
     if is_on_standard_input(asked)? {
         return Err(anyhow!(
@@ -87,9 +98,14 @@ fn answer_conviction(rt: &HostRuntime, name: &str, asked: &ArgMatches<'_>) -> Re
     }
     let claim = Claim::of(rt, name, asked)?;
     let evidence = Evidence::of(rt, name, asked)?;
+    tell_conviction(rt, &claim, &evidence)
+}
+
+// Prints what evidence with a true verdict shows of the entries or insertions on standard input.
+fn tell_conviction(rt: &HostRuntime, claim: &Claim, evidence: &Evidence) -> Result<ExitCode> {
     let lines = String::from_utf8(standard_input(rt)?)?;
-    match claim.verdict(rt.alloc(), &evidence) {
-        Ok(true) => tell(rt, &convict(rt, &claim, &evidence, &lines)?),
+    match claim.verdict(rt.alloc(), evidence) {
+        Ok(true) => tell(rt, &convict(rt, claim, evidence, &lines)?),
         Ok(false) => {
             println!(rt; "not met: the verdict is false")?;
             Ok(ExitCode::from(2))
@@ -106,8 +122,8 @@ fn tell(rt: &HostRuntime, found: &Finding<Sha256>) -> Result<ExitCode> {
             Ok(ExitCode::from(0))
         }
         Finding::Collision(pair) => {
-            println!(rt; "{}", hex::encode(rt.alloc(), pair.first())?)?;
-            println!(rt; "{}", hex::encode(rt.alloc(), pair.second())?)?;
+            tell_bytes(rt, pair.first())?;
+            tell_bytes(rt, pair.second())?;
             Ok(ExitCode::from(1))
         }
         Finding::NotMet => {
@@ -115,6 +131,12 @@ fn tell(rt: &HostRuntime, found: &Finding<Sha256>) -> Result<ExitCode> {
             Ok(ExitCode::from(2))
         }
     }
+}
+
+fn tell_bytes(rt: &HostRuntime, bytes: &[u8]) -> Result<()> {
+    let digits = hex::encode(rt.alloc(), bytes)?;
+    println!(rt; "{digits}")?;
+    Ok(())
 }
 
 // Prints why evidence is refused.
