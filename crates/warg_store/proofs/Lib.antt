@@ -8,6 +8,7 @@ mod ServeLemmas
 mod MemoryLemmas
 mod ListedLemmas
 mod ReadyLemmas
+mod ReadyRuns
 mod PathLemmas
 mod LeadLemmas
 mod StagedLemmas

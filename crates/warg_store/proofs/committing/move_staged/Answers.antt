@@ -5,7 +5,8 @@ use Rattle.std.specs.declared.string.String.{String}
 use Rattle.std.specs.declared.alloc.Global.{Global}
 use Rattle.warg_store.specs.Files.{Files}
 use Rattle.warg_store.specs.Names.{staged}
-use Rattle.warg_store.proofs.StepLemmas.{moved_gone}
+use Rattle.warg_store.specs.Private.Steps.{IsMoving}
+use Rattle.warg_store.proofs.StepLemmas.{moved_gone, moving_none}
 use Rattle.warg_store.proofs.committing.move_staged.Goals as goal
 
 pub returns-clause-moved : goal.returns-clause-moved
@@ -22,3 +23,22 @@ returns-clause-moved g c = λ faithful.
     ((c.in_ok-names.ensures.all faithful) (staged n)
     (subst (λ (f : Files). IsSome (f (staged n))) (c.list.ensures.seen faithful) some) refl)))
     (c.sync.ensures.durable faithful)
+
+pub returns-in_err-names-clause-moving : goal.returns-in_err-names-clause-moving
+returns-in_err-names-clause-moving g c = λ faithful.
+    let first = g.F.Folder.seen c.args.folder.now in
+    subst (IsMoving first) (sym (c.list.ensures.seen faithful)) (moving_none first)
+
+pub returns-in_err-move_all-clause-moving : goal.returns-in_err-move_all-clause-moving
+returns-in_err-move_all-clause-moving g c = λ faithful.
+    let last = g.F.Folder.seen c.move_all.new.folder in
+    subst (λ (s : Files). IsMoving s last) (c.list.ensures.seen faithful)
+    (c.move_all.ensures.crash faithful last (g.met.F.Folder.seen_may_stay c.move_all.new.folder))
+
+pub returns-clause-moving : goal.returns-clause-moving
+returns-clause-moving g c = λ faithful.
+    let first = g.F.Folder.seen c.args.folder.now in
+    let last = g.F.Folder.seen c.move_all.new.folder in
+    subst (IsMoving first) (sym (c.sync.ensures.seen faithful))
+    (subst (λ (s : Files). IsMoving s last) (c.list.ensures.seen faithful)
+    (c.move_all.ensures.crash faithful last (g.met.F.Folder.seen_may_stay c.move_all.new.folder)))

@@ -3,8 +3,8 @@ use Rattle.std.proofs.lemmas.Result.{IfOk-weaker, on_ok_weaker}
 use Rattle.warg_tiles.specs.CheckpointText.{Said}
 use Rattle.warg_store.specs.Files.{Files}
 use Rattle.warg_store.specs.Moments.{Within}
-use Rattle.warg_store.specs.Names.{state}
-use Rattle.warg_store.specs.Opening.{IsTakenOver}
+use Rattle.warg_store.specs.Names.{checkpoint, state}
+use Rattle.warg_store.specs.Opening.{AgreesWith, IsTakenOver}
 use Rattle.warg_store.specs.Log.{LogOf, Serves, Keeps, HasLog, said_of}
 use Rattle.warg_store.specs.Refusals.{IsNoFault}
 use Rattle.warg_store.proofs.WholeLemmas.{err_same}
@@ -97,3 +97,37 @@ returns-in_default-clause-any_moment g c = λ faithful only.
     run (λ f same. inl same) (λ f. subst (λ (s : Files). (f ≡ s) ⊎ IsTakenOver s f → P f) (sym seen) (λ p. p)))
     (c.take_over.ensures.any_moment faithful (λ f left. left_same f left ∙ sym seen)
     (ap (λ (f : Files). f state) seen ∙ (c.in_ok-state.ensures.none faithful).0 c.in_default.is))
+
+pub returns-clause-ready : goal.returns-clause-ready
+returns-clause-ready g c = λ faithful staging.
+    c.in_ok-compare.ensures.ready faithful
+    (c.in_ok-served.ensures.ready faithful (c.in_ok-state.ensures.ready faithful staging))
+
+pub returns-in_default-clause-ready : goal.returns-in_default-clause-ready
+returns-in_default-clause-ready g c = λ faithful staging.
+    c.take_over.ensures.ready faithful (c.in_ok-state.ensures.ready faithful staging)
+
+pub returns-clause-beside : goal.returns-clause-beside
+returns-clause-beside g c = λ faithful n isnt.
+    ap (λ (f : Files). f n) (c.compare.ensures.seen faithful ∙ c.read_served.ensures.seen faithful
+    ∙ c.read_text.ensures.seen faithful)
+
+pub returns-in_default-clause-beside : goal.returns-in_default-clause-beside
+returns-in_default-clause-beside g c = λ faithful.
+    on_ok_weaker c.take_over.result
+    (λ beside n isnt. beside n isnt ∙ ap (λ (f : Files). f n) (c.read_text.ensures.seen faithful))
+    (c.take_over.ensures.beside faithful)
+
+pub returns-clause-agrees : goal.returns-clause-agrees
+returns-clause-agrees g c = λ faithful served behind can there.
+    subst (AgreesWith c.in-Some.state)
+    (c.in_ok-served.ensures.said faithful served behind can
+    (ap (λ (f : Files). f checkpoint) (c.read_text.ensures.seen faithful) ∙ there))
+    c.in_ok-compare.ensures.agrees
+
+pub returns-in_default-clause-agrees : goal.returns-in_default-clause-agrees
+returns-in_default-clause-agrees g c = λ faithful.
+    IfOk-weaker c.take_over.result _ _
+    (λ text agrees served behind can there. agrees served behind can
+    (ap (λ (f : Files). f checkpoint) (c.read_text.ensures.seen faithful) ∙ there))
+    (c.take_over.ensures.agrees faithful)

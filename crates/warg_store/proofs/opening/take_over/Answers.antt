@@ -9,6 +9,8 @@ use Rattle.warg_store.specs.Refusals.{IsNoFault}
 use Rattle.warg_store.proofs.WholeLemmas.{err_same, same_said}
 use Rattle.warg_store.specs.Opening.{AgreesWith, CanBeServed, IsTakenOver}
 use Rattle.warg_store.proofs.MomentLemmas.{begins, goes_on, weaker, then_reads, in_end}
+use Rattle.warg_store.proofs.FileLemmas.{put_apart}
+use Rattle.warg_store.proofs.ReadyRuns.{state_staging}
 use Rattle.warg_store.proofs.opening.take_over.Goals as goal
 
 pub returns-clause-text : goal.returns-clause-text
@@ -106,3 +108,16 @@ returns-clause-any_moment g c = λ faithful only none.
     ⊎_elim (λ same. inl (same ∙ was))
     (λ changed. inr (record { none = none; text = text; says = says; put = changed ∙ ap (put (state, text)) was }))
     from.2)
+
+pub returns-clause-ready : goal.returns-clause-ready
+returns-clause-ready g c = λ faithful staging.
+    state_staging c.as_slice-2.result.now (g.F.Folder.seen c.read_edge.new.folder) (g.F.Folder.seen c.replace.new.self)
+    (g.F.Folder.may_leave c.read_edge.new.folder) (g.F.Folder.may_leave c.replace.new.self)
+    (c.in_ok-replace.ensures.replaced faithful) (c.in_ok-replace.ensures.durable faithful)
+    (c.in_ok-edge.ensures.ready faithful (c.in_ok-served.ensures.ready faithful staging))
+
+pub returns-clause-beside : goal.returns-clause-beside
+returns-clause-beside g c = λ faithful n differ.
+    ap (λ (f : Files). f n) (c.in_ok-replace.ensures.replaced faithful)
+    ∙ put_apart (state, c.as_slice-2.result.now) (g.F.Folder.seen c.read_edge.new.folder) n differ
+    ∙ ap (λ (f : Files). f n) (c.read_edge.ensures.seen faithful ∙ c.read_text.ensures.seen faithful)

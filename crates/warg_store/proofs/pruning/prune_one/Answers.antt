@@ -3,7 +3,7 @@ use Rattle.std.specs.Prelude.{option_map, IfSome}
 use Rattle.warg_store.specs.declared.pruning.Named.{Named}
 use Rattle.warg_store.specs.Pruned.{HasFull}
 use Rattle.warg_store.specs.Private.Steps.{IsPruning}
-use Rattle.warg_store.proofs.MomentLemmas.{goes_on, begins}
+use Rattle.warg_store.proofs.MomentLemmas.{goes_on, begins, stays}
 use Rattle.warg_store.proofs.PruneLemmas.{gone_one, some_read}
 use Rattle.warg_store.proofs.pruning.prune_one.Goals as goal
 
@@ -54,3 +54,30 @@ returns-clause-any_moment g c = λ faithful s all.
     (begins _ _ _ c.args.folder.now c.read.new.self P (g.met.F.Folder.only_now c.args.folder.now)
     (c.read.ensures.time faithful) all (λ e left. all e (c.read.ensures.crash faithful e left)))
     (c.remove.ensures.time faithful) (λ e left. returns-clause-crash g c faithful s e all left)
+
+pub returns-in_err-named-clause-any_moment : goal.returns-in_err-named-clause-any_moment
+returns-in_err-named-clause-any_moment g c = λ faithful s all.
+    stays _ _ c.args.folder.now (IsPruning c.args.kept c.args.served s)
+    (λ e left. all e (g.met.F.Folder.only_now c.args.folder.now e left))
+
+pub returns-in_default-clause-any_moment : goal.returns-in_default-clause-any_moment
+returns-in_default-clause-any_moment g c = λ faithful s all.
+    stays _ _ c.args.folder.now (IsPruning c.args.kept c.args.served s)
+    (λ e left. all e (g.met.F.Folder.only_now c.args.folder.now e left))
+
+pub returns-then-not-is_spare-clause-any_moment : goal.returns-then-not-is_spare-clause-any_moment
+returns-then-not-is_spare-clause-any_moment g c = λ faithful s all.
+    stays _ _ c.args.folder.now (IsPruning c.args.kept c.args.served s)
+    (λ e left. all e (g.met.F.Folder.only_now c.args.folder.now e left))
+
+pub returns-in_err-read-clause-any_moment : goal.returns-in_err-read-clause-any_moment
+returns-in_err-read-clause-any_moment g c = λ faithful s all.
+    begins _ _ _ c.args.folder.now c.read.new.self (IsPruning c.args.kept c.args.served s)
+    (g.met.F.Folder.only_now c.args.folder.now) (c.read.ensures.time faithful) all
+    (λ e left. all e (c.read.ensures.crash faithful e left))
+
+pub returns-in_default-2-clause-any_moment : goal.returns-in_default-2-clause-any_moment
+returns-in_default-2-clause-any_moment g c = λ faithful s all.
+    begins _ _ _ c.args.folder.now c.read.new.self (IsPruning c.args.kept c.args.served s)
+    (g.met.F.Folder.only_now c.args.folder.now) (c.read.ensures.time faithful) all
+    (λ e left. all e (c.read.ensures.crash faithful e left))

@@ -2,6 +2,7 @@ use Rattle.std.proofs.Common.{◌≡◌, List, ℕ, Bor, map, sym, ap, ◌∙◌
 use Rattle.warg_tiles.specs.Tiles.{TileAt}
 use Rattle.warg_tiles.specs.EntryBundles.{bundle_of}
 use Rattle.warg_store.specs.Log.{bundle_bytes}
+use Rattle.warg_store.proofs.MomentLemmas.{read_by}
 use Rattle.warg_store.proofs.FetchedLemmas.{bundle_tile, own_bundle}
 use Rattle.warg_store.proofs.reading.read_entries.Goals as goal
 
@@ -17,3 +18,23 @@ returns-clause-own g c = λ faithful log files short count.
     c.as_slice-2.ensures.value ∙ sym c.in_ok-entries.ensures.entries ∙ c.as_slice.ensures.value ∙ read in
     c.in_ok-copies.ensures.copies ∙ own_bundle log t c.args.bundle c.args.log_length es count c.new-tile.ensures.number
     width bytes
+
+pub returns-in_err-bytes-clause-read : goal.returns-in_err-bytes-clause-read
+returns-in_err-bytes-clause-read g c = λ faithful.
+    read_by _ _ _ _ _ _ (c.read_bundle.ensures.seen faithful) (c.read_bundle.ensures.crash faithful)
+    (c.read_bundle.ensures.time faithful)
+
+pub returns-in_err-entries-clause-read : goal.returns-in_err-entries-clause-read
+returns-in_err-entries-clause-read g c = λ faithful.
+    read_by _ _ _ _ _ _ (c.read_bundle.ensures.seen faithful) (c.read_bundle.ensures.crash faithful)
+    (c.read_bundle.ensures.time faithful)
+
+pub returns-in_err-copies-clause-read : goal.returns-in_err-copies-clause-read
+returns-in_err-copies-clause-read g c = λ faithful.
+    read_by _ _ _ _ _ _ (c.read_bundle.ensures.seen faithful) (c.read_bundle.ensures.crash faithful)
+    (c.read_bundle.ensures.time faithful)
+
+pub returns-clause-read : goal.returns-clause-read
+returns-clause-read g c = λ faithful.
+    read_by _ _ _ _ _ _ (c.read_bundle.ensures.seen faithful) (c.read_bundle.ensures.crash faithful)
+    (c.read_bundle.ensures.time faithful)

@@ -5,9 +5,10 @@ use Rattle.warg_tiles.specs.CheckpointText.{Said}
 use Rattle.warg_tiles.specs.declared.stored.StoredTile.{StoredTile}
 use Rattle.warg_store.specs.Files.{Files}
 use Rattle.warg_store.specs.Moments.{LeavesOnly}
-use Rattle.warg_store.specs.Opening.{NothingStaged, IsOpening, IsTakenOver}
+use Rattle.warg_store.specs.Names.{checkpoint}
+use Rattle.warg_store.specs.Opening.{AgreesWith, NothingStaged, IsOpening, IsTakenOver}
 use Rattle.warg_store.specs.Log.{Keeps, HasLog, HasFiles}
-use Rattle.warg_store.specs.Growing.{LogIn, Has, ArePartsOf}
+use Rattle.warg_store.specs.Growing.{LogIn, IsReady, Has, ArePartsOf}
 use Rattle.warg_store.proofs.MomentLemmas.{weaker, then, then_reads}
 use Rattle.warg_store.proofs.OpenLemmas.{opened_has, beside_state}
 use Rattle.warg_store.proofs.WholeLemmas.{mark_fits}
@@ -70,3 +71,16 @@ returns-clause-any_moment g c = λ faithful.
     subst (λ (l : LogIn g.row.F.Denot). LeavesOnly moment since c.args.folder l.folder R) (sym c.with.ensures)
     (then_reads moment since may counts c.args.folder c.read_edge.new.folder c.read_last_bundle.new.folder R edge
     (c.in_ok-bundle.ensures.any_moment faithful))
+
+pub returns-clause-ready : goal.returns-clause-ready
+returns-clause-ready g c = λ faithful.
+    subst (IsReady g.F.Folder.seen g.F.Folder.may_leave) (sym c.with.ensures)
+    (λ is. c.in_ok-bundle.ensures.ready faithful
+    (c.in_ok-edge.ensures.ready faithful
+    (c.in_ok-text.ensures.ready faithful (c.in_default.ensures.ready faithful))))
+
+pub returns-clause-agrees : goal.returns-clause-agrees
+returns-clause-agrees g c = λ faithful served behind can there.
+    subst (λ (l : LogIn g.row.F.Denot). AgreesWith l.text served) (sym c.with.ensures)
+    (c.in_ok-text.ensures.agrees faithful served behind can
+    (ap (λ (f : Files). f checkpoint) (c.in_default.ensures.opened faithful) ∙ there))

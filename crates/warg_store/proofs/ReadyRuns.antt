@@ -1,0 +1,40 @@
+-- Runs over a folder that is ready for the next commit.
+use Rattle.std.proofs.Common.{◌≡◌, ◌≤◌, ℕ, List, Option, Some, sym, ap, nat_eq, if◌then◌else◌, ◌∙◌}
+use Rattle.std.specs.Cmp.Lexicographic.{pointwise}
+use Rattle.warg_store.specs.Files.{Files, put}
+use Rattle.warg_store.specs.Moments.{Follows, LeavesOnly}
+use Rattle.warg_store.specs.Names.{mark, state}
+use Rattle.warg_store.specs.Opening.{IsBeside, IsStaging}
+use Rattle.warg_store.proofs.MomentLemmas.{then, in_end}
+
+beside_then : (s m c : Files) → IsBeside s m → IsBeside m c → IsBeside s c
+beside_then s m c one two = record {
+  outside = λ n isnt. two.outside n isnt ∙ one.outside n isnt;
+  no_mark = two.no_mark;
+}
+
+-- two runs that stage, the second after the first
+pub stages_twice : {D : Type 0} (seen : D → Files) (may_leave : D → Files → Type 0) (moment : D → ℕ)
+    (left_since : D → ℕ → Files → Type 0)
+    (counts : (folder : D) (t : ℕ) (c : Files) → t ≤ moment folder → may_leave folder c → left_since folder t c)
+    (stays : (folder : D) → may_leave folder (seen folder)) (old mid new : D)
+    → LeavesOnly moment left_since old mid (IsBeside (seen old))
+    → LeavesOnly moment left_since mid new (IsBeside (seen mid))
+    → LeavesOnly moment left_since old new (IsBeside (seen old))
+stages_twice seen may_leave moment left_since counts stays old mid new one two =
+    let P = IsBeside (seen old) in
+    let now : P (seen mid) = in_end moment left_since may_leave counts old mid P one (seen mid) (stays mid) in
+    (then) moment left_since old mid new P (IsBeside (seen mid)) P one two (λ c is. is)
+    (λ c. beside_then (seen old) (seen mid) c now)
+
+-- a folder whose state is put stays ready
+pub state_staging : (bytes : List ℕ) (s t : Files) (may now : Files → Type 0) → t ≡ put (state, bytes) s
+    → Follows (λ old new. new ≡ put (state, bytes) old) may now → IsStaging s may → IsStaging t now
+state_staging bytes s t may now is follows staging c left =
+    let from = follows c left in
+    let was = staging from.0 from.1 in record {
+      outside = λ n isnt. ap (λ (f : Files). f n) from.2
+          ∙ ap (λ (o : Option (List ℕ)). if pointwise nat_eq state n then Some bytes else o) (was.outside n isnt)
+          ∙ sym (ap (λ (f : Files). f n) is);
+      no_mark = ap (λ (f : Files). f mark) from.2 ∙ was.no_mark;
+    }
