@@ -2,7 +2,7 @@ use Rattle.std.proofs.Common.{◌≡◌, length, ap, subst, ◌∙◌}
 use Rattle.warg_tiles.specs.CheckpointText.{Said}
 use Rattle.warg_store.specs.Moments.{LeavesOnly}
 use Rattle.warg_store.specs.Private.Steps.{IsPruning}
-use Rattle.warg_store.proofs.MomentLemmas.{goes_on, read_twice, then}
+use Rattle.warg_store.proofs.MomentLemmas.{begins, goes_on, read_twice, then}
 use Rattle.warg_store.proofs.PruneLemmas.{begun}
 use Rattle.warg_store.proofs.pruning.prune_all.Goals as goal
 
@@ -69,3 +69,12 @@ returns-clause-any_moment g c = λ faithful served log keeps staging.
     (λ e left. c.prune_each.ensures.crash faithful s e read.1 (c.sync.ensures.crash faithful e left)) in
     subst (λ n. LeavesOnly g.F.Folder.moment g.F.Folder.left_since c.args.folder.now c.sync.new.self
     (IsPruning c.args.kept n s)) size sync
+
+pub returns-in_err-read_served-clause-any_moment : goal.returns-in_err-read_served-clause-any_moment
+returns-in_err-read_served-clause-any_moment g c = λ faithful served log keeps staging.
+    let s = g.F.Folder.seen c.args.folder.now in
+    let most = length served.entries in
+    begins _ _ _ c.args.folder.now c.read_served.new.folder (IsPruning c.args.kept most s)
+    (g.met.F.Folder.only_now c.args.folder.now) (c.read_served.ensures.time faithful)
+    (λ d left. begun c.args.kept most s d (staging d left))
+    (λ d left. begun c.args.kept most s d (staging d (c.read_served.ensures.crash faithful d left)))

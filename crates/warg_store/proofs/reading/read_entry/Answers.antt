@@ -6,7 +6,9 @@ use Rattle.std.proofs.lemmas.Option.{slice_get-map, slice_get_read}
 use Rattle.warg_tiles.specs.Tiles.{TileAt}
 use Rattle.warg_tiles.specs.EntryBundles.{bundle_of}
 use Rattle.warg_store.specs.Log.{bundle_bytes}
+use Rattle.warg_store.specs.Refusals.{IsNoFault}
 use Rattle.warg_store.proofs.FetchedLemmas.{own_entry, entry_tile}
+use Rattle.warg_store.proofs.WholeLemmas.{err_same}
 use Rattle.warg_store.proofs.reading.read_entry.Goals as goal
 
 pub returns-in-Some-clause-own : goal.returns-in-Some-clause-own
@@ -30,3 +32,21 @@ returns-in-Some-clause-own g c faithful log files short count =
     ∙ ap (λ (l : List (Bor (List ℕ))). length l) c.as_slice-2.ensures.value ∙ c.in_ok-entries.ensures.count in
     ap (slice_get log.entries) (sym bounds.place) ∙ own_entry log t es place entry bounds.fits bytes width got
     ∙ ap (λ (e : List ℕ). Some e) (sym (c.in_ok-to_vec-in-Some.ensures.items_if_clones_equal (λ x y e. e)))
+
+pub returns-in_err-bytes-clause-whole : goal.returns-in_err-bytes-clause-whole
+returns-in_err-bytes-clause-whole g c = λ faithful log files short count.
+    let t : TileAt = c.new-tile.result in
+    let bounds = entry_tile log t c.args.index c.args.log_length count c.requires c.new-tile.ensures.level
+    c.new-tile.ensures.number (c.new-tile.ensures.width ∙ c.min.ensures) in
+    err_same (IsNoFault ⊥) c.in_err-bytes.field-0.0 c.from_residual.result c.from_residual.ensures.1
+    (c.in_err-bytes.ensures.whole faithful log (files.bundle t bounds.is_in))
+
+pub returns-in_err-entries-clause-whole : goal.returns-in_err-entries-clause-whole
+returns-in_err-entries-clause-whole g c = λ faithful log files short count.
+    let t : TileAt = c.new-tile.result in
+    let bounds = entry_tile log t c.args.index c.args.log_length count c.requires c.new-tile.ensures.level
+    c.new-tile.ensures.number (c.new-tile.ensures.width ∙ c.min.ensures) in
+    let read = c.in_ok-bytes.ensures.read faithful log short bounds.most (files.bundle t bounds.is_in) in
+    err_same (IsNoFault ⊥) c.in_err-entries.field-0.0 c.from_residual-in_err-entries.result
+    c.from_residual-in_err-entries.ensures.1
+    (c.in_err-entries.ensures.whole log short bounds.is_in (c.as_slice.ensures.value ∙ read))

@@ -1,10 +1,11 @@
 use Rattle.std.proofs.Common.{◌≡◌, ℕ, List, length, map, true, None, Vec, Global, sym, ap, subst, refl, ◌∙◌, arith}
 use Rattle.warg_tiles.specs.CheckpointText.{Said, text_of}
+use Rattle.warg_tiles.specs.TileLog.{RightEdge}
 use Rattle.warg_store.specs.Files.{Files}
 use Rattle.warg_store.specs.Names.{checkpoint}
 use Rattle.warg_store.specs.Opening.{committed}
 use Rattle.warg_store.specs.Log.{Keeps, CanBeKept, said_of, checkpoint_of, no_entries_with}
-use Rattle.warg_store.specs.Growing.{Has}
+use Rattle.warg_store.specs.Growing.{LogIn, IsReady, Has}
 use Rattle.warg_store.proofs.StepLemmas.{idle_opened, without_at}
 use Rattle.warg_store.proofs.CreateLemmas.{created, has_none}
 use Rattle.warg_store.proofs.log_folder.LogFolder.create_with.Goals as goal
@@ -53,3 +54,15 @@ returns-clause-has g c = λ faithful.
     (has_none seen g.F.Folder.may_leave c.args.origin.now lines c.commit.new.folder c.new.result c.new.ensures.value
     c.new.ensures.stands keeps
     (c.in_ok-commit.ensures.empty faithful) (c.in_ok-commit.ensures.ready faithful))))
+
+pub returns-clause-ready : goal.returns-clause-ready
+returns-clause-ready g c = λ faithful.
+    subst (IsReady g.F.Folder.seen g.F.Folder.may_leave) (sym c.with.ensures)
+    (λ is. c.in_ok-commit.ensures.ready faithful)
+
+pub returns-clause-empty : goal.returns-clause-empty
+returns-clause-empty g c = (
+  ap (λ (l : LogIn g.row.F.Denot). l.edge.len) c.with.ensures ∙ ap (λ (e : RightEdge). e.len) c.new.ensures.value,
+  ap (λ (l : LogIn g.row.F.Denot). l.text.origin) c.with.ensures
+      ∙ ap (λ (s : Said). s.origin) c.in_ok-text.ensures.said,
+)
