@@ -1,6 +1,6 @@
 //! Standard input, line by line.
 
-use crate::refusal::Refusal;
+use crate::refusal::{Refusal, on_stream};
 use hex::FromHexError;
 use memchr::memchr;
 use std::alloc::{AllocError, Global};
@@ -21,6 +21,8 @@ const AT_ONCE: usize = 1 << 16;
 
 const NO_INSERTION: &str =
     "isn't an insertion: write KEY VALUE, each two hexadecimal digits for each byte or - for no bytes";
+
+const LONG_INSERTION: &str = "is too long: a key and its value have at most 65,519 bytes together";
 
 type Reader = <HostRuntime as Input>::Reader;
 
@@ -116,16 +118,13 @@ impl Lines {
         if !self.go_on_whole()? {
             return Ok(None);
         }
-        let line = self.line();
-        let (key, value) = line.split_at(memchr(b' ', line).unwrap_or(line.len()));
-        let value = value.strip_prefix(b" ").unwrap_or(value);
-        let key = decoded(self.alloc, key)?.ok_or(self.refused(NO_INSERTION))?;
-        let value = decoded(self.alloc, value)?.ok_or(self.refused(NO_INSERTION))?;
-        if key.len().saturating_add(value.len()) > MOST_INSERTION {
-            let fault = "is too long: a key and its value have at most 65,519 bytes together";
-            return Err(self.refused(fault));
+        match insertion_in(self.alloc, self.line())? {
+            None => Err(self.refused(NO_INSERTION)),
+            Some((key, value)) if key.len().saturating_add(value.len()) > MOST_INSERTION => Err(
+                self.refused(LONG_INSERTION),
+            ),
+            insertion => Ok(insertion),
         }
-        Ok(Some((key, value)))
     }
 
     // The next entry as a bundle has it: two bytes of length, the greater one first, and its bytes.
@@ -153,18 +152,23 @@ impl Lines {
     }
 }
 
-/// What became of a read of standard input.
+/// What a read of standard input returned.
 pub fn read<T: Drop>(alloc: Global, done: io::Result<T>) -> Result<T, Refusal> {
-    match done {
-        Ok(count) => Ok(count),
-        Err(error) => Err(Refusal::of_read(String::from_str(alloc, "standard input")?, error)),
-    }
+    on_stream(alloc, "standard input", true, done)
 }
 
 // A line without its newline, and without a carriage return before that.
 fn without_end(line: &[u8]) -> &[u8] {
     let line = line.strip_suffix(b"\n").unwrap_or(line);
     line.strip_suffix(b"\r").unwrap_or(line)
+}
+
+// The key and the value of a line, if it has both.
+fn insertion_in(alloc: Global, line: &[u8]) -> Result<Option<(Vec<u8>, Vec<u8>)>, AllocError> {
+    let (key, value) = line.split_at(memchr(b' ', line).unwrap_or(line.len()));
+    let key = decoded(alloc, key)?;
+    let value = decoded(alloc, value.strip_prefix(b" ").unwrap_or(value))?;
+    Ok(key.zip(value))
 }
 
 /// The bytes of a word of hexadecimal digits, or of none for `-`, if it is such.

@@ -11,34 +11,48 @@ use warg_crypto::Sha256;
 use warg_explorer::PAGE;
 use warg_log::Checkpoint;
 use warg_registry::{RegistryFolder, RegistryReader};
-use warg_store::{CreateError, Folder, LogError, LogFolder, Path, Progress, SystemFolder};
+use warg_store::{
+    CreateError, Folder, FolderLock, LogError, LogFolder, Path, Progress, SignError, SystemFolder,
+};
 use warg_tiles::CheckpointText;
 
 // A signed note has fewer bytes.
 const MOST_NOTE: u64 = 1 << 20;
 
+const NO_CHECKPOINT: &str =
+    "--from has to be LENGTH:ROOT, the root in base64 or hexadecimal digits";
+
+// A log in a folder of the system's.
+type Log<'a> = LogFolder<SystemFolder<'a>>;
+
 /// Makes a log of no entries, or a registry of no insertions.
 pub fn init(session: &Session<'_>, asked: &ArgMatches<'_>) -> Result<(), Refusal> {
     let origin = text(asked, "ORIGIN");
-    let mut bytes = origin.bytes();
-    // (C2SP tlog-checkpoint)
-    if !(1..65_536).contains(&origin.len())
-        || bytes.any(|byte| byte <= b' ' || byte == b'+' || byte == 127)
-    {
+    if !is_origin(origin) {
         let fault = "an origin has 1 to 65,535 bytes, and no space, plus sign or control character";
         return Err(Refusal::Argument(fault));
     }
-    session.make()?;
-    let _lock = session.take_lock()?;
-    let made = make(session, origin.as_bytes(), asked.get_flag("map"));
-    made.try_map_err(|error| session.of_create(error))
+    let _lock = session.locked(FolderLock::create(session.rt, session.folder))?;
+    match make(session, origin.as_bytes(), asked.get_flag("map")) {
+        Ok(()) => Ok(()),
+        Err(CreateError::Exists) => Err(Refusal::Exists(session.name()?)),
+        Err(CreateError::Origin) => Err(Refusal::Argument("the origin isn't one line of text")),
+        Err(CreateError::Folder(error)) => Err(session.of_folder(error)?),
+    }
+}
+
+// (C2SP tlog-checkpoint)
+fn is_origin(text: &str) -> bool {
+    let is_refused = |byte| byte <= b' ' || byte == b'+' || byte == 127;
+    (1..65_536).contains(&text.len()) && !text.bytes().any(is_refused)
 }
 
 fn make(session: &Session<'_>, origin: &[u8], has_map: bool) -> Result<(), CreateError> {
+    let (alloc, files) = (session.rt.alloc(), session.files()?);
     if has_map {
-        RegistryFolder::create(session.rt.alloc(), session.files()?, origin)?;
+        RegistryFolder::create(alloc, files, origin)?;
     } else {
-        LogFolder::create(session.rt.alloc(), session.files()?, origin)?;
+        LogFolder::create(alloc, files, origin)?;
     }
     Ok(())
 }
@@ -48,12 +62,20 @@ pub fn append(session: &Session<'_>, asked: &ArgMatches<'_>) -> Result<(), Refus
     if number(asked, "every", 1) == 0 {
         return Err(Refusal::Argument("--every has to be at least 1"));
     }
-    let (_lock, mut log) = session.writer()?;
+    let _lock = session.lock()?;
+    append_to(&mut session.log()?, session, asked)
+}
+
+fn append_to(
+    log: &mut Log<'_>,
+    session: &Session<'_>,
+    asked: &ArgMatches<'_>,
+) -> Result<(), Refusal> {
     if names_map(log.text()) {
         return Err(Refusal::HasMap(session.name()?));
     }
     let first = length_of(asked, &log.checkpoint())?;
-    push_entries(session, &mut log, asked)?;
+    push_entries(log, session, asked)?;
     session.done(log.commit())?;
     session.say_added(first, log.length())
 }
@@ -66,23 +88,23 @@ fn names_map(text: &CheckpointText<Sha256>) -> bool {
 
 /// The length of a log, which is refused if it isn't at the checkpoint that is asked for.
 pub fn length_of(asked: &ArgMatches<'_>, at: &Checkpoint<Sha256>) -> Result<usize, Refusal> {
-    let Some(from) = asked.get_str("from") else {
-        return Ok(at.length());
-    };
-    let fault = "--from has to be LENGTH:ROOT, the root in base64 or hexadecimal digits";
-    let asked = from
-        .split_once(':')
-        .and_then(|(length, root)| checkpoint_of(length, root));
-    if asked.ok_or(Refusal::Argument(fault))? != *at {
-        return Err(Refusal::Elsewhere(at.length()));
+    match asked.get_str("from").map(checkpoint_in) {
+        None => Ok(at.length()),
+        Some(None) => Err(Refusal::Argument(NO_CHECKPOINT)),
+        Some(Some(from)) if from == *at => Ok(at.length()),
+        Some(_) => Err(Refusal::Elsewhere(at.length())),
     }
-    Ok(at.length())
+}
+
+fn checkpoint_in(text: &str) -> Option<Checkpoint<Sha256>> {
+    let (length, root) = text.split_once(':')?;
+    checkpoint_of(length, root)
 }
 
 // Adds the entries of standard input, and commits each so many of them if that is asked for.
 fn push_entries(
+    log: &mut Log<'_>,
     session: &Session<'_>,
-    log: &mut LogFolder<SystemFolder<'_>>,
     asked: &ArgMatches<'_>,
 ) -> Result<(), Refusal> {
     let every = number(asked, "every", usize::MAX);
@@ -104,25 +126,34 @@ fn push_entries(
 
 /// Serves the signed note on standard input as the log's checkpoint.
 pub fn sign(session: &Session<'_>) -> Result<(), Refusal> {
-    let alloc = session.rt.alloc();
-    let mut note = Vec::new(alloc);
+    let mut note = Vec::new(session.rt.alloc());
     let mut input = session.rt.reader().take(MOST_NOTE + 1);
-    read(alloc, input.read_to_end(&mut note))?;
-    let (_lock, mut log) = session.writer()?;
-    let signed = log.sign(note.as_slice());
-    signed.try_map_err(|error| session.of_sign(error))
+    read(session.rt.alloc(), input.read_to_end(&mut note))?;
+    let _lock = session.lock()?;
+    sign_by(&mut session.log()?, session, note.as_slice())
+}
+
+fn sign_by(log: &mut Log<'_>, session: &Session<'_>, note: &[u8]) -> Result<(), Refusal> {
+    match log.sign(note) {
+        Ok(()) => Ok(()),
+        Err(SignError::Folder(error)) => Err(session.of_folder(error)?),
+        Err(_) => Err(Refusal::Note(session.path(".log/state")?)),
+    }
 }
 
 /// Removes the files that nothing needs any more, and prints how many these were.
 pub fn prune(session: &Session<'_>) -> Result<(), Refusal> {
-    let (_lock, mut log) = session.writer()?;
-    let removed = if names_map(log.text()) {
-        let registry = RegistryFolder::open(session.rt.alloc(), log.into_folder());
-        session.done(session.opened(registry)?.prune())?
-    } else {
-        session.done(log.prune())?
-    };
+    let _lock = session.lock()?;
+    let removed = pruned(session.log()?, session)?;
     session.said(println!(session.rt; "{removed} files removed"))
+}
+
+fn pruned(mut log: Log<'_>, session: &Session<'_>) -> Result<usize, Refusal> {
+    if !names_map(log.text()) {
+        return session.done(log.prune());
+    }
+    let registry = RegistryFolder::open(session.rt.alloc(), log.into_folder());
+    session.done(session.opened(registry)?.prune())
 }
 
 /// Makes each tile again from the bundles, and prints how many entries they have.
@@ -138,7 +169,7 @@ pub fn rebuild(session: &Session<'_>) -> Result<(), Refusal> {
 pub fn put_page(session: &Session<'_>) -> Result<(), Refusal> {
     let _lock = session.lock()?;
     let put = session.files()?.replace("index.html", PAGE.as_bytes());
-    put.try_map_err(|error| session.of_folder(error))
+    session.done(put.map_err(LogError::Folder))
 }
 
 /// Prints the checkpoint's text.

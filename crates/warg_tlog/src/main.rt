@@ -12,7 +12,7 @@ mod usage;
 mod verify;
 
 use clap::ArgMatches;
-use refusal::Refusal;
+use refusal::{Refusal, on_stream};
 use session::Session;
 use std::env;
 use std::io::ErrorKind;
@@ -45,13 +45,14 @@ fn answer(rt: &HostRuntime) -> Result<bool, Refusal> {
 
 // The words of the command line, the program's name first.
 fn commandline(rt: &HostRuntime) -> Result<Vec<String>, Refusal> {
-    let alloc = rt.alloc();
     match env::args(rt) {
-        Ok(words) => Ok(words.collect::<Vec<String>>(alloc)?),
-        Err(error) if error.kind() == ErrorKind::InvalidData => {
-            Err(Refusal::Argument("an argument isn't UTF-8"))
+        Err(error) if error.kind() == ErrorKind::InvalidData => Err(Refusal::Argument(
+            "an argument isn't UTF-8",
+        )),
+        words => {
+            let words = on_stream(rt.alloc(), "the command line", true, words)?;
+            Ok(words.collect::<Vec<String>>(rt.alloc())?)
         }
-        Err(error) => Err(Refusal::of_read(String::from_str(alloc, "the command line")?, error)),
     }
 }
 

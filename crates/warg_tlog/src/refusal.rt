@@ -6,7 +6,7 @@ use std::io;
 use std::io::ErrorKind;
 use thiserror::Error;
 use warg_registry::{PublishError, RegistryError};
-use warg_store::{CreateError, Damage, FolderError, LogError, SignError};
+use warg_store::{Damage, FolderError, FolderLock, LockError, LogError};
 
 /// Why a command is refused: a line on standard error.
 #[derive(Debug, Drop, Error)]
@@ -91,21 +91,27 @@ impl Refusal {
         Ok(Refusal::Arguments(line))
     }
 
-    /// That a file couldn't be written.
-    pub fn of_write(path: String, error: io::Error) -> Refusal {
+    /// That the system refused a call on a file.
+    pub fn of(path: String, error: io::Error, is_read: bool) -> Refusal {
         match error.kind() {
             ErrorKind::OutOfMemory => Refusal::Memory(AllocError),
+            _ if is_read => Refusal::Unreadable(path, error),
             ErrorKind::StorageFull | ErrorKind::QuotaExceeded => Refusal::NoRoom(path),
             _ => Refusal::Unwritable(path, error),
         }
     }
+}
 
-    /// That a file couldn't be read.
-    pub fn of_read(path: String, error: io::Error) -> Refusal {
-        match error.kind() {
-            ErrorKind::OutOfMemory => Refusal::Memory(AllocError),
-            _ => Refusal::Unreadable(path, error),
-        }
+/// What a call on a stream returned, or the refusal for it.
+pub fn on_stream<T: Drop>(
+    alloc: Global,
+    name: &str,
+    is_read: bool,
+    done: io::Result<T>,
+) -> Result<T, Refusal> {
+    match done {
+        Ok(value) => Ok(value),
+        Err(error) => Err(Refusal::of(String::from_str(alloc, name)?, error, is_read)),
     }
 }
 
@@ -114,7 +120,7 @@ impl Session<'_> {
     pub fn done<T: Drop, E: Into<PublishError>>(&self, done: Result<T, E>) -> Result<T, Refusal> {
         match done {
             Ok(value) => Ok(value),
-            Err(error) => Err(self.refusal(error.into())?),
+            Err(error) => Err(self.of_call(error.into())?),
         }
     }
 
@@ -123,55 +129,55 @@ impl Session<'_> {
         match opened {
             Ok(registry) => Ok(registry),
             Err(RegistryError::NoMap) => Err(Refusal::NoMap(self.name()?)),
-            Err(RegistryError::Log(error)) => self.done(Err(error)),
+            Err(RegistryError::Log(error)) => Err(self.of_log(error)?),
         }
     }
 
-    /// The refusal for a new log.
-    pub fn of_create(&self, error: CreateError) -> Result<Refusal, Refusal> {
-        match error {
-            CreateError::Exists => Ok(Refusal::Exists(self.name()?)),
-            CreateError::Origin => Ok(Refusal::Argument("the origin isn't one line of text")),
-            CreateError::Folder(error) => self.of_folder(error),
-        }
-    }
-
-    /// The refusal for a signed note.
-    pub fn of_sign(&self, error: SignError) -> Result<Refusal, Refusal> {
-        match error {
-            SignError::Text | SignError::TooLong => Ok(Refusal::Note(self.path(".log/state")?)),
-            SignError::Folder(error) => self.of_folder(error),
+    /// What became of a lock that was to be taken.
+    pub fn locked(&self, lock: Result<FolderLock, LockError>) -> Result<FolderLock, Refusal> {
+        match lock {
+            Ok(lock) => Ok(lock),
+            Err(LockError::Locked) => Err(Refusal::Locked(self.name()?)),
+            Err(LockError::NoLog) => Err(Refusal::NoLog(self.name()?)),
+            Err(LockError::Failed(it)) => Err(Refusal::of(it.path, it.error, it.is_read)),
+            Err(LockError::Memory) => Err(Refusal::Memory(AllocError)),
         }
     }
 
     // The refusal for a call on a log or a registry.
-    fn refusal(&self, error: PublishError) -> Result<Refusal, Refusal> {
-        Ok(match error {
-            PublishError::TooLong => Refusal::LongEntry,
-            PublishError::Full => Refusal::Full,
-            PublishError::Closed => Refusal::Lost(self.name()?),
-            PublishError::Log(LogError::NoLog) => Refusal::NoLog(self.name()?),
-            PublishError::Log(LogError::Damaged(damage)) => self.of_damage(&damage)?,
-            PublishError::Log(LogError::RolledBack { found, newest }) => {
-                Refusal::RolledBack(self.path("checkpoint")?, found, newest)
+    fn of_call(&self, error: PublishError) -> Result<Refusal, AllocError> {
+        match error {
+            PublishError::TooLong => Ok(Refusal::LongEntry),
+            PublishError::Full => Ok(Refusal::Full),
+            PublishError::Closed => Ok(Refusal::Lost(self.name()?)),
+            PublishError::Log(error) => self.of_log(error),
+        }
+    }
+
+    // The refusal for a log that isn't opened or read.
+    fn of_log(&self, error: LogError) -> Result<Refusal, AllocError> {
+        match error {
+            LogError::NoLog => Ok(Refusal::NoLog(self.name()?)),
+            LogError::Damaged(damage) => self.of_damage(&damage),
+            LogError::RolledBack { found, newest } => {
+                Ok(Refusal::RolledBack(self.path("checkpoint")?, found, newest))
             }
-            PublishError::Log(LogError::OutOfRange { bound }) => Refusal::OutOfRange(bound),
-            PublishError::Log(LogError::Folder(error)) => self.of_folder(error)?,
-        })
+            LogError::OutOfRange { bound } => Ok(Refusal::OutOfRange(bound)),
+            LogError::Folder(error) => self.of_folder(error),
+        }
     }
 
     /// The refusal for a call on the folder.
-    pub fn of_folder(&self, error: FolderError) -> Result<Refusal, Refusal> {
+    pub fn of_folder(&self, error: FolderError) -> Result<Refusal, AllocError> {
         match (error, self.fault.take()) {
-            (FolderError::Memory, _) => Ok(Refusal::Memory(AllocError)),
-            (_, Some(fault)) if fault.is_read => Ok(Refusal::of_read(fault.path, fault.error)),
-            (_, Some(fault)) => Ok(Refusal::of_write(fault.path, fault.error)),
+            (FolderError::Memory, _) => Err(AllocError),
+            (_, Some(it)) => Ok(Refusal::of(it.path, it.error, it.is_read)),
             (_, None) => Ok(Refusal::Lost(self.name()?)),
         }
     }
 
     // The refusal for a file that isn't what it is to be.
-    fn of_damage(&self, damage: &Damage) -> Result<Refusal, Refusal> {
+    fn of_damage(&self, damage: &Damage) -> Result<Refusal, AllocError> {
         let path = self.path(damage.name.as_str())?;
         Ok(match damage.name.as_str() {
             "checkpoint" => Refusal::DamagedText(path, damage.fault, ".log/state"),

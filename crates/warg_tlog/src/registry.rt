@@ -10,16 +10,26 @@ use std::alloc::{AllocError, Global};
 use warg_crypto::{Hash, Sha256};
 use warg_protobuf::{MapInclusionProof, MapProofBundle, OptionalHash};
 use warg_registry::{KeyInRegistry, RegistryFolder, RegistryReader};
-use warg_store::Progress;
+use warg_store::{Progress, SystemFolder};
 
 /// Adds the insertions of standard input, all of them or none, and prints the index of the first one and the new length.
 pub fn publish(session: &Session<'_>, asked: &ArgMatches<'_>) -> Result<(), Refusal> {
-    let alloc = session.rt.alloc();
     let _lock = session.lock()?;
-    let mut registry = session.opened(RegistryFolder::open(alloc, session.files()?))?;
+    let registry = RegistryFolder::open(session.rt.alloc(), session.files()?);
+    publish_to(&mut session.opened(registry)?, session, asked)
+}
+
+fn publish_to(
+    registry: &mut RegistryFolder<SystemFolder<'_>>,
+    session: &Session<'_>,
+    asked: &ArgMatches<'_>,
+) -> Result<(), Refusal> {
     let first = length_of(asked, &registry.checkpoint())?;
     let insertions = read_insertions(session)?;
-    let borrowed = borrowed(alloc, insertions.as_slice())?;
+    let borrowed: Vec<(&[u8], &[u8])> = insertions
+        .iter()
+        .map(|(key, value)| (key.as_slice(), value.as_slice()))
+        .collect(session.rt.alloc())?;
     session.done(registry.publish(borrowed.as_slice()))?;
     session.say_added(first, registry.checkpoint().length())
 }
@@ -39,41 +49,28 @@ fn read_insertions(session: &Session<'_>) -> Result<Vec<(Vec<u8>, Vec<u8>)>, Ref
     Ok(insertions)
 }
 
-// The insertions as a registry takes them.
-fn borrowed(
-    alloc: Global,
-    insertions: &[(Vec<u8>, Vec<u8>)],
-) -> Result<Vec<(&[u8], &[u8])>, AllocError> {
-    let mut pairs = Vec::new(alloc);
-    'insertions: for (key, value) in insertions {
-        pairs.push((key.as_slice(), value.as_slice()))?;
-    }
-    Ok(pairs)
-}
-
 /// Prints what the registry has under a key, with its proof.
 pub fn print_key(session: &Session<'_>, asked: &ArgMatches<'_>) -> Result<(), Refusal> {
     let alloc = session.rt.alloc();
     let fault = "a key is two hexadecimal digits for each byte, or - for no bytes";
     let key = decoded(alloc, text(asked, "KEY").as_bytes())?.ok_or(Refusal::Argument(fault))?;
     let mut registry = session.opened(RegistryReader::open(alloc, session.files()?))?;
-    let mut bundle = MapProofBundle {
-        proofs: Vec::new(alloc),
-        absences: Vec::new(alloc),
-    };
-    let said = match session.done(registry.get(key.as_slice()))? {
+    let said = said_of(alloc, &session.done(registry.get(key.as_slice()))?)?;
+    session.said(println!(session.rt; "{said}"))
+}
+
+fn said_of(alloc: Global, found: &KeyInRegistry) -> Result<String, AllocError> {
+    match found {
         KeyInRegistry::Held(index, value, peers) => {
-            bundle.proofs.push(proof_of(alloc, peers.as_slice())?)?;
             let value = digits_of(alloc, value.as_slice())?;
-            format!(in alloc; "value {value}\nindex {index}")?
+            let proof = bundle_of(alloc, peers.as_slice(), true)?;
+            format!(in alloc; "value {value}\nindex {index}\nproof {proof}")
         }
         KeyInRegistry::Absent(peers) => {
-            bundle.absences.push(proof_of(alloc, peers.as_slice())?)?;
-            String::from_str(alloc, "absent")?
+            let proof = bundle_of(alloc, peers.as_slice(), false)?;
+            format!(in alloc; "absent\nproof {proof}")
         }
-    };
-    let bundle = digits_of(alloc, bundle.encode(alloc)?.as_slice())?;
-    session.said(println!(session.rt; "{said}\nproof {bundle}"))
+    }
 }
 
 fn digits_of(alloc: Global, bytes: &[u8]) -> Result<String, AllocError> {
@@ -84,7 +81,25 @@ fn digits_of(alloc: Global, bytes: &[u8]) -> Result<String, AllocError> {
     }
 }
 
-// The proof of these peers, as a bundle has it.
+// The bundle of one proof, of these peers, that a key is held or absent.
+fn bundle_of(
+    alloc: Global,
+    peers: &[Option<Hash<Sha256>>],
+    is_held: bool,
+) -> Result<String, AllocError> {
+    let mut bundle = MapProofBundle {
+        proofs: Vec::new(alloc),
+        absences: Vec::new(alloc),
+    };
+    let proof = proof_of(alloc, peers)?;
+    if is_held {
+        bundle.proofs.push(proof)?;
+    } else {
+        bundle.absences.push(proof)?;
+    }
+    digits_of(alloc, bundle.encode(alloc)?.as_slice())
+}
+
 fn proof_of(
     alloc: Global,
     peers: &[Option<Hash<Sha256>>],

@@ -1,6 +1,6 @@
 //! The program's command line.
 
-use clap::{ArgMatches, Command, arg, value_parser};
+use clap::{Arg, ArgMatches, Command, arg, value_parser};
 use std::alloc::{AllocError, Global};
 
 const ABOUT: &str =
@@ -50,97 +50,87 @@ pub fn number(asked: &ArgMatches<'_>, name: &str, otherwise: usize) -> usize {
     asked.get_one::<usize>(name).unwrap_or(otherwise)
 }
 
+// The commands, in the order of the help: a command's name, its arguments, and what it does.
+const COMMANDS: [&str; 13] = [
+    "init FOLDER ORIGIN map: Makes a log of no entries",
+    "append FOLDER from every binary: Adds entries",
+    "publish FOLDER from: Adds insertions to a registry",
+    "sign FOLDER: Serves a signed checkpoint",
+    "prune FOLDER: Removes partial tiles whose full one is there, and pages of a map that nothing needs",
+    "rebuild FOLDER: Makes each tile again from the bundles, if these lead to the checkpoint's root",
+    "page FOLDER: Puts index.html there, which shows the log in a browser and checks what it shows",
+    "checkpoint FOLDER: Prints the checkpoint, once the right edge of the log leads to its root",
+    "prove FOLDER INDEX LENGTH: Prints an entry's inclusion path, a line of digits for each digest",
+    "consistency FOLDER OLD NEW: Prints the path from an old length, a line of digits for each digest",
+    "get FOLDER KEY: Prints what a registry has under a key, with the proof of it",
+    "verify: Says whether the path on standard input shows the claim above it",
+    "audit FOLDER: Reads every entry and a map's pages, makes each tile again, and says what differs",
+];
+
 /// The command line.
 pub fn command<'a>(alloc: Global) -> Result<Command<'a>, AllocError> {
-    let command = Command::new(alloc, "warg_tlog")
+    let mut command = Command::new(alloc, "warg_tlog")
         .version("0.9.2-rattle.1")
         .about(ABOUT)
         .after_help(AFTER)
         .subcommand_required(true);
-    with_readers(alloc, with_writers(alloc, command)?)
+    for line in &COMMANDS {
+        let (words, about) = line.split_once(": ").unwrap_or((line, ""));
+        command = command.subcommand(subcommand(alloc, words, about)?)?;
+    }
+    Ok(command)
 }
 
-// Adds the commands that change a folder.
-fn with_writers<'a>(alloc: Global, command: Command<'a>) -> Result<Command<'a>, AllocError> {
-    let origin = arg!(in alloc; <ORIGIN> "The log's name in its checkpoints, as example.com/log");
-    let map = arg!(in alloc; --map "Makes a registry: a log of insertions, with their map");
-    command
-        .subcommand(on(alloc, "init")?.arg(origin)?.arg(map)?)?
-        .subcommand(append(alloc)?)?
-        .subcommand(with_from(alloc, on(alloc, "publish")?.after_help(PUBLISH))?)?
-        .subcommand(on(alloc, "sign")?.after_help(SIGN))?
-        .subcommand(on(alloc, "prune")?)?
-        .subcommand(on(alloc, "rebuild")?)?
-        .subcommand(on(alloc, "page")?)
+fn subcommand<'a>(
+    alloc: Global,
+    words: &'a str,
+    about: &'a str,
+) -> Result<Command<'a>, AllocError> {
+    let mut words = words.split(' ');
+    let name = words.next().unwrap_or("");
+    let mut command = Command::new(alloc, name).about(about);
+    if let Some(more) = more(name) {
+        command = command.after_help(more);
+    }
+    for word in words {
+        command = command.arg(argument(alloc, word))?;
+    }
+    Ok(command)
 }
 
-fn append<'a>(alloc: Global) -> Result<Command<'a>, AllocError> {
-    let every = arg!(in alloc; --every <N> "Commits each N entries, and at the end");
-    let binary =
-        arg!(in alloc; --binary "Reads entries as bundles have them, behind two bytes of length");
-    with_from(alloc, on(alloc, "append")?)?
-        .after_help(APPEND)
-        .arg(every.value_parser(value_parser!(usize)))?
-        .arg(binary)
-}
-
-fn with_from<'a>(alloc: Global, command: Command<'a>) -> Result<Command<'a>, AllocError> {
-    command.arg(arg!(in alloc; --from <"LENGTH:ROOT"> "The checkpoint that the log has to be at"))
-}
-
-// Adds the commands that read.
-fn with_readers<'a>(alloc: Global, command: Command<'a>) -> Result<Command<'a>, AllocError> {
-    let key = arg!(in alloc; <KEY> "The key's hexadecimal digits, or - for no bytes");
-    let verify = Command::new(alloc, "verify").about(about("verify"));
-    command
-        .subcommand(on(alloc, "checkpoint")?)?
-        .subcommand(prove(alloc)?)?
-        .subcommand(consistency(alloc)?)?
-        .subcommand(on(alloc, "get")?.arg(key)?.after_help(GET))?
-        .subcommand(verify.after_help(VERIFY))?
-        .subcommand(on(alloc, "audit")?)
-}
-
-fn prove<'a>(alloc: Global) -> Result<Command<'a>, AllocError> {
-    let index = arg!(in alloc; <INDEX> "The entry's index, from 0");
-    let length = arg!(in alloc; [LENGTH] "The log's length, if not the checkpoint's");
-    on(alloc, "prove")?
-        .arg(index.value_parser(value_parser!(usize)))?
-        .arg(length.value_parser(value_parser!(usize)))
-}
-
-fn consistency<'a>(alloc: Global) -> Result<Command<'a>, AllocError> {
-    let old = arg!(in alloc; <OLD> "The old length, from 1");
-    let new = arg!(in alloc; [NEW] "The new length, if not the checkpoint's");
-    on(alloc, "consistency")?
-        .arg(old.value_parser(value_parser!(usize)))?
-        .arg(new.value_parser(value_parser!(usize)))
-}
-
-// A command on a folder.
-fn on<'a>(alloc: Global, name: &'a str) -> Result<Command<'a>, AllocError> {
-    let folder = arg!(in alloc; <FOLDER> "The log's folder");
-    Command::new(alloc, name).about(about(name)).arg(folder)
-}
-
-// What a command does.
-fn about(name: &str) -> &'static str {
+// What more a command's own help says.
+fn more(name: &str) -> Option<&'static str> {
     match name {
-        "init" => "Makes a log of no entries",
-        "append" => "Adds entries",
-        "publish" => "Adds insertions to a registry",
-        "sign" => "Serves a signed checkpoint",
-        "prune" =>
-            "Removes partial tiles whose full one is there, and pages of a map that nothing needs",
-        "rebuild" =>
-            "Makes each tile again from the bundles, if these lead to the checkpoint's root",
-        "page" =>
-            "Puts index.html there, which shows the log in a browser and checks what it shows",
-        "checkpoint" => "Prints the checkpoint, once the right edge of the log leads to its root",
-        "prove" => "Prints an entry's inclusion path, a line of digits for each digest",
-        "consistency" => "Prints the path from an old length, a line of digits for each digest",
-        "get" => "Prints what a registry has under a key, with the proof of it",
-        "verify" => "Says whether the path on standard input shows the claim above it",
-        _ => "Reads every entry and a map's pages, makes each tile again, and says what differs",
+        "append" => Some(APPEND),
+        "publish" => Some(PUBLISH),
+        "get" => Some(GET),
+        "sign" => Some(SIGN),
+        "verify" => Some(VERIFY),
+        _ => None,
+    }
+}
+
+fn argument<'a>(alloc: Global, name: &str) -> Arg<'a> {
+    match name {
+        "ORIGIN" =>
+            arg!(in alloc; <ORIGIN> "The log's name in its checkpoints, as example.com/log"),
+        "map" => arg!(in alloc; --map "Makes a registry: a log of insertions, with their map"),
+        "from" => arg!(in alloc; --from <"LENGTH:ROOT"> "The checkpoint that the log has to be at"),
+        "binary" =>
+            arg!(in alloc; --binary "Reads entries as bundles have them, behind two bytes of length"),
+        "KEY" => arg!(in alloc; <KEY> "The key's hexadecimal digits, or - for no bytes"),
+        "FOLDER" => arg!(in alloc; <FOLDER> "The log's folder"),
+        _ => count(alloc, name).value_parser(value_parser!(usize)),
+    }
+}
+
+// An argument that is a number.
+fn count<'a>(alloc: Global, name: &str) -> Arg<'a> {
+    match name {
+        "every" => arg!(in alloc; --every <N> "Commits each N entries, and at the end"),
+        "INDEX" => arg!(in alloc; <INDEX> "The entry's index, from 0"),
+        "LENGTH" => arg!(in alloc; [LENGTH] "The log's length, if not the checkpoint's"),
+        "OLD" => arg!(in alloc; <OLD> "The old length, from 1"),
+        _ => arg!(in alloc; [NEW] "The new length, if not the checkpoint's"),
     }
 }

@@ -24,25 +24,22 @@ enum Claim {
 
 /// Says whether the path on standard input shows the claim above it, and prints that.
 pub fn verify(session: &Session<'_>) -> Result<bool, Refusal> {
-    let verdict = judged(session.rt)?;
+    let verdict = judged(session.rt.alloc(), &mut Lines::new(session.rt)?)?;
     session.said(println!(session.rt; "{verdict}"))?;
     Ok(verdict)
 }
 
-fn judged(rt: &HostRuntime) -> Result<bool, Refusal> {
-    let alloc = rt.alloc();
-    let mut lines = Lines::new(rt)?;
-    next(&mut lines)?;
+fn judged(alloc: Global, lines: &mut Lines) -> Result<bool, Refusal> {
+    next(lines)?;
     match claim_in(alloc, lines.line())? {
         Some(Claim::Inclusion(index, checkpoint)) => {
-            next(&mut lines)?;
+            next(lines)?;
             let entry = Vec::from_slice(alloc, lines.entry()?)?;
-            let path = path_in(alloc, &mut lines)?;
+            let path = path_in(alloc, lines)?;
             Ok(check_record(&checkpoint, index, &entry, path.as_slice()))
         }
         Some(Claim::Consistency(old, new)) => {
-            let path = path_in(alloc, &mut lines)?;
-            Ok(check_tree(&old, &new, path.as_slice()))
+            Ok(check_tree(&old, &new, path_in(alloc, lines)?.as_slice()))
         }
         None => Err(lines.refused(NO_CLAIM)),
     }
@@ -74,10 +71,8 @@ fn path_in(alloc: Global, lines: &mut Lines) -> Result<Vec<Hash<Sha256>>, Refusa
 
 // The claim of a line.
 fn claim_in(alloc: Global, line: &[u8]) -> Result<Option<Claim>, AllocError> {
-    let words: Vec<&str> = str::from_utf8(line)
-        .unwrap_or("")
-        .split(' ')
-        .collect(alloc)?;
+    let line = str::from_utf8(line).unwrap_or("");
+    let words: Vec<&str> = line.split(' ').collect(alloc)?;
     Ok(claim_of(words.as_slice()))
 }
 
