@@ -202,16 +202,22 @@ fn print_path(session: &Session<'_>, path: Result<Path, LogError>) -> Result<(),
     Ok(())
 }
 
-/// Reads every entry and makes each tile again, of a registry also its map, and says what was found as the entries have it.
+/// Reads every entry and makes each tile again, of a registry also its map, and says what is as the entries have it.
 pub fn audit(session: &Session<'_>) -> Result<(), Refusal> {
     let mut log = session.reader()?;
     let mut counted = Counted(session.rt, 0);
     let (audited, what) = if names_map(log.text()) {
         let registry = RegistryReader::open(session.rt.alloc(), log.into_folder());
         let audited = session.opened(registry)?.audit(&mut counted);
-        (audited, "each file, and each page of the map,")
+        (
+            audited,
+            "each file, partial ones of older lengths too, and each page of the map",
+        )
     } else {
-        (log.audit(&mut counted), "each file")
+        (
+            log.audit(&mut counted),
+            "each file, partial ones of older lengths too,",
+        )
     };
     let checkpoint = session.done(audited)?;
     let (length, root) = (checkpoint.length(), checkpoint.root());
