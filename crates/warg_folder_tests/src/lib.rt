@@ -5,6 +5,8 @@
 #[cfg(test)]
 mod crashes;
 #[cfg(test)]
+mod discarding;
+#[cfg(test)]
 mod log_folder;
 #[cfg(test)]
 mod log_moments;
