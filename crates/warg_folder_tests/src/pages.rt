@@ -7,7 +7,7 @@ use warg_crypto::{Hash, Sha256, hash_leaf};
 use warg_map::Map;
 use warg_pages::{LoneKeyCheck, MapPage, PageVisitor, PagedMap, Pages, held_in_pages, visit_pages};
 
-const PAIRS: [(&[u8], &[u8]); 4] = [
+static PAIRS: [(&[u8], &[u8]); 4] = [
     (b"a", b"one"),
     (b"b", b"two"),
     (b"a", b"three"),
@@ -113,61 +113,48 @@ fn spoil(pages: &mut Newest) {
     }
 }
 
+// Whether a visit of the pages below a root comes to its end.
+fn is_visited(
+    pages: &mut Newest,
+    root: &Hash<Sha256>,
+    lone_keys: LoneKeyCheck,
+    seen: &mut Seen,
+) -> bool {
+    visit_pages(pages.alloc, pages, root, 4, lone_keys, seen).is_ok()
+}
+
 #[test]
 fn lone_keys_are_hashed_or_skipped(rt: HostRuntime) -> Result<(), Fail> {
-    let alloc = rt.alloc();
-    let (mut pages, map) = pages_of(alloc)?;
+    let (mut pages, map) = pages_of(rt.alloc())?;
     let mut seen = Seen { keys: 0, pages: 0 };
-    let skipped = visit_pages(
-        alloc,
-        &mut pages,
-        &map.root,
-        4,
-        LoneKeyCheck::Skipped,
-        &mut seen,
-    );
-    assert!(rt; skipped.is_ok() && seen.pages == pages.bytes.len());
+    assert!(rt; is_visited(&mut pages, &map.root, LoneKeyCheck::Skipped, &mut seen));
+    assert!(rt; seen.pages == pages.bytes.len());
     spoil(&mut pages);
-    let skipped = visit_pages(
-        alloc,
-        &mut pages,
-        &map.root,
-        4,
-        LoneKeyCheck::Skipped,
-        &mut seen,
-    );
-    let hashed = visit_pages(
-        alloc,
-        &mut pages,
-        &map.root,
-        4,
-        LoneKeyCheck::Hashed,
-        &mut seen,
-    );
-    assert!(rt; skipped.is_ok() && hashed.is_err());
+    assert!(rt; is_visited(&mut pages, &map.root, LoneKeyCheck::Skipped, &mut seen));
+    assert!(rt; !is_visited(&mut pages, &map.root, LoneKeyCheck::Hashed, &mut seen));
     Ok(())
+}
+
+// The map's root, and how many keys it holds.
+fn map_of(alloc: Global) -> Result<(Hash<Sha256>, usize), Fail> {
+    let map = Map::<Sha256, &[u8], &[u8]>::default(alloc).extend(PAIRS.iter().copied())?;
+    Ok((map.root().copied(), map.len()))
+}
+
+// Whether a visit of the pages below a root sees all of them, with so many keys.
+fn have_keys(pages: &mut Newest, root: &Hash<Sha256>, count: usize) -> bool {
+    let mut seen = Seen { keys: 0, pages: 0 };
+    let is_done = is_visited(pages, root, LoneKeyCheck::Hashed, &mut seen);
+    is_done && seen.keys == count && seen.pages == pages.bytes.len()
 }
 
 #[test]
 fn pages_hold_what_the_map_does(rt: HostRuntime) -> Result<(), Fail> {
-    let alloc = rt.alloc();
-    let (mut pages, paged) = pages_of(alloc)?;
-    let map = Map::<Sha256, &[u8], &[u8]>::default(alloc).extend(PAIRS.iter().copied())?;
-    assert!(rt; paged.root == *map.root());
-    let mut seen = Seen { keys: 0, pages: 0 };
-    let visited = visit_pages(
-        alloc,
-        &mut pages,
-        map.root(),
-        4,
-        LoneKeyCheck::Hashed,
-        &mut seen,
-    );
-    assert!(rt; visited.is_ok() && seen.keys == map.len() && seen.pages == pages.bytes.len());
-    let is_a = is_held(&mut pages, b"a", 3, b"three")?;
-    let is_c = is_held(&mut pages, b"c", 4, b"")?;
-    assert!(rt; is_a && is_c);
-    let is_d = is_held(&mut pages, b"d", 4, b"")?;
-    assert!(rt; !is_d);
+    let (mut pages, paged) = pages_of(rt.alloc())?;
+    let (root, count) = map_of(rt.alloc())?;
+    assert!(rt; paged.root == root && have_keys(&mut pages, &root, count));
+    assert!(rt; is_held(&mut pages, b"a", 3, b"three")?);
+    assert!(rt; is_held(&mut pages, b"c", 4, b"")?);
+    assert!(rt; !is_held(&mut pages, b"d", 4, b"")?);
     Ok(())
 }

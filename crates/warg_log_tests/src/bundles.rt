@@ -2,7 +2,7 @@
 
 use crate::digests::{all, bytes_of, hash_of};
 use refusing::Refusing;
-use std::alloc::Global;
+use std::alloc::{AllocError, Allocator, Global};
 use std::test::Fail;
 use warg_bundle::{BundleError, LogProofBundle};
 use warg_crypto::{Hash, Sha256};
@@ -12,7 +12,7 @@ use warg_log::{
 };
 use warg_protobuf::EncodeError;
 
-type Bundle<'a> = LogProofBundle<Sha256, (), &'a Refusing<Global>>;
+type Bundle<A> = LogProofBundle<Sha256, (), A>;
 
 type Data = SparseLogData<Sha256, ()>;
 
@@ -23,23 +23,29 @@ fn nothing(alloc: Global) -> Data {
     SparseLogData::from(Vec::new(alloc))
 }
 
-fn lent<'a>(alloc: Global, memory: &'a Refusing<Global>) -> Result<Bundle<'a>, Fail> {
+fn lent<A: Allocator + Copy>(alloc: Global, memory: A) -> Result<Bundle<A>, Fail> {
     Ok(LogProofBundle::decode(memory, &bytes_of(alloc, BOTH)?)?)
 }
 
-// Whether the bundle answers these proofs and no others.
-fn has_proofs(bundle: &Bundle<'_>, data: &Data) -> bool {
+// Whether the bundle answers these inclusion proofs and no others.
+fn has_inclusions<A: Allocator>(bundle: &Bundle<A>, data: &Data) -> bool {
     all(&[
         bundle.inclusion_proof(0) == Some(data.prove_inclusion(Node(0), 3)),
         bundle.inclusion_proof(1) == Some(data.prove_inclusion(Node(4), 3)),
         bundle.inclusion_proof(2).is_none(),
+    ])
+}
+
+// Whether it answers this consistency proof and no other.
+fn has_consistency<A: Allocator>(bundle: &Bundle<A>, data: &Data) -> bool {
+    all(&[
         bundle.consistency_proof(0) == Some(data.prove_consistency(2, 3)),
         bundle.consistency_proof(1).is_none(),
     ])
 }
 
 // Whether the bundle holds the digest of node 1, that of node 2, and none of node 0.
-fn has_digests(bundle: &Bundle<'_>, second: &Hash<Sha256>) -> bool {
+fn has_digests<A: Allocator>(bundle: &Bundle<A>, second: &Hash<Sha256>) -> bool {
     let hashes = bundle.hashes();
     all(&[
         hashes.has_hash(Node(2)),
@@ -55,7 +61,12 @@ fn readers_without_memory(rt: HostRuntime) -> Result<(), Fail> {
     let second = hash_of(rt.alloc(), "U2")?;
     memory.exhaust();
     let none = nothing(rt.alloc());
-    assert!(rt; has_proofs(&bundle, &none));
+    assert!(rt;
+        all(&[
+            has_inclusions(&bundle, &none),
+            has_consistency(&bundle, &none)
+        ])
+    );
     assert!(rt; has_digests(&bundle, &second));
     assert!(rt; none.prove_consistency(2, 3).evaluate(&none).is_err());
     assert!(rt; all(&[memory.left() == 0, !memory.has_refused()]));
@@ -63,8 +74,8 @@ fn readers_without_memory(rt: HostRuntime) -> Result<(), Fail> {
 }
 
 // Whether these are the proofs of the bundle, in order.
-fn are_parts(
-    data: &SparseLogData<Sha256, (), &Refusing<Global>>,
+fn are_parts<A: Allocator>(
+    data: &SparseLogData<Sha256, (), A>,
     consistencies: &[ConsistencyProof<Sha256, ()>],
     inclusions: &[InclusionProof<Sha256, ()>],
 ) -> bool {
@@ -88,11 +99,7 @@ fn parts_in_order(rt: HostRuntime) -> Result<(), Fail> {
 }
 
 // The bundle of the first entry's proof, which comes in one allocator, in another one.
-fn bundled<'a>(
-    memory: &'a Refusing<Global>,
-    lists: &'a Refusing<Global>,
-    data: &Data,
-) -> Result<Bundle<'a>, Fail> {
+fn bundled<A: Allocator + Copy>(memory: A, lists: A, data: &Data) -> Result<Bundle<A>, Fail> {
     let proofs = vec![in lists; data.prove_inclusion(Node(0), 3)]?;
     Ok(LogProofBundle::bundle(memory, Vec::new(lists), proofs, data)?)
 }
@@ -115,7 +122,7 @@ fn read(alloc: Global, words: &str) -> Result<LogProofBundle<Sha256, ()>, Fail> 
 }
 
 // Bundles with another length, old length, node or digest.
-const OTHERS: [&str; 6] = [
+static OTHERS: [&str; 6] = [
     "0804 120102 1a020004 2224 0801 1220 U2 2224 0802 1220 L1 2224 0804 1220 L2",
     "0803 120101 1a020004 2224 0801 1220 U2 2224 0802 1220 L1 2224 0804 1220 L2",
     "0803 120102 1a020002 2224 0801 1220 U2 2224 0802 1220 L1 2224 0804 1220 L2",
@@ -129,7 +136,7 @@ const OTHERS: [&str; 6] = [
 fn equal_bundles(rt: HostRuntime) -> Result<(), Fail> {
     let bundle = read(rt.alloc(), BOTH)?;
     assert!(rt; bundle == read(rt.alloc(), BOTH)?);
-    for other in OTHERS {
+    for other in &OTHERS {
         assert!(rt; bundle != read(rt.alloc(), other)?);
     }
     Ok(())
@@ -137,19 +144,15 @@ fn equal_bundles(rt: HostRuntime) -> Result<(), Fail> {
 
 // What bundling these proofs over no data is refused for, where every growth is.
 fn refusal(
-    rt: &HostRuntime,
+    alloc: Global,
     consistencies: &[ConsistencyProof<Sha256, ()>],
     inclusions: &[InclusionProof<Sha256, ()>],
-) -> Result<Option<BundleError>, Fail> {
-    let memory = Refusing::after(rt.alloc(), 2);
-    let data = nothing(rt.alloc());
+) -> Result<Option<BundleError>, AllocError> {
+    let memory = Refusing::after(alloc, 2);
     let consistencies = Vec::from_slice(&memory, consistencies)?;
     let inclusions = Vec::from_slice(&memory, inclusions)?;
     memory.exhaust();
-    match LogProofBundle::bundle(&memory, consistencies, inclusions, &data) {
-        Ok(_) => Ok(None),
-        Err(fault) => Ok(Some(fault)),
-    }
+    Ok(LogProofBundle::bundle(&memory, consistencies, inclusions, &nothing(alloc)).err())
 }
 
 // Whether bundling these proofs over no data is refused for this fault, where every growth is.
@@ -158,46 +161,55 @@ fn is_refused(
     consistencies: &[ConsistencyProof<Sha256, ()>],
     inclusions: &[InclusionProof<Sha256, ()>],
     want: BundleError,
-) -> Result<bool, Fail> {
-    Ok(refusal(rt, consistencies, inclusions)? == Some(want))
+) -> bool {
+    refusal(rt.alloc(), consistencies, inclusions) == Ok(Some(want))
 }
 
 #[test]
-fn early_refusals_of_consistency_proofs(rt: HostRuntime) -> Result<(), Fail> {
+fn early_refusals_of_consistency_proofs(rt: HostRuntime) {
     let data = nothing(rt.alloc());
     let backwards = [data.prove_consistency(3, 2)];
     let fault = BundleError::Consistency(ConsistencyProofError::PointsOutOfOrder);
-    assert!(rt; is_refused(&rt, &backwards, &[], fault)?);
+    assert!(rt; is_refused(&rt, &backwards, &[], fault));
     let different = [data.prove_consistency(0, 5), data.prove_consistency(1, 4)];
-    assert!(rt; is_refused(&rt, &different, &[], BundleError::DifferentRoots)?);
+    assert!(rt; is_refused(&rt, &different, &[], BundleError::DifferentRoots));
     let long = [data.prove_consistency(0, 1 << 32)];
-    assert!(rt; is_refused(&rt, &long, &[], BundleError::TooLarge)?);
-    Ok(())
+    assert!(rt; is_refused(&rt, &long, &[], BundleError::TooLarge));
 }
 
 #[test]
-fn early_refusals_of_inclusion_proofs(rt: HostRuntime) -> Result<(), Fail> {
+fn early_refusals_of_inclusion_proofs(rt: HostRuntime) {
     let data = nothing(rt.alloc());
     let late = [data.prove_inclusion(Node(2), 1)];
     let fault = BundleError::Inclusion(InclusionProofError::LeafTooNew);
-    assert!(rt; is_refused(&rt, &[], &late, fault)?);
-    let (old, new) = (
-        [data.prove_consistency(0, 5)],
-        [data.prove_inclusion(Node(8), 4)],
-    );
-    assert!(rt; is_refused(&rt, &old, &new, BundleError::DifferentRoots)?);
-    assert!(rt; is_refused(&rt, &[], &[], BundleError::NoProofs)?);
+    assert!(rt; is_refused(&rt, &[], &late, fault));
     let known = [data.prove_inclusion(Node(0), 2)];
-    assert!(rt; is_refused(&rt, &[], &known, BundleError::Memory)?);
-    Ok(())
+    assert!(rt; is_refused(&rt, &[], &known, BundleError::Memory));
+}
+
+#[test]
+fn early_refusals_of_all_proofs(rt: HostRuntime) {
+    let data = nothing(rt.alloc());
+    let old = [data.prove_consistency(0, 5)];
+    let new = [data.prove_inclusion(Node(8), 4)];
+    assert!(rt; is_refused(&rt, &old, &new, BundleError::DifferentRoots));
+    assert!(rt; is_refused(&rt, &[], &[], BundleError::NoProofs));
 }
 
 // The bundle of a node whose number is above 32 bits.
-fn too_large<'a>(alloc: Global, memory: &'a Refusing<Global>) -> Result<Bundle<'a>, Fail> {
+fn too_large<A: Allocator + Copy>(alloc: Global, memory: A) -> Result<Bundle<A>, Fail> {
     let held = vec![in alloc; (Node((1 << 31) - 1), hash_of(alloc, "Z")?)]?;
     let data: Data = SparseLogData::from(held);
     let proofs = vec![in memory; data.prove_inclusion(Node(1 << 32), (1 << 31) + 1)]?;
     Ok(LogProofBundle::bundle(memory, Vec::new(memory), proofs, &data)?)
+}
+
+// Whether that bundle isn't written.
+fn is_not_written<A: Allocator + Copy>(bundle: &Bundle<A>, memory: A) -> bool {
+    all(&[
+        bundle.encode(memory) == Err(EncodeError::TooLarge),
+        matches!(bundle.to_message(memory), Err(EncodeError::TooLarge)),
+    ])
 }
 
 #[test]
@@ -205,8 +217,7 @@ fn too_large_to_write_without_memory(rt: HostRuntime) -> Result<(), Fail> {
     let memory = Refusing::after(rt.alloc(), 99);
     let bundle = too_large(rt.alloc(), &memory)?;
     memory.exhaust();
-    assert!(rt; bundle.encode(&memory) == Err(EncodeError::TooLarge));
-    assert!(rt; matches!(bundle.to_message(&memory), Err(EncodeError::TooLarge)));
+    assert!(rt; is_not_written(&bundle, &memory));
     let proof = nothing(rt.alloc()).prove_inclusion(Node(1 << 32), (1 << 31) + 1);
     assert!(rt;
         all(&[

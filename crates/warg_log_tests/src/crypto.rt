@@ -6,14 +6,14 @@ ghost use Rattle.std.specs.Cmp.Lexicographic.{slice_cmp};
 
 use crate::digests::{L0, L1, L2, U2, U3, Z, all, hash_ending_in};
 use refusing::Refusing;
-use std::alloc::{AllocError, Global};
+use std::alloc::{AllocError, Allocator, Global};
 use std::cmp::Ordering;
 use std::hash::{DefaultHasher, Hasher};
 use std::test::Fail;
 use warg_crypto::weak::{Flat, Own32, Sum};
 use warg_crypto::{
-    Framed, Hash, HashLength, Sha256, Side, bytes_of, empty_tree_hash, hash_branch, hash_empty,
-    hash_leaf, have_same_bytes,
+    Framed, Hash, HashLength, Sha256, Side, VisitBytes, bytes_of, empty_tree_hash, hash_branch,
+    hash_empty, hash_leaf, have_same_bytes,
 };
 
 // Equality and order as a caller has them: by the bytes.
@@ -46,7 +46,7 @@ fn hash_of_pieces(alloc: Global, pieces: &[&str; 3]) -> Result<Hash<Sha256>, Fai
     Ok(Hash::of(&(mark, pair)))
 }
 
-const HASHES_OF_PIECES: [([&str; 3], &str); 6] = [
+static HASHES_OF_PIECES: [([&str; 3], &str); 6] = [
     (["", "", ""], Z),
     (["00", "", ""], L0),
     (["00", "00", ""], L1),
@@ -63,14 +63,15 @@ fn sha256_of_bytes_in_pieces(rt: HostRuntime) -> Result<(), Fail> {
     Ok(())
 }
 
+static OTHER_TEXTS: [(&str, &str); 3] = [("foo", "foo1"), ("foo1", "foo"), ("foo", "bar")];
+
 #[test]
-fn values_are_compared_by_their_bytes(rt: HostRuntime) -> Result<(), Fail> {
-    let cut_elsewhere = have_same_bytes(&("foo1", "0"), &("foo", "10"))?;
-    let a_front = have_same_bytes(&"foo", &"foo1")?;
-    let more = have_same_bytes(&"foo1", &"foo")?;
-    let others = have_same_bytes(&"foo", &"bar")?;
-    assert!(rt; all(&[cut_elsewhere, !a_front, !more, !others]));
-    Ok(())
+fn values_are_compared_by_their_bytes(rt: HostRuntime) {
+    let cut_elsewhere = have_same_bytes(&("foo1", "0"), &("foo", "10"));
+    assert!(rt; cut_elsewhere == Ok(true));
+    for (first, second) in &OTHER_TEXTS {
+        assert!(rt; have_same_bytes(first, second) == Ok(false));
+    }
 }
 
 #[test]
@@ -92,28 +93,25 @@ fn leaves_and_branches(rt: HostRuntime) {
 
 const ABC: &str = "ba7816bf8f01cfea414140de5dae2223b00361a396177a9cb410ff61f20015ad";
 
+// Whether a value's bytes are `abc`.
+fn is_abc<V: VisitBytes>(value: &V) -> bool {
+    is_spelled(&Hash::<Sha256>::of(value), ABC)
+}
+
 #[test]
 fn values_as_bytes(rt: HostRuntime) {
-    let hashes = [
-        Hash::<Sha256>::of(b"abc"),
-        Hash::of(&b"abc".as_slice()),
-        Hash::of(&"abc"),
-        Hash::of(&("a", (b'b', (), "c"))),
-        Hash::of(&("a", b'b', "c")),
-    ];
-    for hash in &hashes {
-        assert!(rt; is_spelled(hash, ABC));
-    }
+    assert!(rt; all(&[is_abc(b"abc"), is_abc(&b"abc".as_slice()), is_abc(&"abc")]));
+    assert!(rt; all(&[is_abc(&("a", (b'b', (), "c"))), is_abc(&("a", b'b', "c"))]));
     let twice = "4f8b42c22dd3729b519ba6f68d2da7cc5b2d606d05daed5ad5128cc03e6c6358";
-    assert!(rt; is_spelled(&Hash::<Sha256>::of(&hashes[0]), twice));
+    assert!(rt; is_spelled(&Hash::<Sha256>::of(&Hash::<Sha256>::of(b"abc")), twice));
 }
 
 #[test]
 fn lists_and_texts_as_bytes(rt: HostRuntime) -> Result<(), Fail> {
     let list = b"abc".to_vec(rt.alloc())?;
+    assert!(rt; is_abc(&list));
     let text = String::from_str(rt.alloc(), "abc")?;
-    assert!(rt; is_spelled(&Hash::<Sha256>::of(&list), ABC));
-    assert!(rt; is_spelled(&Hash::<Sha256>::of(&text), ABC));
+    assert!(rt; is_abc(&text));
     Ok(())
 }
 
@@ -166,7 +164,7 @@ fn hashes_compared(rt: HostRuntime) -> Result<(), Fail> {
     Ok(())
 }
 
-const EMPTY_TREES: [(usize, &str); 4] = [
+static EMPTY_TREES: [(usize, &str); 4] = [
     (0, L0),
     (
         1,
@@ -208,8 +206,8 @@ fn empty_trees_of_weak_digests(rt: HostRuntime) {
 const PIECES: ([u8; 2], &str) = (*b"ab", "and a longer piece, for which the list grows again");
 
 // Whether the bytes of the pieces are listed whole.
-fn are_listed(memory: &Refusing<Global>) -> bool {
-    match bytes_of(memory, &PIECES) {
+fn are_listed<A: Allocator>(alloc: A) -> bool {
+    match bytes_of(alloc, &PIECES) {
         Ok(bytes) => {
             bytes.as_slice() == b"aband a longer piece, for which the list grows again".as_slice()
         }
@@ -229,7 +227,7 @@ fn bytes_with_each_growth_refused(rt: HostRuntime) {
 }
 
 // Whether a list is hashed, becomes a hash, and a hash is cloned.
-fn are_hashed(list: Vec<u8, &Refusing<Global>>) -> Result<bool, Fail> {
+fn are_hashed<A: Allocator>(list: Vec<u8, A>) -> Result<bool, Fail> {
     let hash = Hash::<Sha256>::of(&list);
     Ok(all(&[
         hash.clone()? == hash,

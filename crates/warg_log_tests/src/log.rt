@@ -2,26 +2,27 @@
 
 use crate::digests::{all, hash_ending_in, hash_of};
 use refusing::Refusing;
-use std::alloc::Global;
+use std::alloc::{Allocator, Global};
 use std::test::Fail;
 use warg_crypto::weak::Sum;
 use warg_crypto::{Hash, Sha256};
 use warg_log::{
-    AppendError, ConsistencyProof, ConsistencyProofError, InclusionProof, InclusionProofError,
-    InclusionProofWalk, LogBuilder, LogData, Node, SparseLogData, StackLog, VecLog, push_all,
+    AppendError, Checkpoint, ConsistencyProof, ConsistencyProofError, InclusionProof,
+    InclusionProofError, InclusionProofWalk, LogBuilder, LogData, Node, SparseLogData, StackLog,
+    VecLog, push_all,
 };
 
 type TextLog = VecLog<Sha256, &'static str>;
 
 type TextStack = StackLog<Sha256, &'static str>;
 
-const TEXTS: [&str; 25] = [
+static TEXTS: [&str; 25] = [
     "93", "67", "30", "37", "23", "75", "57", "89", "76", "42", "9", "14", "40", "59", "26", "66",
     "77", "38", "47", "34", "8", "81", "101", "102", "103",
 ];
 
 // The root of the first texts, up to each.
-const ROOTS: [&str; 25] = [
+static ROOTS: [&str; 25] = [
     "45cc86009fe278f9256f90958fa9d6ff1e18e582fb3e543a2f1ff348db63a579",
     "5eebc66b7ff695b18f767cd17019164ec1f19745fb49f54d1b732c1cc6cd2918",
     "f6726b46ba4b0fe6cc1c7308eb795c7a9438d07ecefe42e386dbc872226b8a8b",
@@ -57,7 +58,7 @@ fn texts(alloc: Global) -> Result<TextLog, Fail> {
 
 fn roots(alloc: Global) -> Result<Vec<Hash<Sha256>>, Fail> {
     let mut roots = Vec::new(alloc);
-    for root in ROOTS {
+    for root in &ROOTS {
         roots.push(hash_of(alloc, root)?)?;
     }
     Ok(roots)
@@ -165,6 +166,20 @@ fn digests_of_nodes_that_exist(rt: HostRuntime) -> Result<(), Fail> {
     Ok(())
 }
 
+// The log of no bytes and `00`.
+fn log_of_two(alloc: Global) -> Result<TextLog, Fail> {
+    let mut log = TextLog::default(alloc);
+    push_all(&mut log, &["", "\0"])?;
+    Ok(log)
+}
+
+// The same as a stack.
+fn stack_of_two(alloc: Global) -> Result<TextStack, Fail> {
+    let mut stack = TextStack::default(alloc);
+    push_all(&mut stack, &["", "\0"])?;
+    Ok(stack)
+}
+
 // Whether a log and a stack of no bytes and `00` have one root, and this one.
 fn are_of_two(log: &TextLog, stack: &TextStack, root: &Hash<Sha256>) -> bool {
     let checkpoint = log.checkpoint();
@@ -185,15 +200,17 @@ fn grow_alike(log: &mut TextLog, stack: &mut TextStack, root: &Hash<Sha256>) -> 
     Ok(all(&[same, log.checkpoint().root() == *root, log.length() == 3]))
 }
 
+// Whether clones of both grow alike, to this root.
+fn clones_grow_alike(log: &TextLog, stack: &TextStack, root: &Hash<Sha256>) -> Result<bool, Fail> {
+    grow_alike(&mut log.clone()?, &mut stack.clone()?, root)
+}
+
 #[test]
 fn clones_grow_apart(rt: HostRuntime) -> Result<(), Fail> {
-    let mut log = TextLog::default(rt.alloc());
-    let mut stack = TextStack::default(rt.alloc());
-    push_all(&mut log, &["", "\0"])?;
-    push_all(&mut stack, &["", "\0"])?;
-    let (two, three) = (hash_of(rt.alloc(), "U2")?, hash_of(rt.alloc(), "U3")?);
-    assert!(rt; grow_alike(&mut log.clone()?, &mut stack.clone()?, &three)?);
-    assert!(rt; are_of_two(&log, &stack, &two));
+    let alloc = rt.alloc();
+    let (log, stack) = (log_of_two(alloc)?, stack_of_two(alloc)?);
+    assert!(rt; clones_grow_alike(&log, &stack, &hash_of(alloc, "U3")?)?);
+    assert!(rt; are_of_two(&log, &stack, &hash_of(alloc, "U2")?));
     Ok(())
 }
 
@@ -206,19 +223,29 @@ fn sums(alloc: Global, entries: &[u8]) -> Result<ByteLog, Fail> {
     Ok(log)
 }
 
+// The checkpoint of the log of these entries.
+fn checkpoint_of(alloc: Global, entries: &[u8]) -> Result<Checkpoint<Sum>, Fail> {
+    Ok(sums(alloc, entries)?.checkpoint())
+}
+
+// Whether the first is below the second, which has the root of the third and is below that.
+fn are_ordered(
+    low: &Checkpoint<Sum>,
+    high: &Checkpoint<Sum>,
+    longer: &Checkpoint<Sum>,
+) -> Result<bool, Fail> {
+    let is_clone = low.clone()? == *low;
+    let is_root = longer.root() == high.root();
+    Ok(all(&[low < high, is_root, is_clone, high < longer, high != longer]))
+}
+
 #[test]
 fn checkpoints_are_ordered_by_root_then_length(rt: HostRuntime) -> Result<(), Fail> {
-    let low = sums(rt.alloc(), &[1])?.checkpoint();
-    let high = sums(rt.alloc(), &[9])?.checkpoint();
-    let longer = sums(rt.alloc(), &[4, 4])?.checkpoint();
-    assert!(rt;
-        all(&[
-            low < high,
-            longer.root() == high.root(),
-            low.clone()? == low
-        ])
-    );
-    assert!(rt; all(&[high < longer, high != longer]));
+    let alloc = rt.alloc();
+    let low = checkpoint_of(alloc, &[1])?;
+    let high = checkpoint_of(alloc, &[9])?;
+    let longer = checkpoint_of(alloc, &[4, 4])?;
+    assert!(rt; are_ordered(&low, &high, &longer)?);
     Ok(())
 }
 
@@ -264,26 +291,33 @@ fn walks_compared(rt: HostRuntime) -> Result<(), Fail> {
     Ok(())
 }
 
-type Scarce<'a> = &'a Refusing<Global>;
-
-// The answers of a log's calls that do not allocate.
-fn answers_alone(log: &ByteLog<Scarce<'_>>) -> bool {
-    let proof = log.prove_inclusion(Node(2), 3);
-    let consistency = log.prove_consistency(2, 3);
-    let root = hash_ending_in(8);
-    let roots = consistency.evaluate(log);
+// Whether a log of three entries answers as it should, by calls that do not allocate.
+fn answers_alone<A: Allocator>(log: &ByteLog<A>) -> bool {
     all(&[
         log.has_hash(Node(1)),
         log.hash_for(Node(1)) == Some(hash_ending_in(4)),
-        proof.evaluate_value(log, &2).as_ref() == Ok(&root),
-        proof.evaluate_hash(log, hash_ending_in(2)).as_ref() == Ok(&root),
-        roots == Ok((hash_ending_in(4), log.checkpoint().root())),
-        log.checkpoint().root() == root,
+        log.checkpoint().root() == hash_ending_in(8),
     ])
 }
 
+// Whether its proof of the second entry leads to its root.
+fn proves_alone<A: Allocator>(log: &ByteLog<A>) -> bool {
+    let proof = log.prove_inclusion(Node(2), 3);
+    let root = hash_ending_in(8);
+    all(&[
+        proof.evaluate_value(log, &2).as_ref() == Ok(&root),
+        proof.evaluate_hash(log, hash_ending_in(2)).as_ref() == Ok(&root),
+    ])
+}
+
+// Whether its proof from two entries leads to both roots.
+fn grows_alone<A: Allocator>(log: &ByteLog<A>) -> bool {
+    let roots = log.prove_consistency(2, 3).evaluate(log);
+    roots == Ok((hash_ending_in(4), log.checkpoint().root()))
+}
+
 // Whether the walk of the second entry of three has its parts.
-fn is_walk_of_second(walk: &InclusionProofWalk<Scarce<'_>>) -> bool {
+fn is_walk_of_second<A: Allocator>(walk: &InclusionProofWalk<A>) -> bool {
     all(&[
         [walk.initial_walk_len(), walk.lower_broots()] == [1, 1],
         walk.upper_broots() == 0,
@@ -291,30 +325,36 @@ fn is_walk_of_second(walk: &InclusionProofWalk<Scarce<'_>>) -> bool {
     ])
 }
 
-// Whether new logs do not allocate.
-fn are_empty(memory: Scarce<'_>) -> bool {
-    let log: ByteLog<Scarce<'_>> = VecLog::default(memory);
-    let stack: StackLog<Sum, u8, Scarce<'_>> = StackLog::default(memory);
-    all(&[log.length() == 0, stack.is_empty(), !memory.has_refused()])
+// Whether new logs are empty.
+fn are_empty<A: Allocator + Copy>(alloc: A) -> bool {
+    let log: ByteLog<A> = VecLog::default(alloc);
+    let stack: StackLog<Sum, u8, A> = StackLog::default(alloc);
+    all(&[log.length() == 0, stack.is_empty()])
+}
+
+// The log of three entries.
+fn three<A: Allocator>(alloc: A) -> Result<ByteLog<A>, Fail> {
+    let mut log = VecLog::default(alloc);
+    push_all(&mut log, &[1, 2, 3])?;
+    Ok(log)
 }
 
 #[test]
 fn a_log_s_calls_without_memory(rt: HostRuntime) -> Result<(), Fail> {
     let memory = Refusing::after(rt.alloc(), 99);
-    let mut log: ByteLog<Scarce<'_>> = VecLog::default(&memory);
-    push_all(&mut log, &[1, 2, 3])?;
+    let log = three(&memory)?;
     let walk = log.prove_inclusion(Node(2), 3).walk(&memory)?;
     memory.exhaust();
-    assert!(rt; all(&[memory.left() == 0, answers_alone(&log)]));
-    assert!(rt; is_walk_of_second(&walk));
-    assert!(rt; are_empty(&memory));
+    assert!(rt; all(&[answers_alone(&log), proves_alone(&log), grows_alone(&log)]));
+    assert!(rt; all(&[is_walk_of_second(&walk), are_empty(&memory)]));
+    assert!(rt; all(&[memory.left() == 0, !memory.has_refused()]));
     Ok(())
 }
 
-type Given<'a> = SparseLogData<Sum, u8, Scarce<'a>>;
+type Given<A> = SparseLogData<Sum, u8, A>;
 
 // Whether the digests of nodes 1 and 4 are held, and those of nodes 0, 3 and 5 aren't.
-fn holds_what_was_given(data: &Given<'_>) -> bool {
+fn holds_what_was_given<A: Allocator>(data: &Given<A>) -> bool {
     all(&[
         data.hash_for(Node(1)) == Some(hash_ending_in(5)),
         data.has_hash(Node(4)),
@@ -325,7 +365,7 @@ fn holds_what_was_given(data: &Given<'_>) -> bool {
 }
 
 // Whether proofs over these digests lead to the sums.
-fn leads_to_sums(data: &Given<'_>) -> bool {
+fn leads_to_sums<A: Allocator>(data: &Given<A>) -> bool {
     let consistency = data.prove_consistency(2, 3);
     let inclusion = data.prove_inclusion(Node(1), 3);
     all(&[
@@ -355,10 +395,11 @@ fn gives_proof(log: &TextLog, root: &Hash<Sha256>) -> bool {
 }
 
 // Whether it gives the proof between four texts and nine that leads to their roots.
-fn gives_growth(log: &TextLog, old: &Hash<Sha256>, new: &Hash<Sha256>) -> bool {
+fn gives_growth(alloc: Global, log: &TextLog) -> Result<bool, Fail> {
+    let roots = (hash_of(alloc, ROOTS[3])?, hash_of(alloc, ROOTS[8])?);
     match log.growth_between(4, 9) {
-        Ok(proof) => proof.evaluate(log) == Ok((old.copied(), new.copied())),
-        Err(_) => false,
+        Ok(proof) => Ok(proof.evaluate(log) == Ok(roots)),
+        Err(_) => Ok(false),
     }
 }
 
@@ -377,14 +418,19 @@ fn refuses_others(log: &TextLog) -> bool {
 #[test]
 fn ranges_tested(rt: HostRuntime) -> Result<(), Fail> {
     let log = texts(rt.alloc())?;
-    let (fourth, fifth) = (
-        hash_of(rt.alloc(), ROOTS[3])?,
-        hash_of(rt.alloc(), ROOTS[4])?,
-    );
-    assert!(rt; gives_proof(&log, &fifth));
-    assert!(rt; gives_growth(&log, &fourth, &hash_of(rt.alloc(), ROOTS[8])?));
+    assert!(rt; gives_proof(&log, &hash_of(rt.alloc(), ROOTS[4])?));
+    assert!(rt; gives_growth(rt.alloc(), &log)?);
     assert!(rt; refuses_others(&log));
     Ok(())
+}
+
+// Whether both logs append a text as the same leaf.
+fn append_alike(
+    log: &mut TextLog,
+    stack: &mut TextStack,
+    text: &&'static str,
+) -> Result<bool, Fail> {
+    Ok(log.append(text)? == stack.append(text)?)
 }
 
 // Whether the texts are appended to both logs as the same leaves, up to this root.
@@ -393,8 +439,8 @@ fn appends_alike(
     stack: &mut TextStack,
     root: &Hash<Sha256>,
 ) -> Result<bool, Fail> {
-    for text in TEXTS {
-        if log.append(&text)? != stack.append(&text)? {
+    for text in &TEXTS {
+        if !append_alike(log, stack, text)? {
             return Ok(false);
         }
     }
@@ -414,11 +460,14 @@ fn entries_appended(rt: HostRuntime) -> Result<(), Fail> {
     Ok(())
 }
 
-// A refused growth leaves the log as it was.
+// Whether an entry is refused for want of memory, and the log is left as it was.
+fn is_left_empty<A: Allocator>(alloc: A) -> bool {
+    let mut log: VecLog<Sum, &str, A> = VecLog::default(alloc);
+    let refused = log.append(&"a") == Err(AppendError::Memory);
+    all(&[refused, log.length() == 0])
+}
+
 #[test]
 fn an_entry_without_memory(rt: HostRuntime) {
-    let memory = Refusing::after(rt.alloc(), 0);
-    let mut log: VecLog<Sum, &str, Scarce<'_>> = VecLog::default(&memory);
-    let refused = log.append(&"a") == Err(AppendError::Memory);
-    assert!(rt; all(&[refused, log.length() == 0]));
+    assert!(rt; is_left_empty(&Refusing::after(rt.alloc(), 0)));
 }

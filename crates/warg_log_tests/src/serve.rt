@@ -8,7 +8,7 @@ use warg_bundle::{ServeError, growth_bytes, inclusion_bytes};
 use warg_crypto::Sha256;
 use warg_log::{Checkpoint, LogBuilder, StackLog, VecLog, decimal_in, push_all};
 
-const ENTRIES: [&str; 4] = ["one", "two", "three", "four"];
+static ENTRIES: [&str; 4] = ["one", "two", "three", "four"];
 
 const TEXT: &str = "4 cd8d65377e6fad76003e2c5749de7d2ec536f71509b6e5b8a3674d360e58d82a";
 
@@ -28,20 +28,24 @@ fn four(alloc: Global) -> Result<TextLog, Fail> {
     Ok(log)
 }
 
+// The checkpoint of its text with capital digits.
+fn in_capitals(alloc: Global) -> Result<Checkpoint<Sha256>, Fail> {
+    let digits = TEXT[2..].to_ascii_uppercase(alloc)?;
+    Ok(format!(in alloc; "4 {digits}")?.parse::<Checkpoint<Sha256>>()?)
+}
+
 #[test]
 fn checkpoint_text(rt: HostRuntime) -> Result<(), Fail> {
-    let log = four(rt.alloc())?;
-    let checkpoint = log.checkpoint();
+    let checkpoint = four(rt.alloc())?.checkpoint();
     let text = format!(in rt.alloc(); "{checkpoint}")?;
     assert!(rt; text.as_str() == TEXT);
     assert!(rt; TEXT.parse::<Checkpoint<Sha256>>()? == checkpoint);
-    let upper = format!(in rt.alloc(); "4 {}", TEXT[2..].to_ascii_uppercase(rt.alloc())?)?;
-    assert!(rt; upper.parse::<Checkpoint<Sha256>>()? == checkpoint);
+    assert!(rt; in_capitals(rt.alloc())? == checkpoint);
     Ok(())
 }
 
 // What stands before a root in texts that are no checkpoints.
-const FRONTS: [&str; 8] = [
+static FRONTS: [&str; 8] = [
     "",
     " ",
     "4",
@@ -51,6 +55,8 @@ const FRONTS: [&str; 8] = [
     "4x ",
     "18446744073709551616 ",
 ];
+
+static ENDS: [&str; 3] = [" ", "0", "\n"];
 
 // The length of the checkpoint that a text is, if it's one.
 fn length_of(alloc: Global, front: &str, end: &str) -> Result<Option<usize>, Fail> {
@@ -64,10 +70,10 @@ fn length_of(alloc: Global, front: &str, end: &str) -> Result<Option<usize>, Fai
 
 #[test]
 fn other_texts_are_no_checkpoints(rt: HostRuntime) -> Result<(), Fail> {
-    for front in FRONTS {
+    for front in &FRONTS {
         assert!(rt; length_of(rt.alloc(), front, "")?.is_none());
     }
-    for end in [" ", "0", "\n"] {
+    for end in &ENDS {
         assert!(rt; length_of(rt.alloc(), "4 ", end)?.is_none());
     }
     let greatest = length_of(rt.alloc(), "18446744073709551615 ", "")?;
@@ -119,32 +125,39 @@ fn proofs_out_of_range(rt: HostRuntime) -> Result<(), Fail> {
     Ok(())
 }
 
-type Bytes<'a> = Vec<u8, &'a Refusing<Global>>;
-
 // The bytes of both proofs.
-fn both<'a>(
-    memory: &'a Refusing<Global>,
+fn both<A: Allocator + Copy>(
+    alloc: A,
     log: &TextLog,
-) -> Result<(Bytes<'a>, Bytes<'a>), ServeError> {
-    let inclusion = inclusion_bytes(memory, log, 1, 4);
-    let growth = growth_bytes(memory, log, 2, 4)?;
+) -> Result<(Vec<u8, A>, Vec<u8, A>), ServeError> {
+    let inclusion = inclusion_bytes(alloc, log, 1, 4);
+    let growth = growth_bytes(alloc, log, 2, 4)?;
     Ok((inclusion?, growth))
+}
+
+// Whether both calls lack memory. Else they give the bytes of both proofs.
+fn lack_memory<A: Allocator + Copy>(alloc: Global, memory: A, log: &TextLog) -> Result<bool, Fail> {
+    match both(memory, log) {
+        Ok((inclusion, growth)) => {
+            let right = are_spelled(alloc, &inclusion, INCLUSION)?;
+            if right && are_spelled(alloc, &growth, GROWTH)? {
+                return Ok(false);
+            }
+            Err("other bytes")?
+        }
+        Err(ServeError::Memory) => Ok(true),
+        Err(_) => Err("refused for another reason")?,
+    }
 }
 
 // Whether so many growths are refused for want of memory, or give the bytes of both proofs; and which of the two.
 fn is_refused(alloc: Global, log: &TextLog, growths: u64) -> Result<bool, Fail> {
     let memory = Refusing::after(alloc, growths);
-    match both(&memory, log) {
-        Ok((inclusion, growth)) => {
-            let right = are_spelled(alloc, &inclusion, INCLUSION)?;
-            if right && are_spelled(alloc, &growth, GROWTH)? && !memory.has_refused() {
-                return Ok(false);
-            }
-            Err("other bytes")?
-        }
-        Err(ServeError::Memory) if memory.has_refused() => Ok(true),
-        Err(_) => Err("refused for another reason")?,
+    let lacks = lack_memory(alloc, &memory, log)?;
+    if lacks != memory.has_refused() {
+        return Err(Fail::from("refused, or not, for another reason"));
     }
+    Ok(lacks)
 }
 
 // Each growth of both calls is refused in turn, until none is.

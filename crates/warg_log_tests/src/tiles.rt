@@ -56,6 +56,16 @@ impl<D: SupportedDigest> Logs<D> {
         self.all.length() == self.edge.length() && self.all.checkpoint() == self.edge.checkpoint()
     }
 
+    // Whether both agree, and the log's partial tiles are those of its length.
+    fn are_right(&self, alloc: Global) -> Result<bool, Fail> {
+        Ok(self.agree() && self.has_partial(alloc)?)
+    }
+
+    // Whether so, and its full tiles are those that an older length hadn't.
+    fn are_right_behind(&mut self, alloc: Global, old: usize) -> Result<bool, Fail> {
+        Ok(self.agree() && self.take_full(alloc, old)?.is_some() && self.has_partial(alloc)?)
+    }
+
     // Whether a tile is the log's own, with its digests.
     fn has_tile(&self, alloc: Global, stored: &StoredTile<D>) -> Result<bool, Fail> {
         let tile = stored.tile;
@@ -123,9 +133,7 @@ fn tiles_at_each_length(rt: HostRuntime) -> Result<(), Fail> {
     let mut logs: Logs<Sum> = Logs::new(rt.alloc());
     for old in 0..600usize {
         logs.push()?;
-        assert!(rt; logs.agree(), "behind {old}");
-        assert!(rt; logs.take_full(rt.alloc(), old)?.is_some(), "behind {old}");
-        assert!(rt; logs.has_partial(rt.alloc())?, "behind {old}");
+        assert!(rt; logs.are_right_behind(rt.alloc(), old)?, "behind {old}");
     }
     Ok(())
 }
@@ -137,8 +145,7 @@ fn tiles_of_three_levels(rt: HostRuntime) -> Result<(), Fail> {
     assert!(rt; logs.take_full(rt.alloc(), 0)? == Some(255));
     for _ in 65_300..65_540 {
         logs.push()?;
-        assert!(rt; logs.agree());
-        assert!(rt; logs.has_partial(rt.alloc())?);
+        assert!(rt; logs.are_right(rt.alloc())?);
     }
     assert!(rt; logs.take_full(rt.alloc(), 65_300)? == Some(2));
     Ok(())
@@ -162,8 +169,7 @@ fn opened_again_behind_many_entries(rt: HostRuntime) -> Result<(), Fail> {
     for step in 1..40usize {
         logs.push_many(step)?;
         logs.open_again(rt.alloc())?;
-        assert!(rt; logs.agree());
-        assert!(rt; logs.has_partial(rt.alloc())?);
+        assert!(rt; logs.are_right(rt.alloc())?);
     }
     Ok(())
 }
@@ -179,6 +185,15 @@ fn refusal(alloc: Global, tiles: &[StoredTile<Sum>], length: usize) -> Option<Op
     }
 }
 
+// Other lengths, and how a log of them is refused out of the partial tiles of 300 entries.
+static OTHER_LENGTHS: [(usize, Option<OpenError>); 5] = [
+    (300, None),
+    (301, Some(OpenError::Width)),
+    (44, Some(OpenError::Place)),
+    (256, Some(OpenError::Place)),
+    (0, Some(OpenError::Count)),
+];
+
 #[test]
 fn opened_at_another_length(rt: HostRuntime) -> Result<(), Fail> {
     let mut logs: Logs<Sum> = Logs::new(rt.alloc());
@@ -187,26 +202,17 @@ fn opened_at_another_length(rt: HostRuntime) -> Result<(), Fail> {
     assert_eq!(rt; tiles.len(), 2);
     let one = refusal(rt.alloc(), &tiles.as_slice()[..1], 300);
     assert!(rt; one == Some(OpenError::Count));
-    for (length, fault) in [
-        (300, None),
-        (301, Some(OpenError::Width)),
-        (44, Some(OpenError::Place)),
-        (256, Some(OpenError::Place)),
-        (0, Some(OpenError::Count)),
-    ] {
-        assert!(rt;
-            refusal(rt.alloc(), tiles.as_slice(), length) == fault,
-            "{length}"
-        );
+    for (length, fault) in &OTHER_LENGTHS {
+        assert!(rt; refusal(rt.alloc(), tiles.as_slice(), *length) == *fault);
     }
     Ok(())
 }
 
-type Scarce<'a> = TileLog<Sum, u64, &'a Refusing<Global>>;
+type Scarce<A> = TileLog<Sum, u64, A>;
 
 // The log of so many entries.
-fn scarce(memory: &Refusing<Global>, length: usize) -> Result<Scarce<'_>, Fail> {
-    let mut log = Scarce::new(memory);
+fn scarce<A: Allocator + Copy>(alloc: A, length: usize) -> Result<Scarce<A>, Fail> {
+    let mut log = Scarce::new(alloc);
     for entry in 0..length {
         if log.length() < GREATEST_LENGTH {
             log.push(&(entry as u64))?;
@@ -223,17 +229,13 @@ enum Pushed {
     Spoilt,
 }
 
-// How a push with so few growths ends.
-fn push_with(memory: &Refusing<Global>, log: &mut Scarce<'_>, growths: u64) -> Pushed {
+// How a push on a log ends.
+fn push_once<A: Allocator + Copy>(log: &mut Scarce<A>) -> Pushed {
     if log.length() >= GREATEST_LENGTH {
         return Pushed::Spoilt;
     }
     let before = log.checkpoint();
-    memory.exhaust();
-    memory.grant(growths);
-    let done = log.push(&0).is_ok();
-    memory.grant(u64::MAX);
-    if done {
+    if log.push(&0).is_ok() {
         Pushed::Done
     } else if log.checkpoint() == before {
         Pushed::Refused
@@ -246,7 +248,9 @@ fn push_with(memory: &Refusing<Global>, log: &mut Scarce<'_>, growths: u64) -> P
 fn end_of_push(alloc: Global, length: usize, growths: u64) -> Result<Pushed, Fail> {
     let memory = Refusing::after(alloc, u64::MAX);
     let mut log = scarce(&memory, length)?;
-    Ok(push_with(&memory, &mut log, growths))
+    memory.exhaust();
+    memory.grant(growths);
+    Ok(push_once(&mut log))
 }
 
 #[test]
@@ -280,22 +284,41 @@ fn full_tiles_in_turn(rt: HostRuntime) -> Result<(), Fail> {
     Ok(())
 }
 
+type Data = TileData<Sha256, u64>;
+
+// Whether a byte too few for two digests is refused, and the data have no tile then.
+fn is_refused(data: &mut Data) -> bool {
+    let tile = Tile::new(0, 0, 2);
+    let refused = data.insert_bytes(tile, &[1; 63]) == Err(TileBytesError::Length);
+    refused && !data.has_hash(Node(0)) && !data.has_tile(&tile)
+}
+
+// Inserts a tile of two digests by the bytes of its file.
+fn insert_two(alloc: Global, data: &mut Data) -> Result<(), Fail> {
+    let mut bytes = Vec::new(alloc);
+    bytes.extend_from_slice(&[1; 32])?;
+    bytes.extend_from_slice(&[2; 32])?;
+    data.insert_bytes(Tile::new(0, 0, 2), bytes.as_slice())?;
+    Ok(())
+}
+
+// Whether the data have tiles of one digest and of two, and no other ones.
+fn has_two(data: &Data) -> bool {
+    let second = data.hash_for(Node(2));
+    second == Some(Hash::from_array([2; 32]))
+        && data.has_tile(&Tile::new(0, 0, 1))
+        && data.has_tile(&Tile::new(0, 0, 2))
+        && !data.has_tile(&Tile::new(0, 0, 3))
+        && !data.has_tile(&Tile::new(0, 1, 2))
+}
+
 // A tile by the bytes of its file, of which one is missing at first.
 #[test]
 fn a_tile_by_its_bytes(rt: HostRuntime) -> Result<(), Fail> {
-    let mut data: TileData<Sha256, u64> = TileData::new(rt.alloc());
-    let tile = Tile::new(0, 0, 2);
-    assert!(rt; data.insert_bytes(tile, &[1; 63]) == Err(TileBytesError::Length));
-    assert!(rt; !data.has_hash(Node(0)));
-    assert!(rt; !data.has_tile(&tile));
-    let mut bytes = Vec::new(rt.alloc());
-    bytes.extend_from_slice(&[1; 32])?;
-    bytes.extend_from_slice(&[2; 32])?;
-    data.insert_bytes(tile, bytes.as_slice())?;
-    let second = data.hash_for(Node(2)).ok_or("no digest")?;
-    assert!(rt; second.bytes() == [2; 32].as_slice());
-    assert!(rt; data.has_tile(&Tile::new(0, 0, 1)) && data.has_tile(&tile));
-    assert!(rt; !data.has_tile(&Tile::new(0, 0, 3)) && !data.has_tile(&Tile::new(0, 1, 2)));
+    let mut data = Data::new(rt.alloc());
+    assert!(rt; is_refused(&mut data));
+    insert_two(rt.alloc(), &mut data)?;
+    assert!(rt; has_two(&data));
     Ok(())
 }
 
@@ -308,19 +331,19 @@ fn nodes_at<A: Allocator>(memory: A, path: &str) -> Option<Vec<Node, A>> {
     tile.nodes(memory).ok()
 }
 
+// Tiles, and the first two of their nodes.
+static NODES_OF_TILES: [(&str, usize, usize); 3] = [
+    ("tile/0/000.p/2", 0, 2),
+    ("tile/0/001.p/2", 512, 514),
+    ("tile/1/000.p/2", 255, 767),
+];
+
 // The nodes of a tile, by the numbering of nodes: leaf i is node 2 i, and 256 leaves have the node 255.
 #[test]
 fn nodes_of_tiles(rt: HostRuntime) -> Result<(), Fail> {
-    for (path, first, second) in [
-        ("tile/0/000.p/2", 0, 2),
-        ("tile/0/001.p/2", 512, 514),
-        ("tile/1/000.p/2", 255, 767),
-    ] {
+    for (path, first, second) in &NODES_OF_TILES {
         let nodes = nodes_at(rt.alloc(), path).ok_or("no nodes")?;
-        assert!(rt;
-            nodes.as_slice() == [Node(first), Node(second)].as_slice(),
-            "{path}"
-        );
+        assert!(rt; nodes.as_slice() == [Node(*first), Node(*second)].as_slice());
         let memory = Refusing::after(rt.alloc(), 0);
         assert!(rt; nodes_at(&memory, path).is_none() && memory.has_refused());
     }
