@@ -70,6 +70,13 @@ fn entry_of(number: usize) -> [u8; 2] {
     [(number / 256 % 256) as u8, (number % 256) as u8]
 }
 
+// The folder of a log, once something is done to it.
+fn folder_of<F: Folder + Drop>(log: LogFolder<F>, done: Result<(), Fail>) -> Result<F, Fail> {
+    let folder = log.into_folder();
+    done?;
+    Ok(folder)
+}
+
 // Pushes such entries, and commits them.
 fn commit_some<F: Folder + Drop>(log: &mut LogFolder<F>, from: usize, to: usize) -> Result<(), Fail>
     requires { F.IsFaithful → IsReady F.seen F.may_leave log.old }
@@ -86,8 +93,8 @@ pub(crate) fn with_log<F: Folder + Drop>(
     count: usize,
 ) -> Result<F, Fail> {
     let mut log = new_log(alloc, folder)?;
-    commit_some(&mut log, 0, count)?;
-    Ok(log.into_folder())
+    let done = commit_some(&mut log, 0, count);
+    folder_of(log, done)
 }
 
 // The folder, whose log has a first number of entries, with a log of so many.
@@ -98,8 +105,8 @@ pub(crate) fn with_more<F: Folder + Drop>(
     next: usize,
 ) -> Result<F, Fail> {
     let mut log = LogFolder::open(alloc, folder)?;
-    commit_some(&mut log, first, next)?;
-    Ok(log.into_folder())
+    let done = commit_some(&mut log, first, next);
+    folder_of(log, done)
 }
 
 // The checkpoint of the first entries.
@@ -129,8 +136,12 @@ fn passes_audit<F: Folder + Drop>(log: &mut LogFolder<F>) -> Result<bool, LogErr
 
 // Whether a folder keeps the log of so many entries.
 fn keeps<F: Folder + Drop>(alloc: Global, folder: F, count: usize) -> Result<bool, Fail> {
+    let wanted = checkpoint_of(alloc, count)?;
     let mut log = opened(alloc, folder)?;
-    Ok(log.checkpoint() == checkpoint_of(alloc, count)? && passes_audit(&mut log)?)
+    let is_kept = log.checkpoint() == wanted;
+    let is_whole = passes_audit(&mut log);
+    let _ = log.into_folder();
+    Ok(is_kept && is_whole?)
 }
 
 // Whether a file is there whose bytes, as many as are read, are these.
@@ -169,17 +180,23 @@ fn prunes_two<F: Folder + Drop>(log: &mut LogFolder<F>) -> Result<bool, LogError
     Ok(log.prune()? == 2 && passes_audit(log)?)
 }
 
+// Whether all of it is read, and it is pruned.
+fn is_whole<F: Folder + Drop>(log: &mut LogFolder<F>) -> Result<bool, LogError> {
+    let is_read = passes_audit(log)? && has_last_entry(log)? && has_paths(log)?;
+    Ok(is_read && ends(log) && prunes_two(log)?)
+}
+
 #[test]
 fn a_commit_fills_tiles_and_keeps_those_before(rt: HostRuntime) -> Result<(), Fail> {
     let alloc = rt.alloc();
+    let wanted = checkpoint_of(alloc, 259)?;
     let (folder, _) = two_commits(alloc, 3, 259)?;
     let mut log = opened(alloc, folder)?;
-    assert!(rt; log.checkpoint() == checkpoint_of(alloc, 259)?);
-    assert!(rt; passes_audit(&mut log)?);
-    assert!(rt; has_last_entry(&mut log)?);
-    assert!(rt; ends(&mut log) && has_paths(&mut log)?);
-    assert!(rt; prunes_two(&mut log)?);
-    assert!(rt; log.into_folder().calls().len() > 0);
+    let is_kept = log.checkpoint() == wanted;
+    let is_whole = is_whole(&mut log);
+    let folder = log.into_folder();
+    assert!(rt; is_kept && folder.calls().len() > 0);
+    assert!(rt; is_whole?);
     Ok(())
 }
 
@@ -191,13 +208,20 @@ fn commit_with_line<F: Folder + Drop>(alloc: Global, log: &mut LogFolder<F>) -> 
     Ok(())
 }
 
-// The folder with a log of three entries, a page and a further line.
+// Pushes three entries and a page, and commits them with a further line.
+fn commit_page<F: Folder + Drop>(alloc: Global, log: &mut LogFolder<F>) -> Result<(), Fail>
+    requires { F.IsFaithful → IsReady F.seen F.may_leave log.old }
+{
+    push_some(log, 0, 3)?;
+    log.put_page("x07/3", b"page")?;
+    commit_with_line(alloc, log)
+}
+
+// The folder, which was empty, with such a log.
 fn with_page<F: Folder + Drop>(alloc: Global, folder: F) -> Result<F, Fail> {
     let mut log = new_log(alloc, folder)?;
-    push_some(&mut log, 0, 3)?;
-    log.put_page("x07/3", b"page")?;
-    commit_with_line(alloc, &mut log)?;
-    Ok(log.into_folder())
+    let done = commit_page(alloc, &mut log);
+    folder_of(log, done)
 }
 
 // Whether the checkpoint's text ends in a further line.
@@ -239,29 +263,31 @@ fn has_bundle<F: Folder + Drop>(
     Ok(entries.len() == count && are_pushed(bundle.saturating_mul(256), entries.as_slice()))
 }
 
-// Whether there is no third bundle.
-fn has_two_bundles<F: Folder + Drop>(reader: &mut LogReader<F>) -> bool {
-    reader.entries(2) == Err(LogError::OutOfRange { bound: 2 })
+// Whether there are two bundles, of 256 entries and of one, and no third one.
+fn has_bundles<F: Folder + Drop>(reader: &mut LogReader<F>) -> Result<bool, LogError> {
+    let none = reader.entries(2) == Err(LogError::OutOfRange { bound: 2 });
+    Ok(none && has_bundle(reader, 0, 256)? && has_bundle(reader, 1, 1)?)
 }
 
 #[test]
 fn bundles_have_the_entries_that_were_pushed(rt: HostRuntime) -> Result<(), Fail> {
     let alloc = rt.alloc();
-    let mut reader = reader_of(alloc, with_log(alloc, MemoryFolder::new(alloc), 257)?)?;
-    assert!(rt; has_bundle(&mut reader, 0, 256)?);
-    assert!(rt; has_bundle(&mut reader, 1, 1)?);
-    assert!(rt; has_two_bundles(&mut reader));
+    let folder = with_log(alloc, MemoryFolder::new(alloc), 257)?;
+    let mut reader = reader_of(alloc, folder)?;
+    let has_bundles = has_bundles(&mut reader);
+    let _ = reader.into_folder();
+    assert!(rt; has_bundles?);
     Ok(())
 }
 
-// A log of three entries with two pages and a further line.
-fn log_with_pages<F: Folder + Drop>(alloc: Global, folder: F) -> Result<LogFolder<F>, Fail> {
-    let mut log = new_log(alloc, folder)?;
-    push_some(&mut log, 0, 3)?;
+// Pushes three entries and two pages, and commits them with a further line.
+fn commit_pages<F: Folder + Drop>(alloc: Global, log: &mut LogFolder<F>) -> Result<(), Fail>
+    requires { F.IsFaithful → IsReady F.seen F.may_leave log.old }
+{
+    push_some(log, 0, 3)?;
     log.put_page("a", b"first page")?;
     log.put_page("b/1", b"second")?;
-    commit_with_line(alloc, &mut log)?;
-    Ok(log)
+    commit_with_line(alloc, log)
 }
 
 // Whether a log has a page, whose front has these bytes.
@@ -277,9 +303,10 @@ fn has_page<F: Folder + Drop>(
     }
 }
 
-// Whether no page is at a path.
-fn has_no_page<F: Folder + Drop>(log: &mut LogFolder<F>, path: &str) -> Result<bool, FolderError> {
-    Ok(log.page(path, 9)?.is_none())
+// Whether a log has its two pages, and none at another path.
+fn has_pages<F: Folder + Drop>(log: &mut LogFolder<F>) -> Result<bool, FolderError> {
+    let none = log.page("b", 9)?.is_none();
+    Ok(none && has_page(log, "b/1", 9, b"second")? && has_page(log, "a", 3, b"firs")?)
 }
 
 // Whether a page is read by its path, and a tile isn't.
@@ -289,14 +316,31 @@ fn reads_pages<F: Folder + Drop>(reader: &mut LogReader<F>) -> Result<bool, Fail
     Ok(page.as_slice() == b"second".as_slice() && tile.is_none())
 }
 
+// Whether a log has the pages that it commits.
+fn keeps_pages<F: Folder + Drop>(alloc: Global, log: &mut LogFolder<F>) -> Result<bool, Fail>
+    requires { F.IsFaithful → IsReady F.seen F.may_leave log.old }
+{
+    commit_pages(alloc, log)?;
+    Ok(has_pages(log)?)
+}
+
+// The folder, which was empty, with such a log, and whether it has its pages.
+fn with_pages<F: Folder + Drop>(alloc: Global, folder: F) -> Result<(F, bool), Fail> {
+    let mut log = new_log(alloc, folder)?;
+    let are_kept = keeps_pages(alloc, &mut log);
+    let folder = log.into_folder();
+    Ok((folder, are_kept?))
+}
+
 #[test]
 fn a_page_is_read_by_its_path(rt: HostRuntime) -> Result<(), Fail> {
     let alloc = rt.alloc();
-    let mut log = log_with_pages(alloc, MemoryFolder::new(alloc))?;
-    assert!(rt; has_page(&mut log, "b/1", 9, b"second")?);
-    assert!(rt; has_page(&mut log, "a", 3, b"firs")?);
-    assert!(rt; has_no_page(&mut log, "b")?);
-    assert!(rt; reads_pages(&mut reader_of(alloc, log.into_folder())?)?);
+    let (folder, are_kept) = with_pages(alloc, MemoryFolder::new(alloc))?;
+    assert!(rt; are_kept);
+    let mut reader = reader_of(alloc, folder)?;
+    let reads_pages = reads_pages(&mut reader);
+    let _ = reader.into_folder();
+    assert!(rt; reads_pages?);
     Ok(())
 }
 
@@ -332,37 +376,65 @@ fn remove_page<F: Folder + Drop>(alloc: Global, log: &mut LogFolder<F>) -> Resul
     Ok(())
 }
 
+// Whether both pages are listed.
+fn lists_both<F: Folder + Drop>(log: &mut LogFolder<F>) -> Result<bool, FolderError> {
+    let names = log.pages()?;
+    let names = names.as_slice();
+    Ok(are_names(names, 2, "map/a") && are_names(names, 2, "map/b/1"))
+}
+
+// Whether one page is left, and the log of three entries.
+fn has_one_left<F: Folder + Drop>(alloc: Global, log: &mut LogFolder<F>) -> Result<bool, Fail> {
+    let is_left = are_names(log.pages()?.as_slice(), 1, "map/b/1");
+    Ok(is_left && log.audit(&mut Steps(0))? == checkpoint_of(alloc, 3)?)
+}
+
+// Whether the pages that a log commits are listed, and one of them is removed.
+fn removes_page<F: Folder + Drop>(alloc: Global, log: &mut LogFolder<F>) -> Result<bool, Fail>
+    requires { F.IsFaithful → IsReady F.seen F.may_leave log.old }
+{
+    commit_pages(alloc, log)?;
+    let are_listed = lists_both(log)?;
+    remove_page(alloc, log)?;
+    Ok(are_listed && has_one_left(alloc, log)?)
+}
+
 #[test]
 fn pages_are_listed_and_removed(rt: HostRuntime) -> Result<(), Fail> {
     let alloc = rt.alloc();
-    let mut log = log_with_pages(alloc, MemoryFolder::new(alloc))?;
-    let names = log.pages()?;
-    assert!(rt; are_names(names.as_slice(), 2, "map/a"));
-    assert!(rt; are_names(names.as_slice(), 2, "map/b/1"));
-    remove_page(alloc, &mut log)?;
-    assert!(rt; are_names(log.pages()?.as_slice(), 1, "map/b/1"));
-    assert!(rt; log.audit(&mut Steps(0))? == checkpoint_of(alloc, 3)?);
+    let mut log = new_log(alloc, MemoryFolder::new(alloc))?;
+    let is_removed = removes_page(alloc, &mut log);
+    let _ = log.into_folder();
+    assert!(rt; is_removed?);
     Ok(())
 }
 
-// The folder, which was empty, with a log of pushes and no commit, if one more is too long.
-fn uncommitted<F: Folder + Drop>(alloc: Global, folder: F) -> Result<F, Fail> {
-    let mut log = new_log(alloc, folder)?;
-    push_some(&mut log, 0, 257)?;
+// Pushes entries, and one that is too long.
+fn push_too_long<F: Folder + Drop>(log: &mut LogFolder<F>) -> Result<(), Fail>
+    requires { F.IsFaithful → IsReady F.seen F.may_leave log.old }
+{
+    push_some(log, 0, 257)?;
     match log.push(&[7; 65536]) {
-        Err(PushError::TooLong) => Ok(log.into_folder()),
+        Err(PushError::TooLong) => Ok(()),
         _ => Err(Fail::from("a long entry")),
     }
 }
 
-// The folder after a commit of its log, if that has no entries.
-fn with_nothing<F: Folder + Drop>(alloc: Global, folder: F) -> Result<F, Fail> {
+// The folder, which was empty, with a log of such pushes and no commit.
+fn uncommitted<F: Folder + Drop>(alloc: Global, folder: F) -> Result<F, Fail> {
+    let mut log = new_log(alloc, folder)?;
+    let done = push_too_long(&mut log);
+    folder_of(log, done)
+}
+
+// The folder after a commit of its log, and how many entries that had.
+fn with_nothing<F: Folder + Drop>(alloc: Global, folder: F) -> Result<(F, usize), Fail> {
     let mut log = LogFolder::open(alloc, folder)?;
-    if log.length() != 0 {
-        return Err(Fail::from("entries"));
-    }
-    log.commit()?;
-    Ok(log.into_folder())
+    let length = log.length();
+    let done = log.commit();
+    let folder = log.into_folder();
+    done?;
+    Ok((folder, length))
 }
 
 #[test]
@@ -370,7 +442,8 @@ fn what_is_not_committed_is_dropped(rt: HostRuntime) -> Result<(), Fail> {
     let alloc = rt.alloc();
     let mut folder = uncommitted(alloc, MemoryFolder::new(alloc))?;
     assert_eq!(rt; folder.list(alloc, ".log/staged/")?.len(), 2);
-    let mut folder = with_nothing(alloc, folder)?;
+    let (mut folder, length) = with_nothing(alloc, folder)?;
+    assert_eq!(rt; length, 0);
     assert!(rt; folder.list(alloc, "")?.len() < 6);
     Ok(())
 }
@@ -385,17 +458,57 @@ fn signed_text<F: Folder + Drop>(reader: &mut LogReader<F>) -> Result<Vec<u8>, F
 // The folder, which was empty, with a log of one entry, and its signed note.
 fn with_note<F: Folder + Drop>(alloc: Global, folder: F) -> Result<(F, Vec<u8>), Fail> {
     let mut reader = reader_of(alloc, with_log(alloc, folder, 1)?)?;
-    let note = signed_text(&mut reader)?;
-    Ok((reader.into_folder(), note))
+    let note = signed_text(&mut reader);
+    let folder = reader.into_folder();
+    Ok((folder, note?))
 }
 
-// A log of three entries that serves this signed note of its first one.
-fn signed_log<F: Folder + Drop>(alloc: Global, folder: F) -> Result<(LogFolder<F>, Vec<u8>), Fail> {
+// Whether a log's folder serves the log of one entry, and the log keeps that of three.
+fn tells_served<F: Folder + Drop>(alloc: Global, log: &mut LogFolder<F>) -> Result<bool, Fail> {
+    let (first, third) = (checkpoint_of(alloc, 1)?, checkpoint_of(alloc, 3)?);
+    Ok(log.served()?.checkpoint() == first && log.text().checkpoint() == third)
+}
+
+// Signs a log's text, and commits two entries more. Whether the log tells what is served then, and what is kept.
+fn sign_and_grow<F: Folder + Drop>(
+    alloc: Global,
+    log: &mut LogFolder<F>,
+    note: &[u8],
+) -> Result<bool, Fail>
+    requires { F.IsFaithful → IsReady F.seen F.may_leave log.old }
+{
+    log.sign(note)?;
+    commit_some(log, 1, 3)?;
+    tells_served(alloc, log)
+}
+
+// What a folder is after that, with the note.
+#[derive(Drop)]
+struct Signed<F: Folder + Drop> {
+    folder: F,
+    note: Vec<u8>,
+    is_told: bool,
+}
+
+// The folder, which was empty, with a log of three entries that serves this signed note of its first one.
+fn with_signature<F: Folder + Drop>(alloc: Global, folder: F) -> Result<Signed<F>, Fail> {
     let (folder, note) = with_note(alloc, folder)?;
     let mut log = LogFolder::open(alloc, folder)?;
-    log.sign(note.as_slice())?;
-    commit_some(&mut log, 1, 3)?;
-    Ok((log, note))
+    let told = sign_and_grow(alloc, &mut log, note.as_slice());
+    let folder = log.into_folder();
+    Ok(Signed {
+        folder,
+        note,
+        is_told: told?,
+    })
+}
+
+// The folder, and whether it serves the log of so many entries.
+fn serves<F: Folder + Drop>(alloc: Global, folder: F, count: usize) -> Result<(F, bool), Fail> {
+    let wanted = checkpoint_of(alloc, count)?;
+    let reader = reader_of(alloc, folder)?;
+    let is_served = reader.checkpoint() == wanted;
+    Ok((reader.into_folder(), is_served))
 }
 
 // Whether a text isn't served, and nothing is spare.
@@ -403,37 +516,54 @@ fn is_not_signed<F: Folder + Drop>(log: &mut LogFolder<F>, note: &[u8]) -> Resul
     Ok(log.sign(note) == Err(SignError::Text) && log.prune()? == 0)
 }
 
+// Whether a folder keeps the log of so many entries, for which a note is none.
+fn keeps_unsigned<F: Folder + Drop>(
+    alloc: Global,
+    folder: F,
+    count: usize,
+    note: &[u8],
+) -> Result<bool, Fail> {
+    let wanted = checkpoint_of(alloc, count)?;
+    let mut log = opened(alloc, folder)?;
+    let is_kept = log.checkpoint() == wanted;
+    let is_not_signed = is_not_signed(&mut log, note);
+    let _ = log.into_folder();
+    Ok(is_kept && is_not_signed?)
+}
+
 #[test]
 fn a_signed_checkpoint_stays_until_another_is_signed(rt: HostRuntime) -> Result<(), Fail> {
     let alloc = rt.alloc();
-    let (log, note) = signed_log(alloc, MemoryFolder::new(alloc))?;
-    let reader = reader_of(alloc, log.into_folder())?;
-    assert!(rt; reader.checkpoint() == checkpoint_of(alloc, 1)?);
-    let mut log = opened(alloc, reader.into_folder())?;
-    assert!(rt; log.checkpoint() == checkpoint_of(alloc, 3)?);
-    assert!(rt; is_not_signed(&mut log, note.as_slice())?);
+    let Signed { folder, note, .. } = with_signature(alloc, MemoryFolder::new(alloc))?;
+    let (folder, is_served) = serves(alloc, folder, 1)?;
+    assert!(rt; is_served);
+    assert!(rt; keeps_unsigned(alloc, folder, 3, note.as_slice())?);
     Ok(())
 }
 
-// The checkpoint that a log's folder serves.
-fn served_by<F: Folder + Drop>(log: &mut LogFolder<F>) -> Result<Checkpoint<Sha256>, LogError> {
-    Ok(log.served()?.checkpoint())
+// The checkpoint that the text says which a folder serves.
+fn text_of<F: Folder + Drop>(alloc: Global, folder: F) -> Result<Checkpoint<Sha256>, LogError> {
+    let reader = reader_of(alloc, folder)?;
+    let checkpoint = reader.text().checkpoint();
+    let _ = reader.into_folder();
+    Ok(checkpoint)
 }
 
 #[test]
 fn what_is_served_is_told_beside_what_is_kept(rt: HostRuntime) -> Result<(), Fail> {
     let alloc = rt.alloc();
-    let (mut log, _) = signed_log(alloc, MemoryFolder::new(alloc))?;
-    let served = served_by(&mut log)?;
-    assert!(rt; served == checkpoint_of(alloc, 1)?);
-    assert!(rt; log.text().checkpoint() == checkpoint_of(alloc, 3)?);
-    let reader = reader_of(alloc, log.into_folder())?;
-    assert!(rt; reader.text().checkpoint() == served);
+    let Signed {
+        folder,
+        is_told,
+        ..
+    } = with_signature(alloc, MemoryFolder::new(alloc))?;
+    assert!(rt; is_told);
+    assert!(rt; text_of(alloc, folder)? == checkpoint_of(alloc, 1)?);
     Ok(())
 }
 
-// Whether a text without a signature isn't served.
-fn is_unsigned<F: Folder + Drop>(alloc: Global, mut log: LogFolder<F>) -> Result<bool, Fail> {
+// Whether a log's text without a signature isn't served.
+fn is_unsigned<F: Folder + Drop>(alloc: Global, log: &mut LogFolder<F>) -> Result<bool, Fail> {
     let text = log.text().write(alloc)?;
     Ok(log.sign(text.as_slice()) == Err(SignError::Text))
 }
@@ -441,7 +571,10 @@ fn is_unsigned<F: Folder + Drop>(alloc: Global, mut log: LogFolder<F>) -> Result
 #[test]
 fn a_text_without_a_signature_is_not_served(rt: HostRuntime) -> Result<(), Fail> {
     let alloc = rt.alloc();
-    assert!(rt; is_unsigned(alloc, new_log(alloc, MemoryFolder::new(alloc))?)?);
+    let mut log = new_log(alloc, MemoryFolder::new(alloc))?;
+    let is_unsigned = is_unsigned(alloc, &mut log);
+    let _ = log.into_folder();
+    assert!(rt; is_unsigned?);
     Ok(())
 }
 
@@ -540,9 +673,12 @@ fn grows<F: Folder + Drop>(
     first: usize,
     next: usize,
 ) -> Result<bool, Fail> {
+    let wanted = checkpoint_of(alloc, next)?;
     let mut log = LogFolder::open(alloc, folder)?;
-    commit_some(&mut log, first, next)?;
-    Ok(log.checkpoint() == checkpoint_of(alloc, next)?)
+    let done = commit_some(&mut log, first, next);
+    let is_grown = log.checkpoint() == wanted;
+    let _ = folder_of(log, done)?;
+    Ok(is_grown)
 }
 
 #[test]

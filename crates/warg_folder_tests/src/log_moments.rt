@@ -20,15 +20,17 @@ fn logs_of(alloc: Global, old: usize, new: usize) -> Result<Logs, Fail> {
 // The log that a reader finds in a folder, whole.
 fn served<F: Folder + Drop>(alloc: Global, folder: F) -> Result<(F, Checkpoint<Sha256>), LogError> {
     let mut reader = reader_of(alloc, folder)?;
-    let found = reader.audit(&mut Steps(0))?;
-    Ok((reader.into_folder(), found))
+    let found = reader.audit(&mut Steps(0));
+    let folder = reader.into_folder();
+    Ok((folder, found?))
 }
 
 // The log that who opens a folder finds there, whole.
 fn kept<F: Folder + Drop>(alloc: Global, folder: F) -> Result<(F, Checkpoint<Sha256>), LogError> {
     let mut log = opened(alloc, folder)?;
-    let found = log.audit(&mut Steps(0))?;
-    Ok((log.into_folder(), found))
+    let found = log.audit(&mut Steps(0));
+    let folder = log.into_folder();
+    Ok((folder, found?))
 }
 
 // Whether a folder has no staged file.

@@ -2,7 +2,7 @@
 //! digests that Python made.
 
 use refusing::Refusing;
-use std::alloc::Global;
+use std::alloc::{Allocator, Global};
 use std::test::Fail;
 use warg_crypto::{Hash, Sha256};
 use warg_log::{Checkpoint, LogBuilder, VecLog};
@@ -27,16 +27,19 @@ fn hash(digits: &str) -> Result<Hash<Sha256>, Fail> {
     Ok(digits.parse::<Hash<Sha256>>().ok().ok_or("digits")?)
 }
 
+// Whether bytes are read as the insertion of a key and a value, and written so.
+fn is_insertion(alloc: Global, bytes: &[u8], key: &[u8], value: &[u8]) -> Result<bool, Fail> {
+    let entry = write_insertion(alloc, key, value)?;
+    match read_insertion(bytes) {
+        Ok(read) => Ok(entry.as_slice() == bytes && read.key == key && read.value == value),
+        Err(_) => Ok(false),
+    }
+}
+
 #[test]
 fn an_insertion_is_written_and_read(rt: HostRuntime) -> Result<(), Fail> {
-    let entry = write_insertion(rt.alloc(), b"left-pad", b"1.1.0")?;
-    assert!(rt; entry.as_slice() == ENTRY.as_slice());
-    let read = read_insertion(ENTRY).ok().ok_or("read")?;
-    assert!(rt; read.key == b"left-pad".as_slice() && read.value == b"1.1.0".as_slice());
-    let empty = write_insertion(rt.alloc(), b"", b"")?;
-    assert!(rt; empty.as_slice() == [0; 16].as_slice());
-    let read = read_insertion(&[0; 16]).ok().ok_or("read")?;
-    assert!(rt; read.key.is_empty() && read.value.is_empty());
+    assert!(rt; is_insertion(rt.alloc(), ENTRY, b"left-pad", b"1.1.0")?);
+    assert!(rt; is_insertion(rt.alloc(), &[0; 16], b"", b"")?);
     Ok(())
 }
 
@@ -59,6 +62,12 @@ fn first(bytes: &[u8], count: usize) -> &[u8] {
     bytes.get(..count).unwrap_or(bytes)
 }
 
+// Whether an insertion of so many bytes is too long.
+fn is_too_long<A: Allocator + Copy>(alloc: A, bytes: &[u8], key: usize, value: usize) -> bool {
+    let longer = write_insertion(alloc, first(bytes, key), first(bytes, value));
+    longer.err() == Some(EntryError::TooLong)
+}
+
 #[test]
 fn the_longest_insertion(rt: HostRuntime) -> Result<(), Fail> {
     let bytes = [7u8; 65_520];
@@ -66,20 +75,22 @@ fn the_longest_insertion(rt: HostRuntime) -> Result<(), Fail> {
     assert!(rt; entry.len() == 65_535);
     let none = Refusing::after(rt.alloc(), 0);
     for (key, value) in [(65_501, 19), (0, 65_520), (65_520, 0), (65_520, 65_520)] {
-        let (key, value) = (first(&bytes, key), first(&bytes, value));
-        let longer = write_insertion(&none, key, value);
-        assert!(rt; longer.err() == Some(EntryError::TooLong));
+        assert!(rt; is_too_long(&none, &bytes, key, value));
     }
     assert!(rt; !none.has_refused());
     Ok(())
 }
 
+// A checkpoint's text with no further line.
+fn new_text(alloc: Global) -> Result<CheckpointText<Sha256>, Fail> {
+    let checkpoint = Checkpoint::new(hash(LEAF)?, 1);
+    Ok(CheckpointText::new(alloc, b"example.com/log", checkpoint)?)
+}
+
 #[test]
 fn what_a_registry_announces(rt: HostRuntime) -> Result<(), Fail> {
-    let alloc = rt.alloc();
-    let root = hash(ROOT)?;
-    let mut text = CheckpointText::new(alloc, b"example.com/log", Checkpoint::new(hash(LEAF)?, 1))?;
-    let entry = announced(alloc, &mut text, &root, "left-pad", "1.1.0")?;
+    let mut text = new_text(rt.alloc())?;
+    let entry = announced(rt.alloc(), &mut text, &hash(ROOT)?, "left-pad", "1.1.0")?;
     assert!(rt; entry.as_slice() == ENTRY.as_slice());
     assert_eq!(rt; text.extensions().len(), 1);
     let line = text.extensions().first().ok_or("no line")?;
@@ -87,13 +98,17 @@ fn what_a_registry_announces(rt: HostRuntime) -> Result<(), Fail> {
     Ok(())
 }
 
+// Whether an entry inserts its value under its own key and leaf digest, and no other ones.
+fn inserts_value(leaf: &Hash<Sha256>, other: &Hash<Sha256>) -> bool {
+    inserted_value(ENTRY, b"left-pad", leaf) == Some(b"1.1.0".as_slice())
+        && inserted_value(ENTRY, b"left-pac", leaf).is_none()
+        && inserted_value(ENTRY, b"left-pad", other).is_none()
+        && inserted_value(&ENTRY[..28], b"left-pad", leaf).is_none()
+}
+
 #[test]
 fn the_value_that_an_entry_inserts(rt: HostRuntime) -> Result<(), Fail> {
-    let leaf = hash(LEAF)?;
-    assert!(rt; inserted_value(ENTRY, b"left-pad", &leaf) == Some(b"1.1.0".as_slice()));
-    assert!(rt; inserted_value(ENTRY, b"left-pac", &leaf).is_none());
-    assert!(rt; inserted_value(ENTRY, b"left-pad", &hash(ROOT)?).is_none());
-    assert!(rt; inserted_value(&ENTRY[..28], b"left-pad", &leaf).is_none());
+    assert!(rt; inserts_value(&hash(LEAF)?, &hash(ROOT)?));
     Ok(())
 }
 
@@ -109,35 +124,58 @@ fn root_of(
     alloc: Global,
     lines: &[&[u8]],
 ) -> Result<Result<Option<Hash<Sha256>>, BadMapLine>, Fail> {
-    let mut text = CheckpointText::new(alloc, b"example.com/log", Checkpoint::new(hash(LEAF)?, 1))?;
+    let mut text = new_text(alloc)?;
     for line in lines {
         text.push_extension(line)?;
     }
     Ok(map_root(&text))
 }
 
+// Whether a text with these further lines names no root as it should.
+fn are_bad(alloc: Global, lines: &[&[u8]]) -> Result<bool, Fail> {
+    Ok(root_of(alloc, lines)? == Err(BadMapLine))
+}
+
+// Other words, no padding, more of it, bits behind the last digit, 31 and 33 bytes, and no digits.
+static OTHER_LINES: [&[u8]; 9] = [
+    b"Map 47DEQpj8HBSa+/TImW+5JCeuQeRkm5NMpJWZG3hSuFU=",
+    b"map  47DEQpj8HBSa+/TImW+5JCeuQeRkm5NMpJWZG3hSuFU=",
+    b"map 47DEQpj8HBSa+/TImW+5JCeuQeRkm5NMpJWZG3hSuFU",
+    b"map 47DEQpj8HBSa+/TImW+5JCeuQeRkm5NMpJWZG3hSuFU==",
+    b"map 47DEQpj8HBSa+/TImW+5JCeuQeRkm5NMpJWZG3hSuFV=",
+    b"map 47DEQpj8HBSa+/TImW+5JCeuQeRkm5NMpJWZG3hSuA==",
+    b"map 47DEQpj8HBSa+/TImW+5JCeuQeRkm5NMpJWZG3hSuFUA",
+    b"map ",
+    b"m",
+];
+
 #[test]
 fn the_root_that_a_text_names(rt: HostRuntime) -> Result<(), Fail> {
     let alloc = rt.alloc();
     assert!(rt; root_of(alloc, &[])? == Ok(None));
     assert!(rt; root_of(alloc, &[LINE])? == Ok(Some(hash(ROOT)?)));
-    assert!(rt; root_of(alloc, &[LINE, LINE])? == Err(BadMapLine));
-    assert!(rt; root_of(alloc, &[LINE, b"more"])? == Err(BadMapLine));
-    // Other words, no padding, more of it, bits behind the last digit, 31 and 33 bytes, and no digits.
-    for other in [
-        b"Map 47DEQpj8HBSa+/TImW+5JCeuQeRkm5NMpJWZG3hSuFU=".as_slice(),
-        b"map  47DEQpj8HBSa+/TImW+5JCeuQeRkm5NMpJWZG3hSuFU=".as_slice(),
-        b"map 47DEQpj8HBSa+/TImW+5JCeuQeRkm5NMpJWZG3hSuFU".as_slice(),
-        b"map 47DEQpj8HBSa+/TImW+5JCeuQeRkm5NMpJWZG3hSuFU==".as_slice(),
-        b"map 47DEQpj8HBSa+/TImW+5JCeuQeRkm5NMpJWZG3hSuFV=".as_slice(),
-        b"map 47DEQpj8HBSa+/TImW+5JCeuQeRkm5NMpJWZG3hSuA==".as_slice(),
-        b"map 47DEQpj8HBSa+/TImW+5JCeuQeRkm5NMpJWZG3hSuFUA".as_slice(),
-        b"map ".as_slice(),
-        b"m".as_slice(),
-    ] {
-        assert!(rt; root_of(alloc, &[other])? == Err(BadMapLine));
+    Ok(())
+}
+
+#[test]
+fn other_lines_are_no_roots(rt: HostRuntime) -> Result<(), Fail> {
+    let alloc = rt.alloc();
+    assert!(rt; are_bad(alloc, &[LINE, LINE])?);
+    assert!(rt; are_bad(alloc, &[LINE, b"more"])?);
+    for other in &OTHER_LINES {
+        assert!(rt; are_bad(alloc, &[*other])?);
     }
     Ok(())
+}
+
+// Whether memory lacks for an entry.
+fn lacks_for_entry<A: Allocator + Copy>(alloc: A) -> bool {
+    write_insertion(alloc, b"left-pad", b"1.1.0").err() == Some(EntryError::Memory)
+}
+
+// Whether memory lacks for a line.
+fn lacks_for_line<A: Allocator + Copy>(alloc: A, root: &Hash<Sha256>) -> bool {
+    map_line(alloc, root).is_err()
 }
 
 #[test]
@@ -145,16 +183,14 @@ fn each_growth_is_refused_in_turn(rt: HostRuntime) -> Result<(), Fail> {
     let root = hash(ROOT)?;
     for growths in 0..9u64 {
         let memory = Refusing::after(rt.alloc(), growths);
-        let entry = write_insertion(&memory, b"left-pad", b"1.1.0");
-        assert!(rt; memory.has_refused() == (entry.err() == Some(EntryError::Memory)));
+        assert!(rt; lacks_for_entry(&memory) == memory.has_refused());
         let memory = Refusing::after(rt.alloc(), growths);
-        let line = map_line(&memory, &root);
-        assert!(rt; memory.has_refused() == line.is_err());
+        assert!(rt; lacks_for_line(&memory, &root) == memory.has_refused());
     }
     Ok(())
 }
 
-const INSERTIONS: [(&str, &str); 3] = [
+static INSERTIONS: [(&str, &str); 3] = [
     ("left-pad", "1.1.0"),
     ("right-pad", "0.1.0"),
     ("left-pad", "1.2.0"),
@@ -167,20 +203,43 @@ kio8+Z8SDs4kXTpdEWle/pNkUubWfZTwstuuzddSASU=
 map L1cqiL/p9eQodMFuiByUt4S3nWpZEIspTn8/EF9ALNs=
 ";
 
+// The log of the insertions, by its checkpoint.
+fn log_of(alloc: Global) -> Result<Checkpoint<Sha256>, Fail> {
+    let mut log: VecLog<Sha256, Vec<u8>> = VecLog::default(alloc);
+    for (key, value) in &INSERTIONS {
+        log.append(&write_insertion(alloc, key.as_bytes(), value.as_bytes())?)?;
+    }
+    Ok(log.checkpoint())
+}
+
+// Their map, by its root.
+fn map_of(alloc: Global) -> Result<Hash<Sha256>, Fail> {
+    let mut map: Map<Sha256, &'static str, &'static str> = Map::default(alloc);
+    for (key, value) in &INSERTIONS {
+        map = map.insert(*key, *value)?;
+    }
+    Ok(map.root().copied())
+}
+
+// The text of a registry's checkpoint.
+fn written(alloc: Global, root: &Hash<Sha256>) -> Result<Vec<u8>, Fail> {
+    let mut text = CheckpointText::new(alloc, b"example.com/registry", log_of(alloc)?)?;
+    text.push_extension(map_line(alloc, root)?.as_slice())?;
+    Ok(text.write(alloc)?)
+}
+
+// Whether a text names a map's root.
+fn names(alloc: Global, text: &[u8], root: Hash<Sha256>) -> Result<bool, Fail> {
+    let (read, _) = CheckpointText::<Sha256, Global>::read(alloc, text)?;
+    Ok(map_root(&read) == Ok(Some(root)))
+}
+
 #[test]
 fn the_text_of_a_registry(rt: HostRuntime) -> Result<(), Fail> {
     let alloc = rt.alloc();
-    let mut log: VecLog<Sha256, Vec<u8>> = VecLog::default(alloc);
-    let mut map: Map<Sha256, &'static str, &'static str> = Map::default(alloc);
-    for (key, value) in INSERTIONS {
-        log.append(&write_insertion(alloc, key.as_bytes(), value.as_bytes())?)?;
-        map = map.insert(key, value)?;
-    }
-    let mut text = CheckpointText::new(alloc, b"example.com/registry", log.checkpoint())?;
-    text.push_extension(map_line(alloc, map.root())?.as_slice())?;
-    let bytes = text.write(alloc)?;
+    let root = map_of(alloc)?;
+    let bytes = written(alloc, &root)?;
     assert!(rt; bytes.as_slice() == TEXT.as_bytes());
-    let (read, _) = CheckpointText::<Sha256, Global>::read(alloc, bytes.as_slice())?;
-    assert!(rt; map_root(&read) == Ok(Some(map.root().copied())));
+    assert!(rt; names(alloc, bytes.as_slice(), root)?);
     Ok(())
 }

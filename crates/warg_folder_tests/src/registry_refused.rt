@@ -1,92 +1,120 @@
 //! A registry in a folder that refuses insertions, and has after it what it had, beside a map in memory.
 
+ghost use Rattle.warg_store.specs.Growing.{IsReady};
+
+use crate::registry_folder::{Insertion, NEXT, has_root, holds, reader_of, root_with, with_first};
 use std::alloc::Global;
 use std::test::Fail;
-use warg_crypto::{Hash, Sha256};
-use warg_map::Map;
 use warg_registry::{KeyInRegistry, PublishError, RegistryFolder, RegistryReader};
-use warg_store::{Folder, LogError, MemoryFolder};
-
-const FIRST: [(&[u8], &[u8]); 3] = [(b"a", b"one"), (b"b", b"two"), (b"a", b"three")];
-
-const NEXT: [(&[u8], &[u8]); 2] = [(b"c", b""), (b"b", b"five")];
+use warg_store::{Folder, FolderError, LogError, MemoryFolder};
 
 // A folder of the first insertions.
 fn first(alloc: Global) -> Result<MemoryFolder, Fail> {
-    let folder = MemoryFolder::new(alloc);
-    let mut registry = RegistryFolder::create(alloc, folder, b"example.com/registry")?;
-    registry.publish(&FIRST)?;
-    Ok(registry.into_folder())
-}
-
-// The root of the map of the first insertions, and of these behind them.
-fn root_with(alloc: Global, more: &[(&[u8], &[u8])]) -> Result<Hash<Sha256>, Fail> {
-    let map = Map::<Sha256, &[u8], &[u8]>::default(alloc);
-    let map = map.extend(FIRST.iter().chain(more.iter()).copied())?;
-    Ok(map.root().copied())
+    with_first(alloc, MemoryFolder::new(alloc))
 }
 
 // Whether a folder serves the first insertions.
-fn serves_first(alloc: Global, folder: MemoryFolder) -> Result<bool, Fail> {
-    let mut reader = RegistryReader::open(alloc, folder)?;
-    if *reader.root() != root_with(alloc, &[])? || reader.checkpoint().length() != 3 {
-        return Ok(false);
-    }
-    match reader.get(b"a")? {
-        KeyInRegistry::Held(index, value, _) => Ok(
-            index == 2 && value.as_slice() == b"three".as_slice(),
-        ),
-        KeyInRegistry::Absent(_) => Ok(false),
+fn serves_first<F: Folder + Drop>(alloc: Global, folder: F) -> Result<bool, Fail> {
+    let mut reader = reader_of(alloc, folder)?;
+    Ok(has_root(alloc, &reader, 3, &[])? && holds(&mut reader, b"a", 2, b"three")?)
+}
+
+// Whether a registry's map has the root of the first insertions and these behind them.
+fn is_map_of<F: Folder + Drop>(
+    alloc: Global,
+    registry: &RegistryFolder<F>,
+    more: &[Insertion],
+) -> Result<bool, Fail> {
+    Ok(*registry.root() == root_with(alloc, more)?)
+}
+
+// Whether a value is too long for a registry, and leaves it as it was.
+fn refuses_long<F: Folder + Drop>(
+    alloc: Global,
+    registry: &mut RegistryFolder<F>,
+    value: &[u8],
+) -> Result<bool, Fail>
+    requires { F.IsFaithful → IsReady F.seen F.may_leave registry.old.log }
+    ensures { F.IsFaithful → IsReady F.seen F.may_leave registry.new.log }
+{
+    match registry.publish(&[(b"c", b""), (b"b", value)]) {
+        Err(PublishError::TooLong) => is_map_of(alloc, registry, &[]),
+        _ => Ok(false),
     }
 }
 
-// Whether a value is too long, and all is as it was, and goes on.
-fn is_too_long(alloc: Global, value: &[u8]) -> Result<bool, Fail> {
-    let mut registry = RegistryFolder::open(alloc, first(alloc)?)?;
-    match registry.publish(&[(b"c", b""), (b"b", value)]) {
-        Err(PublishError::TooLong) => {}
-        _ => return Ok(false),
-    }
-    let is_same = *registry.root() == root_with(alloc, &[])?;
+// Whether it is so, and goes on.
+fn goes_on<F: Folder + Drop>(
+    alloc: Global,
+    registry: &mut RegistryFolder<F>,
+    value: &[u8],
+) -> Result<bool, Fail>
+    requires { F.IsFaithful → IsReady F.seen F.may_leave registry.old.log }
+{
+    let is_same = refuses_long(alloc, registry, value)?;
     registry.publish(&NEXT)?;
-    Ok(is_same && *registry.root() == root_with(alloc, &NEXT)?)
+    Ok(is_same && is_map_of(alloc, registry, &NEXT)?)
+}
+
+// Whether a value is too long for a folder's registry, and all is as it was, and goes on.
+fn is_too_long<F: Folder + Drop>(alloc: Global, folder: F, value: &[u8]) -> Result<bool, Fail> {
+    goes_on(alloc, &mut RegistryFolder::open(alloc, folder)?, value)
 }
 
 #[test]
 fn a_long_value_is_refused(rt: HostRuntime) -> Result<(), Fail> {
     let alloc = rt.alloc();
     let long = vec![in alloc; 0u8; 65_519]?;
-    assert!(rt; is_too_long(alloc, long.as_slice())?);
+    assert!(rt; is_too_long(alloc, first(alloc)?, long.as_slice())?);
     Ok(())
 }
 
-// Whether insertions are refused by a page's name where its file is gone, or has other bytes, and all is as it was.
-fn is_refused(alloc: Global, bytes: Option<&[u8]>) -> Result<bool, Fail> {
-    let mut folder = first(alloc)?;
+// Removes the first page's file, or gives it other bytes.
+fn spoil<F: Folder>(folder: &mut F, bytes: Option<&[u8]>) -> Result<(), FolderError> {
     match bytes {
-        Some(bytes) => folder.replace("map/3", bytes)?,
-        None => folder.remove("map/3")?,
+        Some(bytes) => folder.replace("map/3", bytes),
+        None => folder.remove("map/3"),
     }
+}
+
+// Whether an error names that page.
+fn names_page(ended: Result<(), PublishError>) -> bool {
+    match ended {
+        Err(PublishError::Log(LogError::Damaged(damage))) => damage.name.as_str() == "map/3",
+        _ => false,
+    }
+}
+
+// Whether insertions are refused by a page's name where its file is gone, or has other bytes, and all is as it was.
+fn is_refused<F: Folder + Drop>(
+    alloc: Global,
+    mut folder: F,
+    bytes: Option<&[u8]>,
+) -> Result<bool, Fail> {
+    spoil(&mut folder, bytes)?;
     let mut registry = RegistryFolder::open(alloc, folder)?;
-    match registry.publish(&NEXT) {
-        Err(PublishError::Log(LogError::Damaged(damage))) => {
-            let is_named = damage.name.as_str() == "map/3";
-            let is_root = *registry.root() == root_with(alloc, &[])?;
-            Ok(is_named && is_root)
-        }
-        _ => Ok(false),
-    }
+    let is_named = names_page(registry.publish(&NEXT));
+    Ok(is_named && is_map_of(alloc, &registry, &[])?)
 }
 
 #[test]
 fn a_page_that_is_missing_or_corrupt_is_named(rt: HostRuntime) -> Result<(), Fail> {
     let alloc = rt.alloc();
-    assert!(rt; is_refused(alloc, None)?);
-    assert!(rt; is_refused(alloc, Some(b""))?);
-    assert!(rt; is_refused(alloc, Some(b"no page"))?);
-    let folder = first(alloc)?;
-    assert!(rt; serves_first(alloc, folder)?);
+    assert!(rt; is_refused(alloc, first(alloc)?, None)?);
+    assert!(rt; is_refused(alloc, first(alloc)?, Some(b""))?);
+    assert!(rt; is_refused(alloc, first(alloc)?, Some(b"no page"))?);
+    assert!(rt; serves_first(alloc, first(alloc)?)?);
     Ok(())
+}
+
+// Whether a reader names the page of a key that is missing.
+fn is_missing<F: Folder + Drop>(reader: &mut RegistryReader<F>, key: &[u8]) -> bool {
+    match reader.get(key) {
+        Err(LogError::Damaged(damage)) => {
+            damage.name.as_str() == "map/3" && damage.fault == "is missing"
+        }
+        _ => false,
+    }
 }
 
 #[test]
@@ -94,15 +122,20 @@ fn a_reader_names_a_page_that_is_missing(rt: HostRuntime) -> Result<(), Fail> {
     let alloc = rt.alloc();
     let mut folder = first(alloc)?;
     folder.remove("map/3")?;
-    let mut reader = RegistryReader::open(alloc, folder)?;
-    match reader.get(b"a") {
-        Err(LogError::Damaged(damage)) => {
-            assert!(rt; damage.name.as_str() == "map/3");
-            assert!(rt; damage.fault == "is missing");
-        }
-        _ => return Err(Fail::from("a missing page")),
-    }
+    assert!(rt; is_missing(&mut reader_of(alloc, folder)?, b"a"));
     Ok(())
+}
+
+// Whether a key is held by a registry without the tile of its log, which shows that it isn't damaged otherwise.
+fn is_got_alone<F: Folder + Drop>(reader: &mut RegistryReader<F>) -> Result<bool, LogError> {
+    let is_held = matches!(reader.get(b"b")?, KeyInRegistry::Held(..));
+    Ok(is_held && matches!(reader.get_logged(b"b"), Err(LogError::Damaged(_))))
+}
+
+// Whether keys are got with the tiles of their log: one that is held, and one that isn't.
+fn are_logged<F: Folder + Drop>(reader: &mut RegistryReader<F>) -> Result<bool, LogError> {
+    let is_held = matches!(reader.get_logged(b"b")?, KeyInRegistry::Held(..));
+    Ok(is_held && matches!(reader.get_logged(b"d")?, KeyInRegistry::Absent(_)))
 }
 
 #[test]
@@ -110,11 +143,7 @@ fn a_key_is_got_without_tiles(rt: HostRuntime) -> Result<(), Fail> {
     let alloc = rt.alloc();
     let mut folder = first(alloc)?;
     folder.remove("tile/0/000.p/3")?;
-    let mut reader = RegistryReader::open(alloc, folder)?;
-    assert!(rt; matches!(reader.get(b"b")?, KeyInRegistry::Held(..)));
-    assert!(rt; matches!(reader.get_logged(b"b"), Err(LogError::Damaged(_))));
-    let mut reader = RegistryReader::open(alloc, first(alloc)?)?;
-    assert!(rt; matches!(reader.get_logged(b"b")?, KeyInRegistry::Held(..)));
-    assert!(rt; matches!(reader.get_logged(b"d")?, KeyInRegistry::Absent(_)));
+    assert!(rt; is_got_alone(&mut reader_of(alloc, folder)?)?);
+    assert!(rt; are_logged(&mut reader_of(alloc, first(alloc)?)?)?);
     Ok(())
 }

@@ -8,15 +8,19 @@ use warg_claims::{
     convict_key, convict_update,
 };
 use warg_crypto::weak::Flat;
-use warg_log::{LogBuilder, VecLog};
-use warg_map::Map;
+use warg_log::{Checkpoint, LogBuilder, VecLog};
+use warg_map::{Map, MapError};
 use warg_witness::Finding;
 
 // The bytes of a path of one digest.
 const PATH: [u8; 32] = [0; 32];
 
+type Text = &'static str;
+
+static ENTRIES: [Text; 2] = ["one", "two"];
+
 // A log of two entries.
-fn two(alloc: Global) -> Result<VecLog<Flat, &'static str>, Fail> {
+fn two(alloc: Global) -> Result<VecLog<Flat, Text>, Fail> {
     let mut log = VecLog::default(alloc);
     log.push(&"one")?;
     log.push(&"two")?;
@@ -27,148 +31,158 @@ fn is_collision(found: &Finding<Flat>) -> bool {
     matches!(found, Finding::Collision(_))
 }
 
+// What a path to the first of these entries shows of a value.
+fn found_by_path(alloc: Global, value: Text, entries: &[Text]) -> Result<Finding<Flat>, Fail> {
+    let checkpoint = two(alloc)?.checkpoint();
+    Ok(convict_entry_path(alloc, &PATH, 0, &value, &checkpoint, entries)?)
+}
+
 #[test]
 fn an_entry_by_a_path(rt: HostRuntime) -> Result<(), Fail> {
-    let checkpoint = two(rt.alloc())?.checkpoint();
-    let entries = ["one", "two"];
-    let found = convict_entry_path(rt.alloc(), &PATH, 0, &"lie", &checkpoint, &entries)?;
-    assert!(rt; is_collision(&found));
-    let found = convict_entry_path(rt.alloc(), &PATH, 0, &"one", &checkpoint, &entries)?;
-    assert!(rt; found == Finding::Holds);
-    let found = convict_entry_path(rt.alloc(), &PATH, 0, &"lie", &checkpoint, &["one"])?;
-    assert!(rt; found == Finding::NotMet);
+    let alloc = rt.alloc();
+    assert!(rt; is_collision(&found_by_path(alloc, "lie", &ENTRIES)?));
+    assert!(rt; found_by_path(alloc, "one", &ENTRIES)? == Finding::Holds);
+    assert!(rt; found_by_path(alloc, "lie", &ENTRIES[..1])? == Finding::NotMet);
     Ok(())
+}
+
+// The checkpoint of the log of a lie.
+fn old(alloc: Global) -> Result<Checkpoint<Flat>, Fail> {
+    let mut log: VecLog<Flat, Text> = VecLog::default(alloc);
+    log.push(&"lie")?;
+    Ok(log.checkpoint())
+}
+
+// What a proof of growth to two entries shows of an old one.
+fn found_by_growth(alloc: Global, entry: Text) -> Result<Finding<Flat>, Fail> {
+    let log = two(alloc)?;
+    let bytes = growth_bytes(alloc, &log, 1, 2)?;
+    let (old, new) = (old(alloc)?, log.checkpoint());
+    Ok(convict_growth(alloc, bytes.as_slice(), 0, &old, &new, &[entry], &ENTRIES)?)
+}
+
+// What a path does.
+fn found_by_growth_path(alloc: Global, entry: Text) -> Result<Finding<Flat>, Fail> {
+    let (old, new) = (old(alloc)?, two(alloc)?.checkpoint());
+    Ok(convict_growth_path(alloc, &PATH, &old, &new, &[entry], &ENTRIES)?)
 }
 
 #[test]
 fn a_log_s_growth(rt: HostRuntime) -> Result<(), Fail> {
-    let new_log = two(rt.alloc())?;
-    let mut old_log: VecLog<Flat, &str> = VecLog::default(rt.alloc());
-    old_log.push(&"lie")?;
-    let (old, new) = (old_log.checkpoint(), new_log.checkpoint());
-    let bytes = growth_bytes(rt.alloc(), &new_log, 1, 2)?;
-    let entries = ["one", "two"];
-    let found = convict_growth(
-        rt.alloc(),
-        bytes.as_slice(),
-        0,
-        &old,
-        &new,
-        &["lie"],
-        &entries,
-    )?;
-    assert!(rt; is_collision(&found));
-    let found = convict_growth(
-        rt.alloc(),
-        bytes.as_slice(),
-        0,
-        &old,
-        &new,
-        &["one"],
-        &entries,
-    )?;
-    assert!(rt; found == Finding::Holds);
-    let found = convict_growth_path(rt.alloc(), &PATH, &old, &new, &["lie"], &entries)?;
-    assert!(rt; is_collision(&found));
-    let found = convict_growth_path(rt.alloc(), &PATH, &old, &new, &["one"], &entries)?;
-    assert!(rt; found == Finding::Holds);
+    let alloc = rt.alloc();
+    assert!(rt; is_collision(&found_by_growth(alloc, "lie")?));
+    assert!(rt; found_by_growth(alloc, "one")? == Finding::Holds);
+    assert!(rt; is_collision(&found_by_growth_path(alloc, "lie")?));
+    assert!(rt; found_by_growth_path(alloc, "one")? == Finding::Holds);
     Ok(())
+}
+
+type Packages = Map<Flat, Text, Text>;
+
+type Release = (Text, Text);
+
+static RELEASES: [Release; 1] = [("left-pad", "1.0.0")];
+
+// A map of one release.
+fn packages(alloc: Global) -> Result<Packages, MapError> {
+    Map::default(alloc).insert("left-pad", "1.0.0")
+}
+
+// What its proof of the key shows of a value.
+fn found_by_key(alloc: Global, value: Text) -> Result<Finding<Flat>, Fail> {
+    let packages = packages(alloc)?;
+    let bytes = key_bytes(alloc, &packages, &"left-pad")?;
+    let root = packages.root();
+    Ok(convict_key(
+        alloc,
+        bytes.as_slice(),
+        0,
+        &"left-pad",
+        &value,
+        root,
+        &RELEASES,
+    )?)
+}
+
+// What the proof that an empty map hasn't the key shows of the map.
+fn found_by_absence(alloc: Global) -> Result<Finding<Flat>, Fail> {
+    let empty: Packages = Map::default(alloc);
+    let bytes = key_bytes(alloc, &empty, &"left-pad")?;
+    let packages = packages(alloc)?;
+    Ok(convict_absent(
+        alloc,
+        bytes.as_slice(),
+        0,
+        &"left-pad",
+        packages.root(),
+        &RELEASES,
+    )?)
 }
 
 #[test]
 fn a_key_of_a_map(rt: HostRuntime) -> Result<(), Fail> {
-    let empty: Map<Flat, &str, &str> = Map::default(rt.alloc());
-    let nothing = key_bytes(rt.alloc(), &empty, &"left-pad")?;
-    let packages = empty.insert("left-pad", "1.0.0")?;
-    let something = key_bytes(rt.alloc(), &packages, &"left-pad")?;
-    let insertions = [("left-pad", "1.0.0")];
-    let root = packages.root();
-    let found = convict_key(
-        rt.alloc(),
-        something.as_slice(),
-        0,
-        &"left-pad",
-        &"2.0.0",
-        root,
-        &insertions,
-    )?;
-    assert!(rt; is_collision(&found));
-    let found = convict_key(
-        rt.alloc(),
-        something.as_slice(),
-        0,
-        &"left-pad",
-        &"1.0.0",
-        root,
-        &insertions,
-    )?;
-    assert!(rt; found == Finding::Holds);
-    let found = convict_absent(
-        rt.alloc(),
-        nothing.as_slice(),
-        0,
-        &"left-pad",
-        root,
-        &insertions,
-    )?;
-    assert!(rt; is_collision(&found));
+    let alloc = rt.alloc();
+    assert!(rt; is_collision(&found_by_key(alloc, "2.0.0")?));
+    assert!(rt; found_by_key(alloc, "1.0.0")? == Finding::Holds);
+    assert!(rt; is_collision(&found_by_absence(alloc)?));
     Ok(())
 }
 
+// What the map's proof of the key shows of an update to these releases.
+fn found_by_update(
+    alloc: Global,
+    packages: &Packages,
+    old_value: Text,
+    new: &[Release],
+) -> Result<Finding<Flat>, Fail> {
+    let bytes = key_bytes(alloc, packages, &"left-pad")?;
+    let (bytes, root, key) = (bytes.as_slice(), packages.root(), "left-pad");
+    let old = &RELEASES;
+    Ok(convict_update(
+        alloc, bytes, 0, &key, &old_value, &"1.1.0", root, root, old, new,
+    )?)
+}
+
+// The old value, the insertions of the new map, and whether the update is a lie.
+static UPDATES: [(Text, &[Release], bool); 3] = [
+    (
+        "1.0.0",
+        &[("left-pad", "1.0.0"), ("left-pad", "1.1.0")],
+        false,
+    ),
+    (
+        "0.9.0",
+        &[("left-pad", "1.0.0"), ("left-pad", "1.1.0")],
+        true,
+    ),
+    ("1.0.0", &[("left-pad", "1.0.0")], true),
+];
+
 #[test]
 fn an_update_of_a_map(rt: HostRuntime) -> Result<(), Fail> {
-    let empty: Map<Flat, &str, &str> = Map::default(rt.alloc());
-    let packages = empty.insert("left-pad", "1.0.0")?;
-    let something = key_bytes(rt.alloc(), &packages, &"left-pad")?;
-    let root = packages.root();
-    let old = [("left-pad", "1.0.0")];
-    let new = [("left-pad", "1.0.0"), ("left-pad", "1.1.0")];
-    // The old value, the insertions of the new map, and what is to be found.
-    let cases = [
-        ("1.0.0", new.as_slice(), false),
-        ("0.9.0", new.as_slice(), true),
-        ("1.0.0", old.as_slice(), true),
-    ];
-    for (old_value, given, is_lie) in cases {
-        let found = convict_update(
-            rt.alloc(),
-            something.as_slice(),
-            0,
-            &"left-pad",
-            &old_value,
-            &"1.1.0",
-            root,
-            root,
-            &old,
-            given,
-        )?;
-        assert!(rt; is_collision(&found) == is_lie);
-        assert!(rt; (found == Finding::Holds) != is_lie);
+    let packages = packages(rt.alloc())?;
+    for (old_value, new, is_lie) in &UPDATES {
+        let found = found_by_update(rt.alloc(), &packages, old_value, new)?;
+        assert!(rt; is_collision(&found) == *is_lie);
+        assert!(rt; (found == Finding::Holds) != *is_lie);
     }
     Ok(())
+}
+
+// What the proof that an empty map hasn't the key shows of an insertion of a value into it.
+fn found_by_insertion(alloc: Global, value: Text) -> Result<Finding<Flat>, Fail> {
+    let empty: Packages = Map::default(alloc);
+    let bytes = key_bytes(alloc, &empty, &"left-pad")?;
+    let (bytes, root) = (bytes.as_slice(), empty.root());
+    let (key, old) = ("left-pad", &RELEASES[..0]);
+    Ok(convict_insertion(alloc, bytes, 0, &key, &value, root, root, old, &RELEASES)?)
 }
 
 #[test]
 fn an_insertion_into_a_map(rt: HostRuntime) -> Result<(), Fail> {
-    let empty: Map<Flat, &str, &str> = Map::default(rt.alloc());
-    let nothing = key_bytes(rt.alloc(), &empty, &"left-pad")?;
-    let root = empty.root();
-    let old: [(&str, &str); 0] = [];
-    let new = [("left-pad", "1.0.0")];
-    for (value, is_lie) in [("1.0.0", false), ("2.0.0", true)] {
-        let found = convict_insertion(
-            rt.alloc(),
-            nothing.as_slice(),
-            0,
-            &"left-pad",
-            &value,
-            root,
-            root,
-            &old,
-            &new,
-        )?;
-        assert!(rt; is_collision(&found) == is_lie);
-        assert!(rt; (found == Finding::Holds) != is_lie);
-    }
+    let found = found_by_insertion(rt.alloc(), "1.0.0")?;
+    assert!(rt; !is_collision(&found) && found == Finding::Holds);
+    let found = found_by_insertion(rt.alloc(), "2.0.0")?;
+    assert!(rt; is_collision(&found) && found != Finding::Holds);
     Ok(())
 }

@@ -55,39 +55,55 @@ fn equal_maps(rt: HostRuntime) -> Result<(), Fail> {
 
 #[test]
 fn equal_maps_in_any_order(rt: HostRuntime) -> Result<(), Fail> {
-    let pairs = [("foo", "bar"), ("baz", "bat")];
-    let up = grown(rt.alloc(), &pairs)?;
-    let down = TextMap::default(rt.alloc()).extend(pairs.into_iter().rev())?;
+    let up = grown(rt.alloc(), &PAIRS)?;
+    let down = TextMap::default(rt.alloc()).extend(PAIRS.iter().rev().copied())?;
     assert!(rt; all(&[up == down, hashed(&up) == hashed(&down), down.len() == 2]));
     Ok(())
 }
 
+static OTHERS: [&[(Text, Text)]; 3] = [&[], &[("foo", "baz")], &[("foo", "bar"), ("baz", "bat")]];
+
 #[test]
 fn other_maps(rt: HostRuntime) -> Result<(), Fail> {
     let map = grown(rt.alloc(), &[("foo", "bar")])?;
-    let others: [&[(Text, Text)]; 3] = [&[], &[("foo", "baz")], &[("foo", "bar"), ("baz", "bat")]];
-    for pairs in others {
+    for pairs in &OTHERS {
         assert!(rt; grown(rt.alloc(), pairs)? != map);
     }
     Ok(())
 }
 
+// The map of these pairs under sums.
+fn sums(alloc: Global, pairs: &[(&'static [u8], &'static [u8])]) -> Result<SumMap, MapError> {
+    let mut map = SumMap::default(alloc);
+    for (key, value) in pairs {
+        map = map.insert(*key, *value)?;
+    }
+    Ok(map)
+}
+
 // Maps of other counts are equal where their roots are.
 #[test]
 fn equal_roots_of_weak_digests(rt: HostRuntime) -> Result<(), Fail> {
-    let nothing = SumMap::default(rt.alloc());
-    let lone = nothing.insert(&[3], &[9])?;
-    let two = nothing.insert(&[1, 2], &[8])?.insert(&[4], &[1])?;
+    let lone = sums(rt.alloc(), &[(&[3], &[9])])?;
+    let two = sums(rt.alloc(), &[(&[1, 2], &[8]), (&[4], &[1])])?;
     assert!(rt; all(&[lone == two, lone.len() == 1, two.len() == 2]));
     Ok(())
 }
 
 type TextProof = Proof<Sha256, Text, Text>;
 
-type LentProof<'a> = Proof<Sha256, Text, Text, &'a Refusing<Global>>;
+type LentProof<A> = Proof<Sha256, Text, Text, A>;
 
 fn proven(alloc: Global, pairs: &[(Text, Text)], key: Text) -> Result<TextProof, Fail> {
     Ok(grown(alloc, pairs)?.prove(key)?.ok_or("held")?)
+}
+
+// Lists of no proofs.
+type Lists<A> = (Vec<LentProof<A>, A>, Vec<LentProof<A>, A>);
+
+// Two lists of no proofs that were a bundle's.
+fn unbundled<A: Allocator + Copy>(held: A, absent: A) -> Lists<A> {
+    MapProofBundle::bundle_with(Vec::new(held), Vec::new(absent)).unbundle_all()
 }
 
 // A bundle's lists stay in the allocators that they lie in, and bundling does not allocate.
@@ -95,9 +111,7 @@ fn proven(alloc: Global, pairs: &[(Text, Text)], key: Text) -> Result<TextProof,
 fn lists_of_a_bundle_stay_where_they_lie(rt: HostRuntime) -> Result<(), Fail> {
     let held = Refusing::after(rt.alloc(), 1);
     let absent = Refusing::after(rt.alloc(), 1);
-    let proofs: Vec<LentProof<'_>, &Refusing<Global>> = Vec::new(&held);
-    let absences: Vec<LentProof<'_>, &Refusing<Global>> = Vec::new(&absent);
-    let (mut proofs, mut absences) = MapProofBundle::bundle_with(proofs, absences).unbundle_all();
+    let (mut proofs, mut absences) = unbundled(&held, &absent);
     assert!(rt; all(&[held.left() == 1, absent.left() == 1]));
     proofs.reserve(1)?;
     assert!(rt; all(&[held.left() == 0, absent.left() == 1]));
@@ -112,17 +126,28 @@ fn lists_of_a_bundle_stay_where_they_lie(rt: HostRuntime) -> Result<(), Fail> {
     Ok(())
 }
 
-const PAIRS: [(Text, Text); 2] = [("foo", "bar"), ("baz", "bat")];
+static PAIRS: [(Text, Text); 2] = [("foo", "bar"), ("baz", "bat")];
 
-const BACK: [(Text, Text); 2] = [("baz", "bat"), ("foo", "bar")];
+static BACK: [(Text, Text); 2] = [("baz", "bat"), ("foo", "bar")];
+
+// Whether a proof is that of a key in the map of these pairs.
+fn is_proof(
+    alloc: Global,
+    proof: &TextProof,
+    pairs: &[(Text, Text)],
+    key: Text,
+) -> Result<bool, Fail> {
+    Ok(*proof == proven(alloc, pairs, key)?)
+}
 
 // Proofs are equal exactly if their peers are.
 #[test]
 fn equal_proofs(rt: HostRuntime) -> Result<(), Fail> {
-    let proof = proven(rt.alloc(), &PAIRS, "foo")?;
-    assert!(rt; proof == proven(rt.alloc(), &BACK, "foo")?);
-    assert!(rt; proof != proven(rt.alloc(), &PAIRS, "baz")?);
-    assert!(rt; proof != proven(rt.alloc(), &[("foo", "bar")], "foo")?);
+    let alloc = rt.alloc();
+    let proof = proven(alloc, &PAIRS, "foo")?;
+    assert!(rt; is_proof(alloc, &proof, &BACK, "foo")?);
+    assert!(rt; !is_proof(alloc, &proof, &PAIRS, "baz")?);
+    assert!(rt; !is_proof(alloc, &proof, &[("foo", "bar")], "foo")?);
     Ok(())
 }
 
@@ -166,7 +191,7 @@ fn keys_proved_held_or_absent(rt: HostRuntime) -> Result<(), Fail> {
     Ok(())
 }
 
-const THREE: [(Text, Text); 3] = [("foo", "bar"), ("baz", "bat"), ("nil", "")];
+static THREE: [(Text, Text); 3] = [("foo", "bar"), ("baz", "bat"), ("nil", "")];
 
 // Whether the bytes of a key's proof pass the verdict on the key.
 fn passes(alloc: Global, map: &TextMap, key: Text, value: Text) -> Result<bool, Fail> {
@@ -184,7 +209,7 @@ fn passes_as_absent(alloc: Global, map: &TextMap, key: Text) -> Result<bool, Fai
 #[test]
 fn proofs_of_keys_as_bytes(rt: HostRuntime) -> Result<(), Fail> {
     let map = grown(rt.alloc(), &THREE)?;
-    for (key, value) in THREE {
+    for (key, value) in &THREE {
         assert!(rt; passes(rt.alloc(), &map, key, value)?);
     }
     assert!(rt; passes_as_absent(rt.alloc(), &map, "bar")?);
@@ -245,12 +270,12 @@ fn values_of_a_proof(rt: HostRuntime) -> Result<(), Fail> {
 
 type Scarce<'a> = TextMap<&'a Refusing<Global>>;
 
-fn foo(memory: &Refusing<Global>) -> Result<Scarce<'_>, MapError> {
-    Scarce::default(memory).insert("foo", "bar")
+fn foo<A: Allocator + Copy>(alloc: A) -> Result<TextMap<A>, MapError> {
+    TextMap::default(alloc).insert("foo", "bar")
 }
 
 // Whether a clone of a map of "foo" is the same.
-fn is_its_clone(map: &Scarce<'_>) -> Result<bool, Fail> {
+fn is_its_clone<A: Allocator + Copy>(map: &TextMap<A>) -> Result<bool, Fail> {
     let same = map.clone()?;
     Ok(all(&[
         same == *map,
@@ -263,7 +288,11 @@ fn is_its_clone(map: &Scarce<'_>) -> Result<bool, Fail> {
 }
 
 // Whether the proofs of "foo" and of an absent key lead to the map's root.
-fn lead_to_root(map: &Scarce<'_>, proof: &LentProof<'_>, absence: &LentProof<'_>) -> bool {
+fn lead_to_root<A: Allocator + Copy>(
+    map: &TextMap<A>,
+    proof: &LentProof<A>,
+    absence: &LentProof<A>,
+) -> bool {
     all(&[
         proof.peers().len() == 1,
         proof.evaluate(&"foo", &"bar") == *map.root(),
@@ -290,7 +319,7 @@ fn calls_without_memory(rt: HostRuntime) -> Result<(), Fail> {
     Ok(())
 }
 
-const MORE: [(Text, Text); 3] = [("baz", "bat"), ("bar", "x"), ("foo", "qux")];
+static MORE: [(Text, Text); 3] = [("baz", "bat"), ("bar", "x"), ("foo", "qux")];
 
 // The pairs from a place on. When they are dropped, they say at which place.
 struct Pairs<'a> {
@@ -324,7 +353,7 @@ impl Iterator for Pairs<'_> {
 }
 
 // Whether a map of "foo" proves what it holds.
-fn proves_foo(map: &Scarce<'_>) -> Result<bool, Fail> {
+fn proves_foo<A: Allocator + Copy>(map: &TextMap<A>) -> Result<bool, Fail> {
     let proof = map.prove("foo")?.ok_or("held")?;
     let leads = proof.evaluate(&"foo", &"bar") == *map.root();
     Ok(all(&[leads, map.len() == 1, map.node_count() == 2]))

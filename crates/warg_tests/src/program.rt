@@ -1,7 +1,7 @@
 //! The program over readers and writers that fail or take little.
 
+use std::alloc::Global;
 use std::io::{Error, ErrorKind, Read, Result as IoResult, Write};
-use std::test::Fail;
 use warg_program::{RunError, run};
 
 // Gives one byte at a read, and an error at the read of this number, from 1.
@@ -57,56 +57,67 @@ impl Write for Taker {
     }
 }
 
-#[test]
-fn a_reader_that_fails(rt: HostRuntime) -> Result<(), Fail> {
-    for (fails_at, kind, want) in [
-        (1, ErrorKind::Other, Err(RunError::Read)),
-        (2, ErrorKind::Other, Err(RunError::Read)),
-        (2, ErrorKind::Interrupted, Err(RunError::Read)),
-        (8, ErrorKind::Other, Err(RunError::Read)),
-        (9, ErrorKind::Other, Ok(true)),
-    ] {
-        let mut reader = Bytewise {
-            rest: b"push -\n",
-            fails_at,
-            kind,
-        };
-        let mut writer = Vec::new(rt.alloc());
-        let ended = run(rt.alloc(), &mut reader, &mut writer);
-        let text: &[u8] = if ended.is_ok() { b"node 0\n" } else { b"" };
-        assert_eq!(rt; writer.as_slice(), text);
-        assert_eq!(rt; ended, want);
-    }
-    Ok(())
+// Whether a run over a reader that fails so ends so, with the whole text or none of it.
+fn is_read(alloc: Global, fails_at: u64, kind: ErrorKind, want: &Result<bool, RunError>) -> bool {
+    let mut reader = Bytewise {
+        rest: b"push -\n",
+        fails_at,
+        kind,
+    };
+    let mut writer = Vec::new(alloc);
+    let ended = run(alloc, &mut reader, &mut writer);
+    let text: &[u8] = if ended.is_ok() { b"node 0\n" } else { b"" };
+    writer.as_slice() == text && ended == *want
 }
 
+static READS: [(u64, ErrorKind, Result<bool, RunError>); 5] = [
+    (1, ErrorKind::Other, Err(RunError::Read)),
+    (2, ErrorKind::Other, Err(RunError::Read)),
+    (2, ErrorKind::Interrupted, Err(RunError::Read)),
+    (8, ErrorKind::Other, Err(RunError::Read)),
+    (9, ErrorKind::Other, Ok(true)),
+];
+
 #[test]
-fn a_writer_that_fails_or_takes_little(rt: HostRuntime) -> Result<(), Fail> {
-    for (at_once, fails_at, flush_fails, text, want) in [
-        (100, 100, false, "node 0\n", Ok(true)),
-        (1, 100, false, "node 0\n", Ok(true)),
-        (3, 100, false, "node 0\n", Ok(true)),
-        (0, 100, false, "", Err(RunError::Write)),
-        (3, 1, false, "", Err(RunError::Write)),
-        (3, 3, false, "node 0", Err(RunError::Write)),
-        (3, 100, true, "node 0\n", Err(RunError::Write)),
-    ] {
-        let mut writer = Taker {
+fn a_reader_that_fails(rt: HostRuntime) {
+    for (fails_at, kind, want) in &READS {
+        assert!(rt; is_read(rt.alloc(), *fails_at, *kind, want), "{fails_at}");
+    }
+}
+
+// Whether a run over a writer ends so, with this text written.
+fn is_written(mut writer: Taker, text: &str, want: &Result<bool, RunError>) -> bool {
+    let mut reader: &[u8] = b"push -\n";
+    let ended = run(*writer.taken.allocator(), &mut reader, &mut writer);
+    writer.taken.as_slice() == text.as_bytes() && ended == *want
+}
+
+// How many bytes a writer takes at once, when it fails, what is written then, and how the run ends.
+static WRITES: [(usize, u64, bool, &str, Result<bool, RunError>); 7] = [
+    (100, 100, false, "node 0\n", Ok(true)),
+    (1, 100, false, "node 0\n", Ok(true)),
+    (3, 100, false, "node 0\n", Ok(true)),
+    (0, 100, false, "", Err(RunError::Write)),
+    (3, 1, false, "", Err(RunError::Write)),
+    (3, 3, false, "node 0", Err(RunError::Write)),
+    (3, 100, true, "node 0\n", Err(RunError::Write)),
+];
+
+#[test]
+fn a_writer_that_fails_or_takes_little(rt: HostRuntime) {
+    for (at_once, fails_at, flush_fails, text, want) in &WRITES {
+        let writer = Taker {
             taken: Vec::new(rt.alloc()),
-            at_once,
-            fails_at,
-            flush_fails,
+            at_once: *at_once,
+            fails_at: *fails_at,
+            flush_fails: *flush_fails,
         };
-        let mut reader: &[u8] = b"push -\n";
-        let ended = run(rt.alloc(), &mut reader, &mut writer);
-        assert_eq!(rt; writer.taken.as_slice(), text.as_bytes());
-        assert_eq!(rt; ended, want);
+        assert!(rt; is_written(writer, text, want), "{text}");
     }
-    Ok(())
 }
 
 #[test]
-fn an_empty_text_is_only_flushed(rt: HostRuntime) -> Result<(), Fail> {
+fn an_empty_text_is_only_flushed(rt: HostRuntime) {
     let mut writer = Taker {
         taken: Vec::new(rt.alloc()),
         at_once: 0,
@@ -114,6 +125,5 @@ fn an_empty_text_is_only_flushed(rt: HostRuntime) -> Result<(), Fail> {
         flush_fails: false,
     };
     let mut reader: &[u8] = b"\n\n";
-    assert_eq!(rt; run(rt.alloc(), &mut reader, &mut writer), Ok(true));
-    Ok(())
+    assert!(rt; run(rt.alloc(), &mut reader, &mut writer) == Ok(true));
 }

@@ -1,12 +1,14 @@
 //! The callers of `warg_uses`, at concrete types.
 
+use std::alloc::Global;
 use std::test::Fail;
 use warg_bundle::inclusion_bytes;
 use warg_crypto::weak::Flat;
 use warg_log::{LogBuilder, LogData, Node, VecLog};
 use warg_map::Map;
-use warg_store::{LogError, LogFolder, MemoryFolder};
+use warg_store::{Folder, LogError, LogFolder, MemoryFolder};
 use warg_uses::{claims, crypto, map, store, witness};
+use warg_witness::Collision;
 
 #[test]
 fn a_release_s_digest(rt: HostRuntime) -> Result<(), Fail> {
@@ -32,59 +34,73 @@ fn a_package_that_is_absent(rt: HostRuntime) -> Result<(), Fail> {
     Ok(())
 }
 
-#[test]
-fn an_auditor_finds_a_collision(rt: HostRuntime) -> Result<(), Fail> {
-    let mut log: VecLog<Flat, &str> = VecLog::default(rt.alloc());
+// A log of two entries.
+fn two(alloc: Global) -> Result<VecLog<Flat, &'static str>, Fail> {
+    let mut log = VecLog::default(alloc);
     log.push(&"one")?;
     log.push(&"two")?;
+    Ok(log)
+}
+
+// Whether the byte strings of the first entry's collision with a lie were found.
+fn is_lie(found: &Option<Collision<Flat>>) -> bool {
+    match found {
+        Some(pair) => {
+            pair.first() == b"\0lie".as_slice() && pair.second() == b"\0one".as_slice()
+        }
+        None => false,
+    }
+}
+
+#[test]
+fn an_auditor_finds_a_collision(rt: HostRuntime) -> Result<(), Fail> {
+    let log = two(rt.alloc())?;
     let proof = log.prove_inclusion(Node(0), 2);
     let found = witness::audit(rt.alloc(), &proof, &log, &"lie", &["one", "two"])?;
-    let pair = found.ok_or("no collision")?;
-    assert!(rt; pair.first() == b"\0lie".as_slice() && pair.second() == b"\0one".as_slice());
+    assert!(rt; is_lie(&found));
     Ok(())
+}
+
+// The lie that a value is, out of a bundle's proof of the first entry.
+fn lie_of(alloc: Global, value: &'static str) -> Result<Option<Collision<Flat>>, Fail> {
+    let log = two(alloc)?;
+    let bytes = inclusion_bytes(alloc, &log, 0, 2)?;
+    let checkpoint = log.checkpoint();
+    let entries = ["one", "two"];
+    Ok(claims::lie_of(alloc, bytes.as_slice(), 0, &value, &checkpoint, &entries)?)
 }
 
 #[test]
 fn a_lie_of_a_log(rt: HostRuntime) -> Result<(), Fail> {
-    let mut log: VecLog<Flat, &str> = VecLog::default(rt.alloc());
-    log.push(&"one")?;
-    log.push(&"two")?;
-    let bytes = inclusion_bytes(rt.alloc(), &log, 0, 2)?;
-    let checkpoint = log.checkpoint();
-    let entries = ["one", "two"];
-    let none = claims::lie_of(
-        rt.alloc(),
-        bytes.as_slice(),
-        0,
-        &"one",
-        &checkpoint,
-        &entries,
-    )?;
-    assert!(rt; none.is_none());
-    let found = claims::lie_of(
-        rt.alloc(),
-        bytes.as_slice(),
-        0,
-        &"lie",
-        &checkpoint,
-        &entries,
-    )?;
-    let pair = found.ok_or("no collision")?;
-    assert!(rt; pair.first() == b"\0lie".as_slice() && pair.second() == b"\0one".as_slice());
+    assert!(rt; lie_of(rt.alloc(), "one")?.is_none());
+    assert!(rt; is_lie(&lie_of(rt.alloc(), "lie")?));
     Ok(())
+}
+
+// The log of a folder, which was empty, after two releases.
+fn released<F: Folder + Drop>(alloc: Global, folder: F) -> Result<LogFolder<F>, Fail> {
+    let log = LogFolder::create(alloc, folder, b"example.com/log")?;
+    let log = store::released(alloc, log.into_folder(), b"one")?;
+    Ok(store::released(alloc, log.into_folder(), b"two")?)
+}
+
+// Whether a folder serves the second release.
+fn serves_second<F: Folder + Drop>(alloc: Global, folder: F) -> Result<bool, LogError> {
+    let release = store::served_release(alloc, folder, 1)?;
+    Ok(release.as_slice() == b"two".as_slice())
+}
+
+// Whether a folder has no log to read.
+fn has_no_log<F: Folder + Drop>(alloc: Global, folder: F) -> bool {
+    store::served_release(alloc, folder, 0) == Err(LogError::NoLog)
 }
 
 #[test]
 fn a_release_out_of_a_folder(rt: HostRuntime) -> Result<(), Fail> {
     let alloc = rt.alloc();
-    let log = LogFolder::create(alloc, MemoryFolder::new(alloc), b"example.com/log")?;
-    let log = store::released(alloc, log.into_folder(), b"one")?;
-    let log = store::released(alloc, log.into_folder(), b"two")?;
-    let checkpoint = log.checkpoint();
-    assert_eq!(rt; checkpoint.length(), 2);
-    let release = store::served_release(alloc, log.into_folder(), 1)?;
-    assert_eq!(rt; release.as_slice(), b"two".as_slice());
-    let none = store::served_release(alloc, MemoryFolder::new(alloc), 0);
-    assert!(rt; none == Err(LogError::NoLog));
+    let log = released(alloc, MemoryFolder::new(alloc))?;
+    assert_eq!(rt; log.checkpoint().length(), 2);
+    assert!(rt; serves_second(alloc, log.into_folder())?);
+    assert!(rt; has_no_log(alloc, MemoryFolder::new(alloc)));
     Ok(())
 }

@@ -19,9 +19,11 @@ fn shows<D: SupportedDigest, A: Allocator>(
     }
 }
 
-type Pieces = VecLog<Flat, (&'static str, &'static str)>;
+type Pair = (&'static str, &'static str);
 
-const ENTRIES: [(&str, &str); 1] = [("ab", "cd")];
+type Pieces = VecLog<Flat, Pair>;
+
+static ENTRIES: [Pair; 1] = [("ab", "cd")];
 
 fn in_pieces(alloc: Global) -> Result<Pieces, Fail> {
     let mut log = VecLog::default(alloc);
@@ -29,36 +31,32 @@ fn in_pieces(alloc: Global) -> Result<Pieces, Fail> {
     Ok(log)
 }
 
+static SAME: [Pair; 4] = [("ab", "cd"), ("", "abcd"), ("abcd", ""), ("abc", "d")];
+
 // Values are compared by their bytes, in whichever pieces these come: under a digest that is always the same
 // every claim is met, and only the same bytes make it true.
 #[test]
 fn the_same_value_in_other_pieces(rt: HostRuntime) -> Result<(), Fail> {
-    let log = in_pieces(rt.alloc())?;
-    let proof = log.prove_inclusion(Node(0), 1);
-    for same in [("ab", "cd"), ("", "abcd"), ("abcd", ""), ("abc", "d")] {
-        let finding = witness_value(rt.alloc(), &proof, &log, &same, &ENTRIES)?;
-        assert!(rt; matches!(finding, Finding::Holds));
+    for value in &SAME {
+        assert!(rt; found(rt.alloc(), *value)? == Finding::Holds);
     }
     Ok(())
 }
+
+static OTHERS: [(Pair, &[u8]); 4] = [
+    (("ab", "c"), b"\0abc"),
+    (("abc", "de"), b"\0abcde"),
+    (("a", "bce"), b"\0abce"),
+    (("", ""), b"\0"),
+];
 
 #[test]
 fn other_values_in_pieces(rt: HostRuntime) -> Result<(), Fail> {
-    let log = in_pieces(rt.alloc())?;
-    let proof = log.prove_inclusion(Node(0), 1);
-    for (value, bytes) in [
-        (("ab", "c"), b"\0abc".as_slice()),
-        (("abc", "de"), b"\0abcde".as_slice()),
-        (("a", "bce"), b"\0abce".as_slice()),
-        (("", ""), b"\0".as_slice()),
-    ] {
-        let finding = witness_value(rt.alloc(), &proof, &log, &value, &ENTRIES)?;
-        assert!(rt; shows(&finding, bytes, b"\0abcd"));
+    for (value, bytes) in &OTHERS {
+        assert!(rt; shows(&found(rt.alloc(), *value)?, bytes, b"\0abcd"));
     }
     Ok(())
 }
-
-type Pair = (&'static str, &'static str);
 
 fn found(alloc: Global, value: Pair) -> Result<Finding<Flat>, Fail> {
     let log = in_pieces(alloc)?;
@@ -66,41 +64,66 @@ fn found(alloc: Global, value: Pair) -> Result<Finding<Flat>, Fail> {
     Ok(witness_value(alloc, &proof, &log, &value, &ENTRIES)?)
 }
 
+// Whether a finding is that of a value.
+fn is_found(alloc: Global, finding: &Finding<Flat>, value: Pair) -> Result<bool, Fail> {
+    Ok(*finding == found(alloc, value)?)
+}
+
 // Findings are equal exactly if they are of one kind, with the same byte strings.
 #[test]
 fn equal_findings(rt: HostRuntime) -> Result<(), Fail> {
-    let collision = found(rt.alloc(), ("ab", "c"))?;
-    assert!(rt; collision == found(rt.alloc(), ("a", "bc"))?);
-    assert!(rt; collision != found(rt.alloc(), ("ab", "d"))?);
-    assert!(rt; collision != found(rt.alloc(), ("ab", "cd"))?);
-    assert!(rt; found(rt.alloc(), ("ab", "cd"))? == found(rt.alloc(), ("abcd", ""))?);
+    let alloc = rt.alloc();
+    let collision = found(alloc, ("ab", "c"))?;
+    assert!(rt; is_found(alloc, &collision, ("a", "bc"))?);
+    assert!(rt; !is_found(alloc, &collision, ("ab", "d"))?);
+    assert!(rt; !is_found(alloc, &collision, ("ab", "cd"))?);
+    assert!(rt; is_found(alloc, &found(alloc, ("ab", "cd"))?, ("abcd", ""))?);
     Ok(())
 }
 
 // The entries of an honest log, in which some are the same.
-const TEXTS: [&str; 25] = [
+static TEXTS: [&str; 25] = [
     "93", "67", "30", "37", "23", "75", "57", "89", "76", "42", "9", "14", "40", "59", "26", "66",
     "77", "38", "47", "34", "8", "67", "", "93", "103",
 ];
 
-fn texts(alloc: Global) -> Result<VecLog<Sha256, &'static str>, Fail> {
+type TextLog = VecLog<Sha256, &'static str>;
+
+fn texts(alloc: Global) -> Result<TextLog, Fail> {
     let mut log = VecLog::default(alloc);
     push_all(&mut log, &TEXTS)?;
     Ok(log)
+}
+
+// Whether a log's own proof of an entry of its first ones shows that it is there.
+fn holds_entry(alloc: Global, log: &TextLog, place: usize, length: usize) -> Result<bool, Fail> {
+    if place >= length || length > 25 {
+        return Ok(false);
+    }
+    let proof = log.prove_inclusion(Node(2 * place), length);
+    let finding = witness_value(alloc, &proof, log, &TEXTS[place], &TEXTS[..length])?;
+    Ok(matches!(finding, Finding::Holds))
 }
 
 #[test]
 fn a_log_s_own_inclusion_proofs_hold(rt: HostRuntime) -> Result<(), Fail> {
     let log = texts(rt.alloc())?;
     for length in 1..26 {
-        let entries = &TEXTS[..length];
-        for (place, entry) in entries.iter().enumerate() {
-            let proof = log.prove_inclusion(Node(2 * place), length);
-            let finding = witness_value(rt.alloc(), &proof, &log, entry, entries)?;
-            assert!(rt; matches!(finding, Finding::Holds));
+        for place in 0..length {
+            assert!(rt; holds_entry(rt.alloc(), &log, place, length)?);
         }
     }
     Ok(())
+}
+
+// Whether its own proof between two lengths shows that it grew so.
+fn holds_growth(alloc: Global, log: &TextLog, old: usize, new: usize) -> Result<bool, Fail> {
+    if old > new || new > 25 {
+        return Ok(false);
+    }
+    let proof = log.prove_consistency(old, new);
+    let finding = witness_consistency(alloc, &proof, log, &TEXTS[..old], &TEXTS[..new])?;
+    Ok(matches!(finding, Finding::Holds))
 }
 
 #[test]
@@ -108,10 +131,7 @@ fn a_log_s_own_consistency_proofs_hold(rt: HostRuntime) -> Result<(), Fail> {
     let log = texts(rt.alloc())?;
     for new_length in 1..26 {
         for old_length in 1..new_length + 1 {
-            let proof = log.prove_consistency(old_length, new_length);
-            let (old, new) = (&TEXTS[..old_length], &TEXTS[..new_length]);
-            let finding = witness_consistency(rt.alloc(), &proof, &log, old, new)?;
-            assert!(rt; matches!(finding, Finding::Holds));
+            assert!(rt; holds_growth(rt.alloc(), &log, old_length, new_length)?);
         }
     }
     Ok(())
@@ -155,7 +175,7 @@ fn a_witness_over_a_million_entries(rt: HostRuntime) -> Result<(), Fail> {
 type Nothing = SparseLogData<Sum, u8>;
 
 // Whether claims of a value and of a hash are not met, without memory.
-fn are_not_met(none: &Refusing<Global>, data: &Nothing) -> bool {
+fn are_not_met<A: Allocator + Copy>(none: A, data: &Nothing) -> bool {
     let proof = data.prove_inclusion(Node(0), 2);
     let value = witness_value(none, &proof, data, &1, &[1]);
     let hash = witness_hash(none, &proof, data, Hash::from_array([1; 32]), &[1]);
