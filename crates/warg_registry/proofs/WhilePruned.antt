@@ -68,6 +68,13 @@ module _ {F : Type 0} (seen : F → Files) (may_leave : F → Files → Type 0) 
         → OfPages (AreAll (bytes_of names)) → (n : List ℕ) → is_page n ≡ true → IsSome (seen new.folder n)
         → IsPageOf served n ⊎ IsPageOf kept n
 
+  -- what is said of each log that serves and keeps a registry with this root is said of it
+  pub of_registry : {P : Type 0} → ((known : LogIn F) (at : List ℕ) (these those : List (List ℕ × List ℕ))
+      → IsLogRead seen may_leave moment left_since known r.log → Serves (registry_of at these) (seen known.folder)
+      → IsOwnSource sha256 (page_read (seen known.folder)) r.root r.count those → P) → P
+  of_registry said = said r.log origin served kept is_read has.log.keeps.serves
+      (own_pages seen may_leave moment left_since origin served kept [] r has)
+
   pub looked_at : IsPruning
   looked_at = record {
     at = read_has seen may_leave moment left_since origin served kept [] r has mid (read r.log is_read);

@@ -9,9 +9,10 @@ ghost use Rattle.warg_pages.specs.ProvedKeys.{IsOwnSource};
 ghost use Rattle.warg_tiles.specs.CheckpointText.{IsLine};
 ghost use Rattle.warg_store.specs.Growing.{LogIn, IsReady, Has, HasNext, IsFresh, with_page};
 ghost use Rattle.warg_store.specs.Log.{LogOf, HasLog, IsOneOf, IsCommitting, AreShort, CanBeKept};
-ghost use Rattle.warg_store.specs.Moments.{LeavesOnly};
+ghost use Rattle.warg_store.specs.Moments.{LeavesOnly, HasLostCause};
 ghost use Rattle.warg_store.specs.Names.{is_page};
-ghost use Rattle.warg_store.specs.Opening.{IsBeside, IsOpening, opened};
+ghost use Rattle.warg_store.specs.Opening.{IsBeside, IsOpening, HasNoLogFile, HasLogFile, opened};
+ghost use Rattle.warg_store.specs.Refusals.{IsNoFault as IsNoLogFault};
 ghost use Rattle.warg_registry.specs.Insertions.{entries_of, entry_of};
 ghost use Rattle.warg_registry.specs.Publishing.{IsRefusedFor, of_push};
 ghost use Rattle.warg_registry.specs.Pruning.{IsPageOf};
@@ -27,7 +28,7 @@ use std::marker::Model;
 use warg_crypto::{Hash, Sha256};
 use warg_log::{Checkpoint, GREATEST_LENGTH};
 use warg_pages::{ChangedPage, PagedMap, ProveError, WayError, page_path, prove_by_pages};
-use warg_store::{CreateError, Folder, LogError, LogFolder, PushError};
+use warg_store::{CreateError, Folder, FolderError, LogError, LogFolder, PushError};
 use warg_tiles::{CheckpointText, EntryError};
 
 /// A registry in a folder: a log of insertions, and the pages of the map that they make. Its memory grows with neither.
@@ -69,6 +70,11 @@ impl<F: Folder + Drop> RegistryFolder<F> {
     pub fn create(alloc: Global, folder: F, origin: &[u8]) -> Result<RegistryFolder<F>, CreateError>
         ensures has { F.IsFaithful → IfOk result (HasRegistry F.seen F.may_leave origin.now [] []) }
         ensures ready { F.IsFaithful → IfOk result (λ r. IsReady F.seen F.may_leave r.log) }
+        ensures origin { result ≡ Err CreateError.Origin → (65535 < length origin.now)
+            ⊎ (CanBeKept (registry_of origin.now []) → ⊥) }
+        ensures fresh { F.IsFaithful → OnOk result (HasNoLogFile (F.seen folder)) }
+        ensures exists { F.IsFaithful → result ≡ Err CreateError.Exists → HasLogFile (F.seen folder) }
+        ensures cause { HasLostCause F.faults (CreateError.Folder FolderError.Failed) F.IsFaithful folder result }
     {
         let map = PagedMap::new();
         let lines = lines_of(alloc, &map.root)?;
@@ -201,6 +207,8 @@ impl<F: Folder + Drop> RegistryFolder<F> {
         ensures all { F.IsFaithful → OnOk result ((origin : List ℕ) (served kept : List (List ℕ × List ℕ))
             → HasRegistry F.seen F.may_leave origin served kept self.old → (n : List ℕ) → is_page n ≡ true
             → IsSome (F.seen self.new.log.folder n) → IsPageOf served n ⊎ IsPageOf kept n) }
+        ensures whole { F.IsFaithful → (origin : List ℕ) (served kept : List (List ℕ × List ℕ))
+            → HasRegistry F.seen F.may_leave origin served kept self.old → IfErr result (IsNoLogFault ⊥) }
     {
         let spare = self.pages.spare(&self.map.root, self.map.version)?;
         let log = &mut self.pages.log;

@@ -1,6 +1,6 @@
 //! The pages that a registry needs, and those that it doesn't.
 
-ghost use Rattle.std.specs.Prelude.{◌≡◌, ◌⊎◌, ◌++◌, ℕ, true, List, [], IfOk, OnOk, IsSome, IsTrue};
+ghost use Rattle.std.specs.Prelude.{◌≡◌, ◌⊎◌, ◌++◌, ℕ, true, List, [], IfOk, IfErr, OnOk, IsSome, IsTrue};
 ghost use Rattle.std.specs.List.{Contains};
 ghost use Rattle.warg_crypto.specs.Digests.{sha256};
 ghost use Rattle.warg_pages.specs.ChangedPages.{ChangedPageAt};
@@ -10,6 +10,7 @@ ghost use Rattle.warg_store.specs.Growing.{LogIn};
 ghost use Rattle.warg_store.specs.Log.{Serves};
 ghost use Rattle.warg_store.specs.Names.{is_page};
 ghost use Rattle.warg_store.specs.Pruned.{IsNoneOf};
+ghost use Rattle.warg_store.specs.Refusals.{IsNoFault};
 ghost use Rattle.warg_registry.specs.Folder.{registry_of, pages_of, page_read, IsLogRead};
 ghost use Rattle.warg_registry.specs.Pruning.{bytes_of, ArePathsOf, AreOnlyPathsOf, HaveAllPages, IsPageOf, AreNeeded, AreNone, AreAmong};
 
@@ -73,6 +74,10 @@ impl NeededPages {
             → IsOwnSource sha256 (page_read (F.seen known.folder)) root.now version insertions
             → ((names : List (List ℕ)) → ArePathsOf names (before ++ all) → HaveAllPages names insertions)
             × ((p : ChangedPageAt) → Contains all p → IsPageOf insertions (page_path p.prefix p.version)))) }
+        ensures whole { F.IsFaithful → (known : LogIn F) (insertions : List (List ℕ × List ℕ))
+            → IsLogRead F.seen F.may_leave F.moment F.left_since known pages.old.log
+            → IsOwnSource sha256 (page_read (F.seen known.folder)) root.now version insertions
+            → IfErr result (IsNoFault ⊥) }
         ensures read { F.IsFaithful → (known : LogIn F)
             → IsLogRead F.seen F.may_leave F.moment F.left_since known pages.old.log
             → IsLogRead F.seen F.may_leave F.moment F.left_since known pages.new.log }
@@ -126,6 +131,11 @@ impl<F: Folder + Drop> KeptPages<F> {
             → IsOwnSource sha256 (page_read (F.seen known.folder)) root.now version kept
             → (n : List ℕ) → is_page n ≡ true → IsSome (F.seen known.folder n)
             → Contains (bytes_of spare.items) n ⊎ IsPageOf served n ⊎ IsPageOf kept n) }
+        ensures whole { F.IsFaithful → (known : LogIn F) (origin : List ℕ) (served kept : List (List ℕ × List ℕ))
+            → IsLogRead F.seen F.may_leave F.moment F.left_since known self.old.log
+            → Serves (registry_of origin served) (F.seen known.folder)
+            → IsOwnSource sha256 (page_read (F.seen known.folder)) root.now version kept
+            → IfErr result (IsNoFault ⊥) }
         ensures read { F.IsFaithful → (known : LogIn F)
             → IsLogRead F.seen F.may_leave F.moment F.left_since known self.old.log
             → IsLogRead F.seen F.may_leave F.moment F.left_since known self.new.log }
@@ -143,6 +153,11 @@ impl<F: Folder + Drop> KeptPages<F> {
             → Serves (registry_of origin served) (F.seen known.folder)
             → IsOwnSource sha256 (page_read (F.seen known.folder)) root.now version kept
             → AreNeeded (bytes_of needed.names.keys) served kept) }
+        ensures whole { F.IsFaithful → (known : LogIn F) (origin : List ℕ) (served kept : List (List ℕ × List ℕ))
+            → IsLogRead F.seen F.may_leave F.moment F.left_since known self.old.log
+            → Serves (registry_of origin served) (F.seen known.folder)
+            → IsOwnSource sha256 (page_read (F.seen known.folder)) root.now version kept
+            → IfErr result (IsNoFault ⊥) }
         ensures read { F.IsFaithful → (known : LogIn F)
             → IsLogRead F.seen F.may_leave F.moment F.left_since known self.old.log
             → IsLogRead F.seen F.may_leave F.moment F.left_since known self.new.log }
@@ -164,6 +179,10 @@ impl<F: Folder + Drop> KeptPages<F> {
             → IsLogRead F.seen F.may_leave F.moment F.left_since known self.old.log
             → Serves (registry_of origin insertions) (F.seen known.folder)
             → IsOwnSource sha256 (page_read (F.seen known.folder)) map.root map.version insertions) }
+        ensures whole { F.IsFaithful → (known : LogIn F) (origin : List ℕ) (insertions : List (List ℕ × List ℕ))
+            → IsLogRead F.seen F.may_leave F.moment F.left_since known self.old.log
+            → Serves (registry_of origin insertions) (F.seen known.folder)
+            → IfErr result (IsNoFault ⊥) }
         ensures read { F.IsFaithful → (known : LogIn F)
             → IsLogRead F.seen F.may_leave F.moment F.left_since known self.old.log
             → IsLogRead F.seen F.may_leave F.moment F.left_since known self.new.log }
@@ -182,6 +201,7 @@ impl<F: Folder + Drop> KeptPages<F> {
         ensures all { F.IsFaithful → IfOk result (λ names. (known : LogIn F)
             → IsLogRead F.seen F.may_leave F.moment F.left_since known self.old.log
             → (n : List ℕ) → is_page n ≡ true → IsSome (F.seen known.folder n) → Contains (bytes_of names.items) n) }
+        ensures whole { IfErr result (IsNoFault ⊥) }
         ensures read { F.IsFaithful → (known : LogIn F)
             → IsLogRead F.seen F.may_leave F.moment F.left_since known self.old.log
             → IsLogRead F.seen F.may_leave F.moment F.left_since known self.new.log }

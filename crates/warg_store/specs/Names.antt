@@ -1,5 +1,5 @@
 -- The names of a log's files.
-use Rattle.std.specs.Prelude.{ℕ, nat_eq, Bool, ◌||◌, List, ◌++◌, codes}
+use Rattle.std.specs.Prelude.{ℕ, nat_eq, Bool, not, ◌&&◌, ◌||◌, List, ◌++◌, codes}
 use Rattle.std.specs.Cmp.Lexicographic.{pointwise}
 use Rattle.std.specs.List.{starts_with}
 
@@ -46,3 +46,11 @@ is_served n = is_tile n || is_page n
 -- The name is one of a log's files.
 abbrev pub is_log_file : List ℕ → Bool
 is_log_file n = is_served n || (is_own n || pointwise nat_eq n checkpoint)
+
+-- The lock of the one who writes.
+abbrev pub lock : List ℕ
+lock = codes ".log/lock"
+
+-- The name is one of a log's files, besides its lock: where such a file is, no log is made.
+abbrev pub is_of_log : List ℕ → Bool
+is_of_log n = is_log_file n && not (pointwise nat_eq n lock)

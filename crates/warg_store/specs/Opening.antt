@@ -1,10 +1,10 @@
 -- What a folder stands for: its files once it has been opened.
-use Rattle.std.specs.Prelude.{◌≡◌, ◌⊎◌, ℕ, ◌^◌, ◌≤◌, ◌==◌, nat_eq, nat_lt, Bool, ◌&&◌, ◌||◌, true, false, List, [], ◌∷◌, length, Option, Some, None, if◌then◌else◌}
+use Rattle.std.specs.Prelude.{◌≡◌, ◌⊎◌, ℕ, ◌^◌, ◌≤◌, ◌==◌, nat_eq, nat_lt, Bool, ◌&&◌, ◌||◌, true, false, List, [], ◌∷◌, length, Option, Some, None, IsSome, if◌then◌else◌}
 use Rattle.std.specs.Cmp.Lexicographic.{pointwise}
 use Rattle.std.specs.Option.{option_or}
 use Rattle.warg_tiles.specs.CheckpointText.{Said, CanBeSaid, text_of, text_before}
 use Rattle.warg_store.specs.Files.{Files, put}
-use Rattle.warg_store.specs.Names.{checkpoint, state, mark, staged, is_staged, is_own, is_served}
+use Rattle.warg_store.specs.Names.{checkpoint, state, mark, staged, is_staged, is_own, is_served, is_of_log}
 
 -- Without what is staged.
 abbrev pub without_staged : Files → Files
@@ -99,3 +99,11 @@ pub record IsTakenOver (old c : Files) : Type 0 where
 -- taken over.
 abbrev pub IsOpening : Files → Files → Type 0
 IsOpening old c = IsBetween old (opened old) c ⊎ IsTakenOver (opened old) c
+
+-- No file of a log is there, besides its lock.
+abbrev pub HasNoLogFile : Files → Type 0
+HasNoLogFile s = (n : List ℕ) → is_of_log n ≡ true → s n ≡ None
+
+-- One is.
+abbrev pub HasLogFile : Files → Type 0
+HasLogFile s = (n : List ℕ) × (is_of_log n ≡ true) × IsSome (s n)

@@ -1,14 +1,14 @@
 //! A log's folder, made and opened.
 
-ghost use Rattle.std.specs.Prelude.{◌≡◌, ◌≢◌, ◌⊎◌, ◌↔◌, ◌<◌, ℕ, true, false, List, [], Option, Some, None, Err, length, IfOk, IfErr, OnOk, IsTrue, map, string_bytes};
-ghost use Rattle.std.specs.List.{All, AllByRecursion};
+ghost use Rattle.std.specs.Prelude.{◌≡◌, ◌≢◌, ◌⊎◌, ◌↔◌, ◌<◌, ℕ, true, false, List, [], Option, Some, None, Err, length, IfOk, IfErr, OnOk, IsSome, IsTrue, map, string_bytes};
+ghost use Rattle.std.specs.List.{All, AllByRecursion, Any};
 ghost use Rattle.warg_tiles.specs.CheckpointText.{Said, CanBeSaid, IsLine, text_before};
 ghost use Rattle.warg_store.specs.Files.{SameBut};
 ghost use Rattle.warg_store.specs.Moments.{Only, Within, Elapses, LeavesOnly, HasCause, HasCauseOf, HasLostCause};
 ghost use Rattle.warg_store.specs.Growing.{IsReady, Has};
 ghost use Rattle.warg_store.specs.Log.{LogOf, CanBeKept, no_entries, no_entries_with, Serves, Keeps, HasLog, IsOneOf, said_of};
-ghost use Rattle.warg_store.specs.Names.{checkpoint, state, mark};
-ghost use Rattle.warg_store.specs.Opening.{IsStaging, CanBeServed, AgreesWith, IsTakenOver, IsOpening, opened};
+ghost use Rattle.warg_store.specs.Names.{checkpoint, state, mark, is_of_log};
+ghost use Rattle.warg_store.specs.Opening.{IsStaging, CanBeServed, AgreesWith, IsTakenOver, IsOpening, HasNoLogFile, HasLogFile, opened};
 ghost use Rattle.warg_store.specs.Refusals.{IsNoFault, IsNoFailure};
 
 use crate::committing::{MOST_TEXT, commit, is_signed};
@@ -69,6 +69,8 @@ impl<F: Folder + Drop> LogFolder<F> {
             Has F.seen F.may_leave none none none log) }
         ensures origin { result ≡ Err CreateError.Origin → (65535 < length origin.now)
             ⊎ (CanBeKept (no_entries origin.now) → ⊥) }
+        ensures fresh { F.IsFaithful → OnOk result (HasNoLogFile (F.seen folder)) }
+        ensures exists { F.IsFaithful → result ≡ Err CreateError.Exists → HasLogFile (F.seen folder) }
         ensures cause { HasLostCause F.faults (CreateError.Folder FolderError.Failed) F.IsFaithful folder result }
     {
         LogFolder::create_with(alloc, folder, origin, &[])
@@ -90,6 +92,8 @@ impl<F: Folder + Drop> LogFolder<F> {
             Has F.seen F.may_leave none none none log) }
         ensures origin { result ≡ Err CreateError.Origin → (65535 < length origin.now)
             ⊎ (CanBeKept (no_entries_with origin.now (map (λ l. l.items) lines.now)) → ⊥) }
+        ensures fresh { F.IsFaithful → OnOk result (HasNoLogFile (F.seen folder)) }
+        ensures exists { F.IsFaithful → result ≡ Err CreateError.Exists → HasLogFile (F.seen folder) }
         ensures cause { HasLostCause F.faults (CreateError.Folder FolderError.Failed) F.IsFaithful folder result }
     {
         if origin.len() > 65_535 {
@@ -153,6 +157,7 @@ fn first_text(
     ensures line { OnOk result (IsLine origin.now) }
     ensures origin { result ≡ Err CreateError.Origin → IsLine origin.now → ⊥ }
     ensures other { result ≢ Err (CreateError.Folder FolderError.Failed) }
+    ensures not_there { IfErr result (λ error. error ≢ CreateError.Exists) }
 {
     match CheckpointText::new(alloc, origin, Checkpoint::new(hash_empty(), 0)) {
         Ok(text) => match with_lines(text, lines) {
@@ -221,8 +226,9 @@ fn take_over<F: Folder>(alloc: Global, folder: &mut F) -> Result<CheckpointText<
 
 // Refuses a folder that has a file of a log.
 fn check_fresh<F: Folder>(alloc: Global, folder: &mut F) -> Result<(), CreateError>
-    ensures fresh { F.IsFaithful → OnOk result
-        ((F.seen folder.new checkpoint ≡ None) × (F.seen folder.new mark ≡ None)) }
+    ensures fresh { F.IsFaithful → OnOk result (HasNoLogFile (F.seen folder.old)) }
+    ensures exists { F.IsFaithful → result ≡ Err CreateError.Exists → HasLogFile (F.seen folder.old) }
+    ensures seen { F.IsFaithful → F.seen folder.new ≡ F.seen folder.old }
     ensures cause { HasCauseOf (CreateError.Folder FolderError.Failed) F.IsFaithful
         (F.faults folder.old) (F.faults folder.new) result }
     ensures other { IfErr result (λ error. error ≢ CreateError.Origin) }
@@ -237,7 +243,8 @@ fn check_fresh<F: Folder>(alloc: Global, folder: &mut F) -> Result<(), CreateErr
 
 // Whether none of the files is a log's, but for its lock.
 fn are_others(names: &[String]) -> bool
-    ensures { result ≡ true → All (λ name. (string_bytes name ≢ checkpoint) × (string_bytes name ≢ mark)) names.now }
+    ensures others { result ≡ true → All (λ name. is_of_log (string_bytes name) ≡ false) names.now }
+    ensures found { result ≡ false → Any (λ name. is_of_log (string_bytes name) ≡ true) names.now }
 {
     'names: for name in names {
         if is_of_log(name.as_str()) {
@@ -249,7 +256,7 @@ fn are_others(names: &[String]) -> bool
 
 // Whether a file is a log's, and not its lock.
 fn is_of_log(name: &str) -> bool
-    ensures { result ≡ false → (name.now ≢ checkpoint) × (name.now ≢ mark) }
+    ensures { result ≡ is_of_log name.now }
 {
     is_log_file(name) && name != ".log/lock"
 }
@@ -258,6 +265,7 @@ fn is_of_log(name: &str) -> bool
 fn prepare<F: Folder>(alloc: Global, folder: &mut F) -> Result<(), CreateError>
     ensures opened { F.IsFaithful → OnOk result (F.seen folder.new ≡ opened (F.seen folder.old)) }
     ensures ready { F.IsFaithful → OnOk result (IsStaging (F.seen folder.new) (F.may_leave folder.new)) }
+    ensures marked { F.IsFaithful → IfErr result (λ error. error ≡ CreateError.Exists → IsSome (F.seen folder.old mark)) }
     ensures cause { HasCauseOf (CreateError.Folder FolderError.Failed) F.IsFaithful
         (F.faults folder.old) (F.faults folder.new) result }
     ensures other { IfErr result (λ error. error ≢ CreateError.Origin) }

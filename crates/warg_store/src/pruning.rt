@@ -1,13 +1,14 @@
 //! Files that the log needs no more.
 
-ghost use Rattle.std.specs.Prelude.{◌≡◌, ◌≤◌, ◌<◌, ◌↔◌, ℕ, true, List, length, IsTrue, IfOk, IfSome, OnOk, string_bytes};
+ghost use Rattle.std.specs.Prelude.{◌≡◌, ◌≤◌, ◌<◌, ◌↔◌, ℕ, true, List, length, IsTrue, IfOk, IfErr, IfSome, OnOk, string_bytes};
 ghost use Rattle.warg_tiles.specs.Between.{IsTileOf};
 ghost use Rattle.warg_store.specs.Files.{Files};
 ghost use Rattle.warg_store.specs.Moments.{Only, LeavesOnly, HasCause, HasCauseOf};
 ghost use Rattle.warg_store.specs.Names.{is_staged};
 ghost use Rattle.warg_store.specs.Opening.{IsStaging};
-ghost use Rattle.warg_store.specs.Log.{LogOf, Keeps, IsOneOf};
+ghost use Rattle.warg_store.specs.Log.{LogOf, Serves, Keeps, IsOneOf};
 ghost use Rattle.warg_store.specs.Growing.{Has};
+ghost use Rattle.warg_store.specs.Refusals.{IsNoFault};
 ghost use Rattle.warg_store.specs.Pruned.{full_of, HasFull, IsPruned};
 ghost use Rattle.warg_store.specs.Private.Steps.{IsPruning};
 
@@ -41,6 +42,8 @@ impl<F: Folder + Drop> LogFolder<F> {
             → Has F.seen F.may_leave served old next self.old
             → IsPruned (length old.entries) (length served.entries)
             (F.seen self.old.folder) (F.seen self.new.folder) }
+        ensures whole { F.IsFaithful → (served old next : LogOf)
+            → Has F.seen F.may_leave served old next self.old → IfErr result (IsNoFault ⊥) }
         ensures cause { HasCauseOf (LogError.Folder FolderError.Failed) F.IsFaithful
             (F.faults self.old.folder) (F.faults self.new.folder) result }
     {
@@ -58,6 +61,7 @@ fn prune_all<F: Folder>(alloc: Global, folder: &mut F, kept: usize) -> Result<us
         (IsPruning kept (length served.entries) (F.seen folder.old)) }
     ensures done { F.IsFaithful → OnOk result (Only (F.seen folder.new) (F.may_leave folder.new)
         × ((n : List ℕ) → is_staged n ≡ true → F.seen folder.new n ≡ F.seen folder.old n)) }
+    ensures whole { F.IsFaithful → (log : LogOf) → Serves log (F.seen folder.old) → IfErr result (IsNoFault ⊥) }
     ensures cause { HasCauseOf (LogError.Folder FolderError.Failed) F.IsFaithful
         (F.faults folder.old) (F.faults folder.new) result }
 {

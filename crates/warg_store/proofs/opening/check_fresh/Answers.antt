@@ -1,24 +1,27 @@
-use Rattle.std.proofs.Common.{◌≢◌, ℕ, List, IsSome, map, subst, refl, string_bytes}
-use Rattle.std.specs.List.{All, Contains}
+use Rattle.std.proofs.Common.{◌≡◌, ◌≢◌, List, ℕ, IsSome, true, false, true≢false, refl, sym, ap, subst, ◌∙◌, string_bytes}
+use Rattle.std.specs.List.{All, Any}
 use Rattle.std.proofs.lemmas.List.Elements.{All-weaker}
 use Rattle.std.specs.declared.string.String.{String}
 use Rattle.std.specs.declared.alloc.Global.{Global}
-use Rattle.warg_store.specs.Files.{Files}
-use Rattle.warg_store.specs.Names.{checkpoint, mark}
+use Rattle.warg_store.specs.Names.{is_of_log}
 use Rattle.warg_store.proofs.CreateLemmas.{absent}
 use Rattle.warg_store.proofs.opening.check_fresh.Goals as goal
 
 pub returns-then-are_others-clause-fresh : goal.returns-then-are_others-clause-fresh
-returns-then-are_others-clause-fresh g c = λ faithful.
-    let now = g.F.Folder.seen c.list.new.self in
-    let names = c.in_ok-names.names.items in
-    let Other : String Global → Type 0 = λ x. (string_bytes x ≢ checkpoint) × (string_bytes x ≢ mark) in
-    let others = subst (All Other) c.as_slice.ensures.value (c.are_others.ensures c.if-are_others.true) in
-    let listed : (n : List ℕ) → IsSome (now n) → Contains (map (λ name. string_bytes name) names) n =
-    λ n some. (c.in_ok-names.ensures.all faithful) n
-    (subst (λ (f : Files). IsSome (f n)) (c.list.ensures.seen faithful) some) refl in (
-      absent now names checkpoint listed (All-weaker Other (λ (x : String Global). string_bytes x ≢ checkpoint)
-          (λ x both. both.0) _ others),
-      absent now names mark listed (All-weaker Other (λ (x : String Global). string_bytes x ≢ mark) (λ x both. both.1)
-          _ others),
+returns-then-are_others-clause-fresh g c = λ faithful n is.
+    let Other : String Global → Type 0 = λ x. is_of_log (string_bytes x) ≡ false in
+    let others = subst (All Other) c.as_slice.ensures.value (c.are_others.ensures.others c.if-are_others.true) in
+    absent (g.F.Folder.seen c.args.folder.now) c.in_ok-names.names.items n
+    (λ m some. c.in_ok-names.ensures.all faithful m some refl)
+    (All-weaker Other (λ (x : String Global). string_bytes x ≢ n)
+    (λ (x : String Global) other same. true≢false (sym is ∙ ap is_of_log (sym same) ∙ other)) _ others)
+
+pub returns-clause-exists : goal.returns-clause-exists
+returns-clause-exists g c = λ faithful refused.
+    let IsOfLog : String Global → Type 0 = λ x. is_of_log (string_bytes x) ≡ true in
+    let found = subst (Any IsOfLog) c.as_slice.ensures.value (c.are_others.ensures.found c.if-are_others.false) in
+    let there = c.in_ok-names.ensures.there faithful found.0 found.1 found.2 in (
+      string_bytes found.1,
+      found.4,
+      subst (λ (x : String Global). IsSome (g.F.Folder.seen c.args.folder.now (string_bytes x))) found.3 there.0,
     )

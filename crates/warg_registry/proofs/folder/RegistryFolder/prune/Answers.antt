@@ -8,7 +8,10 @@ use Rattle.warg_store.specs.Names.{is_page}
 use Rattle.warg_store.specs.Pruned.{ArePagesNotOf, IsWithoutPages}
 use Rattle.warg_registry.specs.Folder.{registry_of, RegistryIn, HasRegistry}
 use Rattle.warg_registry.specs.Pruning.{bytes_of}
-use Rattle.warg_registry.proofs.WhilePruned.{looked_at}
+use Rattle.warg_store.specs.Refusals.{IsNoFault}
+use Rattle.warg_store.specs.declared.error.LogError.TheVariants as LogError
+use Rattle.warg_registry.proofs.Refused.{told_as}
+use Rattle.warg_registry.proofs.WhilePruned.{looked_at, of_registry}
 use Rattle.warg_registry.proofs.folder.RegistryFolder.prune.Goals as goal
 
 pub returns-clause-pruned : goal.returns-clause-pruned
@@ -113,3 +116,31 @@ returns-clause-all g c = λ faithful origin served kept has.
     (subst Without c.as_slice.ensures.value (c.in_ok-remove_pages.ensures.only faithful))
     (subst Removed c.as_slice.ensures.value (c.in_ok-remove_pages.ensures.removed faithful))
     (c.in_ok-spare.ensures.all faithful)
+
+pub returns-in_err-spare-clause-whole : goal.returns-in_err-spare-clause-whole
+returns-in_err-spare-clause-whole g c = λ faithful origin served kept has.
+    let dev = g.F.Folder in
+    let inside = subst (λ (x : RegistryIn g.row.F.Denot). HasRegistry dev.seen dev.may_leave origin served kept x)
+    (sym c.self.view_is) has in
+    told_as (IsNoFault ⊥) c.in_err-spare.field-0.0 c.from_residual.result c.from_residual.ensures.1
+    (of_registry dev.seen dev.may_leave dev.moment dev.left_since g.met.F.Folder.counts_now g.met.F.Folder.only_now
+    g.met.F.Folder.seen_may_stay _ c.spare.new.self.log (c.spare.ensures.read faithful) origin served kept inside
+    (c.in_err-spare.ensures.whole faithful))
+
+pub returns-in_err-pruned-clause-whole : goal.returns-in_err-pruned-clause-whole
+returns-in_err-pruned-clause-whole g c = λ faithful origin served kept has.
+    let dev = g.F.Folder in
+    let inside = subst (λ (x : RegistryIn g.row.F.Denot). HasRegistry dev.seen dev.may_leave origin served kept x)
+    (sym c.self.view_is) has in
+    let run = looked_at dev.seen dev.may_leave dev.moment dev.left_since g.met.F.Folder.counts_now
+    g.met.F.Folder.only_now g.met.F.Folder.seen_may_stay _ c.spare.new.self.log (c.spare.ensures.read faithful)
+    origin served kept inside in
+    told_as (IsNoFault ⊥) c.in_err-pruned.field-0.0 c.from_residual-in_err-pruned.result
+    c.from_residual-in_err-pruned.ensures.1
+    (c.in_err-pruned.ensures.whole faithful (registry_of origin served) (registry_of origin kept)
+    (registry_of origin kept) run.at)
+
+pub returns-in_err-remove_pages-clause-whole : goal.returns-in_err-remove_pages-clause-whole
+returns-in_err-remove_pages-clause-whole g c = λ faithful origin served kept has.
+    told_as (IsNoFault ⊥) (LogError.Folder c.in_err-remove_pages.field-0.0) c.from_residual-in_err-remove_pages.result
+    c.from_residual-in_err-remove_pages.ensures.1 tt

@@ -1,5 +1,6 @@
 use Rattle.std.proofs.lemmas.List.Elements.{Contains-append_right}
 use Rattle.warg_registry.proofs.Pruned.{all_named, own_named}
+use Rattle.warg_registry.proofs.Refused.{not_of_pages}
 use Rattle.warg_registry.proofs.pruning.NeededPages.add.Goals as goal
 
 pub returns-in-Ok-clause-added : goal.returns-in-Ok-clause-added
@@ -16,3 +17,8 @@ returns-in-Ok-clause-added g c = λ before named only.
             c.ranges.version.fits own (seen.2 known (faithful, read)),
       ),
     )
+
+pub returns-in-Err-clause-whole : goal.returns-in-Err-clause-whole
+returns-in-Err-clause-whole g c = λ faithful known es read own.
+    c.refusal.ensures (not_of_pages _ c.in-Err.error (λ refused. refused known es (faithful, read) own)
+    c.in-Err.ensures.refused)

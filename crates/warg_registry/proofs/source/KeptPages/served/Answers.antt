@@ -1,9 +1,15 @@
-use Rattle.std.proofs.Common.{sym, subst, ◌∙◌}
+use Rattle.std.proofs.Common.{sym, ap, subst, ◌∙◌}
+use Rattle.warg_crypto.specs.Digests.{sha256}
+use Rattle.warg_map.specs.Sparse.{map_of, sparse_root}
+use Rattle.warg_tiles.specs.CheckpointText.{Said}
+use Rattle.warg_store.specs.Refusals.{IsNoFault}
 use Rattle.warg_store.specs.Log.{Serves}
 use Rattle.warg_store.specs.Files.{Files}
 use Rattle.warg_registry.specs.Folder.{registry_of}
 use Rattle.warg_registry.proofs.FolderMoments.{log_read_then}
+use Rattle.warg_registry.proofs.MapLines.{map_digest}
 use Rattle.warg_registry.proofs.Pruned.{served_source}
+use Rattle.warg_registry.proofs.Refused.{told_as}
 use Rattle.warg_registry.proofs.source.KeptPages.served.Goals as goal
 
 pub returns-in-Ok-clause-served : goal.returns-in-Ok-clause-served
@@ -32,3 +38,25 @@ returns-clause-read g c = λ faithful known read.
     let dev = g.F.Folder in
     log_read_then dev.seen dev.may_leave dev.moment dev.left_since g.met.F.Folder.counts_now known c.args.self.now.log
     c.served.new.self read c.served.ensures.same (c.served.ensures.read faithful)
+
+pub returns-in_err-text-clause-whole : goal.returns-in_err-text-clause-whole
+returns-in_err-text-clause-whole g c = λ faithful known origin insertions read serves.
+    let now : Serves (registry_of origin insertions) (g.F.Folder.seen c.args.self.now.log.folder) =
+    subst (λ (f : Files). Serves (registry_of origin insertions) f) (sym read.read.found) serves in
+    told_as (IsNoFault ⊥) c.in_err-text.field-0.0 c.from_residual.result c.from_residual.ensures.1
+    (c.in_err-text.ensures.whole faithful (registry_of origin insertions) now)
+
+pub returns-in-Err-Log-clause-whole : goal.returns-in-Err-Log-clause-whole
+returns-in-Err-Log-clause-whole g c = λ faithful known origin insertions read serves.
+    let now : Serves (registry_of origin insertions) (g.F.Folder.seen c.args.self.now.log.folder) =
+    subst (λ (f : Files). Serves (registry_of origin insertions) f) (sym read.read.found) serves in
+    c.in-Err-Log.ensures.err (sparse_root sha256 256 (map_of sha256 insertions)) (map_digest (map_of sha256 insertions))
+    (ap (λ (t : Said). t.extensions) (c.in_ok-text.ensures.said faithful (registry_of origin insertions) now))
+
+pub returns-in-Err-NoMap-clause-whole : goal.returns-in-Err-NoMap-clause-whole
+returns-in-Err-NoMap-clause-whole g c = λ faithful known origin insertions read serves.
+    let now : Serves (registry_of origin insertions) (g.F.Folder.seen c.args.self.now.log.folder) =
+    subst (λ (f : Files). Serves (registry_of origin insertions) f) (sym read.read.found) serves in
+    absurd (c.in-Err-NoMap.ensures.err (sparse_root sha256 256 (map_of sha256 insertions))
+    (map_digest (map_of sha256 insertions))
+    (ap (λ (t : Said). t.extensions) (c.in_ok-text.ensures.said faithful (registry_of origin insertions) now)))

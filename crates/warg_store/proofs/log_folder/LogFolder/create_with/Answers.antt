@@ -1,13 +1,16 @@
-use Rattle.std.proofs.Common.{◌≡◌, ℕ, List, length, map, true, None, Vec, Global, sym, ap, subst, refl, ◌∙◌, arith}
+use Rattle.std.proofs.Common.{◌≡◌, ℕ, List, length, map, true, true≢false, None, IfErr, IsSome, Vec, Global, sym, ap, subst, refl, ◌∙◌, arith}
 use Rattle.warg_tiles.specs.CheckpointText.{Said, text_of}
 use Rattle.warg_tiles.specs.TileLog.{RightEdge}
 use Rattle.warg_store.specs.Files.{Files}
-use Rattle.warg_store.specs.Names.{checkpoint}
-use Rattle.warg_store.specs.Opening.{committed}
+use Rattle.warg_store.specs.Names.{checkpoint, mark}
+use Rattle.warg_store.specs.Opening.{committed, HasNoLogFile, HasLogFile}
 use Rattle.warg_store.specs.Log.{Keeps, CanBeKept, said_of, checkpoint_of, no_entries_with}
 use Rattle.warg_store.specs.Growing.{LogIn, IsReady, Has}
 use Rattle.warg_store.proofs.StepLemmas.{idle_opened, without_at}
+use Rattle.warg_store.specs.declared.opening.CreateError.{CreateError}
+use Rattle.warg_store.specs.declared.opening.CreateError.TheVariants.{Exists}
 use Rattle.warg_store.proofs.CreateLemmas.{created, has_none}
+use Rattle.warg_store.proofs.WholeLemmas.{err_same}
 use Rattle.warg_store.proofs.log_folder.LogFolder.create_with.Goals as goal
 
 pub returns-clause-has : goal.returns-clause-has
@@ -16,11 +19,12 @@ returns-clause-has g c = λ faithful.
     let lines = map (λ (l : Vec ℕ Global). l.items) c.args.lines.now in
     let none = no_entries_with c.args.origin.now lines in
     let said : c.in_ok-text.text ≡ said_of none = c.in_ok-text.ensures.said in
-    let fresh = c.in_ok-check_fresh.ensures.fresh faithful in
     let before = seen c.check_fresh.new.folder in
+    let fresh : HasNoLogFile before =
+    subst HasNoLogFile (sym (c.check_fresh.ensures.seen faithful)) (c.in_ok-check_fresh.ensures.fresh faithful) in
     let prepared : seen c.prepare.new.folder checkpoint ≡ None =
-    ap (λ (f : Files). f checkpoint) (c.in_ok-prepare.ensures.opened faithful ∙ idle_opened before fresh.1)
-    ∙ without_at before checkpoint refl ∙ fresh.0 in
+    ap (λ (f : Files). f checkpoint) (c.in_ok-prepare.ensures.opened faithful ∙ idle_opened before (fresh mark refl))
+    ∙ without_at before checkpoint refl ∙ fresh checkpoint refl in
     let text : c.as_slice.result.now ≡ checkpoint_of none = c.as_slice.ensures.value ∙ c.in_ok-bytes.ensures
     ∙ ap text_of said in
     let named : CanBeKept none = record {
@@ -66,3 +70,20 @@ returns-clause-empty g c = (
   ap (λ (l : LogIn g.row.F.Denot). l.text.origin) c.with.ensures
       ∙ ap (λ (s : Said). s.origin) c.in_ok-text.ensures.said,
 )
+
+pub returns-in_err-text-clause-exists : goal.returns-in_err-text-clause-exists
+returns-in_err-text-clause-exists g c = λ faithful exists.
+    let P : CreateError → Type 0 = λ e. e ≡ Exists → HasLogFile (g.F.Folder.seen c.args.folder) in
+    subst (λ r. IfErr r P) exists (err_same P c.in_err-text.field-0.0 c.from_residual.result
+    c.from_residual.ensures.1 (λ e. absurd (c.in_err-text.ensures.not_there e))) refl
+
+pub returns-in_err-prepare-clause-exists : goal.returns-in_err-prepare-clause-exists
+returns-in_err-prepare-clause-exists g c = λ faithful exists.
+    let before = g.F.Folder.seen c.check_fresh.new.folder in
+    let fresh : HasNoLogFile before =
+    subst HasNoLogFile (sym (c.check_fresh.ensures.seen faithful)) (c.in_ok-check_fresh.ensures.fresh faithful) in
+    let P : CreateError → Type 0 = λ e. e ≡ Exists → HasLogFile (g.F.Folder.seen c.args.folder) in
+    let none : P c.in_err-prepare.field-0.0 = λ e.
+    absurd (true≢false (sym (subst (λ o. IsSome o) (fresh mark refl) (c.in_err-prepare.ensures.marked faithful e)))) in
+    subst (λ r. IfErr r P) exists (err_same P c.in_err-prepare.field-0.0 c.from_residual-in_err-prepare.result
+    c.from_residual-in_err-prepare.ensures.1 none) refl
