@@ -6,7 +6,7 @@ use crate::device::FolderError;
 use crate::names::{STAGED, STAGED_FOLDER};
 use std::alloc::{AllocError, Global};
 use std::cell::Cell;
-use std::fs::{File, Metadata};
+use std::fs::{File, FileType};
 use std::io::{ErrorKind, Read, Write};
 use std::{fs, io};
 
@@ -34,8 +34,21 @@ impl Disk<'_> {
         joined(self.rt.alloc(), self.root.as_str(), place.as_str())
     }
 
-    /// The refusal for a call on a name that failed.
-    pub(crate) fn failed(&self, name: &str, error: io::Error, is_read: bool) -> FolderError {
+    /// What a call on a name came to. If it was refused, its fault is told in the cell.
+    pub(crate) fn told<T>(
+        &self,
+        name: &str,
+        answer: io::Result<T>,
+        is_read: bool,
+    ) -> Result<T, FolderError> {
+        match answer {
+            Ok(value) => Ok(value),
+            Err(error) => Err(self.failed(name, error, is_read)),
+        }
+    }
+
+    // The refusal for a call on a name that failed.
+    fn failed(&self, name: &str, error: io::Error, is_read: bool) -> FolderError {
         match self.path(name) {
             Ok(path) if error.kind() != ErrorKind::OutOfMemory => {
                 self.fault.set(Some(Fault {
@@ -51,24 +64,24 @@ impl Disk<'_> {
 
     /// Whether a folder is there, if the one above it is. Refuses anything else.
     pub(crate) fn has_folder(&self, folder: &str) -> io::Result<bool> {
-        match self.found(folder)? {
-            Some(found) if !found.is_dir() => Err(ErrorKind::NotADirectory.into()),
-            found => Ok(found.is_some()),
+        match self.kind_at(folder)? {
+            Some(kind) if !kind.is_dir() => Err(ErrorKind::NotADirectory.into()),
+            kind => Ok(kind.is_some()),
         }
     }
 
     /// Whether a name has a file, if its folder is there. Refuses anything but a regular file.
     pub(crate) fn has_file(&self, name: &str) -> io::Result<bool> {
-        match self.found(name)? {
-            Some(found) if !found.is_file() => Err(ErrorKind::Unsupported.into()),
-            found => Ok(found.is_some()),
+        match self.kind_at(name)? {
+            Some(kind) if !kind.is_file() => Err(ErrorKind::Unsupported.into()),
+            kind => Ok(kind.is_some()),
         }
     }
 
-    // What stands at a name, if anything does: no link is followed.
-    fn found(&self, name: &str) -> io::Result<Option<Metadata>> {
+    // The kind of what stands at a name, if anything does: no link is followed.
+    fn kind_at(&self, name: &str) -> io::Result<Option<FileType>> {
         match fs::symlink_metadata(self.rt, self.path(name)?.as_str()) {
-            Ok(found) => Ok(Some(found)),
+            Ok(found) => Ok(Some(found.file_type())),
             Err(error) if error.kind() == ErrorKind::NotFound => Ok(None),
             Err(error) => Err(error),
         }
@@ -94,10 +107,7 @@ impl Disk<'_> {
 
     /// Makes a file where there is nothing, and forces its bytes.
     pub(crate) fn make_file(&self, name: &str, bytes: &[u8]) -> io::Result<()> {
-        let mut file = File::options()
-            .write(true)
-            .create_new(true)
-            .open(self.rt, self.path(name)?.as_str())?;
+        let mut file = File::create_new(self.rt, self.path(name)?.as_str())?;
         file.write_all(bytes)?;
         file.sync_all()
     }
@@ -121,7 +131,8 @@ impl Disk<'_> {
     /// itself among them.
     pub(crate) fn below(&self, folder: &str, prefix: Option<&str>) -> io::Result<Vec<String>> {
         let alloc = self.rt.alloc();
-        let (mut names, mut folders) = (Vec::new(alloc), Vec::new(alloc));
+        let mut names = Vec::new(alloc);
+        let mut folders = Vec::new(alloc);
         folders.push(String::from_str(alloc, folder)?)?;
         for _ in 0..u64::MAX {
             let Some(folder) = folders.pop() else {
@@ -149,7 +160,9 @@ impl Disk<'_> {
             let name = name_at(self.rt.alloc(), folder, entry.file_name())?;
             if kind.is_dir() && folder != STAGED_FOLDER {
                 folders.push(name)?;
-            } else if kind.is_file() && prefix.is_some_and(|it| name.as_str().starts_with(it)) {
+            } else if kind.is_file()
+                && matches!(prefix, Some(it) if name.as_str().starts_with(it))
+            {
                 names.push(name)?;
             }
         }
