@@ -2,6 +2,7 @@ mod NameLemmas
 mod FileLemmas
 mod ListLemmas
 mod MomentLemmas
+mod ListedRuns
 mod StepLemmas
 mod ReadLemmas
 mod ServeLemmas

@@ -12,7 +12,7 @@ use crate::edge::read_tile;
 use crate::error::LogError;
 use crate::log::stage_tiles;
 use crate::names::STATE;
-use crate::older::{compare_older_bundles, compare_older_tiles};
+use crate::older::{Newer, compare_older};
 use crate::opening::read_state;
 use crate::reading::read_entries;
 use crate::recovery::recover;
@@ -203,7 +203,7 @@ fn use_bundle<F: Folder>(
 {
     match use_as {
         Use::Stage => Ok(()),
-        Use::Compare => compare_older_bundles(alloc, folder, number, entries),
+        Use::Compare => compare_older(alloc, folder, &Newer::Bundle(number, entries)),
     }
 }
 
@@ -251,7 +251,7 @@ fn compare_tile<F: Folder>(
 {
     let found = read_tile(alloc, folder, stored.tile)?;
     if found.digests.as_slice() == stored.digests.as_slice() {
-        return compare_older_tiles(alloc, folder, stored);
+        return compare_older(alloc, folder, &Newer::Tile(stored));
     }
     let path = stored.tile.path(alloc)?;
     let fault = "isn't the tile over the entries of their bundles, so one of these files differs";

@@ -6,7 +6,7 @@ use crate::device::FolderError;
 use crate::names::{STAGED, STAGED_FOLDER};
 use std::alloc::{AllocError, Global};
 use std::cell::Cell;
-use std::fs::{File, Metadata};
+use std::fs::{DirEntry, File, FileType};
 use std::io::{ErrorKind, Read, Write};
 use std::{fs, io};
 
@@ -34,8 +34,21 @@ impl Disk<'_> {
         joined(self.rt.alloc(), self.root.as_str(), place.as_str())
     }
 
-    /// The refusal for a call on a name that failed.
-    pub(crate) fn failed(&self, name: &str, error: io::Error, is_read: bool) -> FolderError {
+    /// What a call on a name came to. If it was refused, its fault is told in the cell.
+    pub(crate) fn told<T>(
+        &self,
+        name: &str,
+        answer: io::Result<T>,
+        is_read: bool,
+    ) -> Result<T, FolderError> {
+        match answer {
+            Ok(value) => Ok(value),
+            Err(error) => Err(self.failed(name, error, is_read)),
+        }
+    }
+
+    // The refusal for a call on a name that failed.
+    fn failed(&self, name: &str, error: io::Error, is_read: bool) -> FolderError {
         match self.path(name) {
             Ok(path) if error.kind() != ErrorKind::OutOfMemory => {
                 self.fault.set(Some(Fault {
@@ -51,24 +64,24 @@ impl Disk<'_> {
 
     /// Whether a folder is there, if the one above it is. Refuses anything else.
     pub(crate) fn has_folder(&self, folder: &str) -> io::Result<bool> {
-        match self.found(folder)? {
-            Some(found) if !found.is_dir() => Err(ErrorKind::NotADirectory.into()),
-            found => Ok(found.is_some()),
+        match self.kind_at(folder)? {
+            Some(kind) if !kind.is_dir() => Err(ErrorKind::NotADirectory.into()),
+            kind => Ok(kind.is_some()),
         }
     }
 
     /// Whether a name has a file, if its folder is there. Refuses anything but a regular file.
     pub(crate) fn has_file(&self, name: &str) -> io::Result<bool> {
-        match self.found(name)? {
-            Some(found) if !found.is_file() => Err(ErrorKind::Unsupported.into()),
-            found => Ok(found.is_some()),
+        match self.kind_at(name)? {
+            Some(kind) if !kind.is_file() => Err(ErrorKind::Unsupported.into()),
+            kind => Ok(kind.is_some()),
         }
     }
 
-    // What stands at a name, if anything does: no link is followed.
-    fn found(&self, name: &str) -> io::Result<Option<Metadata>> {
+    // The kind of what stands at a name, if anything does: no link is followed.
+    fn kind_at(&self, name: &str) -> io::Result<Option<FileType>> {
         match fs::symlink_metadata(self.rt, self.path(name)?.as_str()) {
-            Ok(found) => Ok(Some(found)),
+            Ok(found) => Ok(Some(found.file_type())),
             Err(error) if error.kind() == ErrorKind::NotFound => Ok(None),
             Err(error) => Err(error),
         }
@@ -94,10 +107,7 @@ impl Disk<'_> {
 
     /// Makes a file where there is nothing, and forces its bytes.
     pub(crate) fn make_file(&self, name: &str, bytes: &[u8]) -> io::Result<()> {
-        let mut file = File::options()
-            .write(true)
-            .create_new(true)
-            .open(self.rt, self.path(name)?.as_str())?;
+        let mut file = File::create_new(self.rt, self.path(name)?.as_str())?;
         file.write_all(bytes)?;
         file.sync_all()
     }
@@ -120,38 +130,71 @@ impl Disk<'_> {
     /// The names below a folder that is there: of the files that begin with a prefix or, where none is given, of the folders,
     /// itself among them.
     pub(crate) fn below(&self, folder: &str, prefix: Option<&str>) -> io::Result<Vec<String>> {
-        let alloc = self.rt.alloc();
-        let (mut names, mut folders) = (Vec::new(alloc), Vec::new(alloc));
-        folders.push(String::from_str(alloc, folder)?)?;
+        let mut walk = Walk::new(self.rt.alloc(), folder)?;
         for _ in 0..u64::MAX {
-            let Some(folder) = folders.pop() else {
+            let Some(folder) = walk.folders.pop() else {
                 break;
             };
-            self.add_entries(&mut names, &mut folders, folder.as_str(), prefix)?;
+            self.look_through(&mut walk, folder.as_str(), prefix)?;
             if prefix.is_none() {
-                names.push(folder)?;
+                walk.names.push(folder)?;
             }
         }
-        Ok(names)
+        Ok(walk.names)
     }
 
-    // Adds the names of the files in a folder that begin with a prefix, and its folders.
-    fn add_entries(
+    // Adds what stands in a folder to a walk.
+    fn look_through(&self, walk: &mut Walk, folder: &str, prefix: Option<&str>) -> io::Result<()> {
+        for entry in fs::read_dir(self.rt, self.path(folder)?.as_str())? {
+            self.look_at(walk, folder, &entry?, prefix)?;
+        }
+        Ok(())
+    }
+
+    // Adds an entry of a folder to a walk.
+    fn look_at(
         &self,
-        names: &mut Vec<String>,
-        folders: &mut Vec<String>,
+        walk: &mut Walk,
         folder: &str,
+        entry: &DirEntry,
         prefix: Option<&str>,
     ) -> io::Result<()> {
-        for entry in fs::read_dir(self.rt, self.path(folder)?.as_str())? {
-            let entry = entry?;
-            let kind = entry.file_type()?;
-            let name = name_at(self.rt.alloc(), folder, entry.file_name())?;
-            if kind.is_dir() && folder != STAGED_FOLDER {
-                folders.push(name)?;
-            } else if kind.is_file() && prefix.is_some_and(|it| name.as_str().starts_with(it)) {
-                names.push(name)?;
-            }
+        let kind = entry.file_type()?;
+        let name = name_at(self.rt.alloc(), folder, entry.file_name())?;
+        Ok(walk.add(folder, name, kind, prefix)?)
+    }
+}
+
+// A walk through folders: the names that it found, and the folders through which it hasn't looked yet.
+#[derive(Drop)]
+struct Walk {
+    names: Vec<String>,
+    folders: Vec<String>,
+}
+
+impl Walk {
+    // One that begins at a folder.
+    fn new(alloc: Global, folder: &str) -> Result<Walk, AllocError> {
+        let mut folders = Vec::new(alloc);
+        folders.push(String::from_str(alloc, folder)?)?;
+        Ok(Walk {
+            names: Vec::new(alloc),
+            folders,
+        })
+    }
+
+    // Adds a file whose name begins with the prefix, or a folder: no folder stands where files are staged.
+    fn add(
+        &mut self,
+        above: &str,
+        name: String,
+        kind: FileType,
+        prefix: Option<&str>,
+    ) -> Result<(), AllocError> {
+        if kind.is_dir() && above != STAGED_FOLDER {
+            self.folders.push(name)?;
+        } else if kind.is_file() && matches!(prefix, Some(it) if name.as_str().starts_with(it)) {
+            self.names.push(name)?;
         }
         Ok(())
     }

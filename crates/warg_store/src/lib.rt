@@ -23,6 +23,7 @@ mod pruning;
 mod reader;
 mod reading;
 mod recovery;
+mod seen;
 mod signing;
 mod staging;
 mod system;

@@ -6,33 +6,73 @@ ghost use Rattle.warg_store.specs.Moments.{HasCause, HasCauseOf};
 use crate::device::{Folder, FolderError};
 use crate::edge::{damaged_bundle, entries_of, read_bundle, read_tile};
 use crate::error::LogError;
-use std::alloc::Global;
+use std::alloc::{AllocError, Global};
 use warg_crypto::Sha256;
 use warg_tiles::{StoredTile, Tile};
 
 // What is wrong with an older file.
 const NO_BEGINNING: &str = "isn't the beginning of the file that took its place";
 
-/// Reads the older partial tiles at the place of a tile. `Damaged` names one that isn't a beginning of the tile.
-pub(crate) fn compare_older_tiles<F: Folder>(
+/// A file that took the place of older partial ones.
+#[derive(Clone, Copy)]
+pub(crate) enum Newer<'a> {
+    Tile(&'a StoredTile<Sha256>),
+    /// The bundle of this number, with its entries.
+    Bundle(usize, &'a [Vec<u8>]),
+}
+
+impl Newer<'_> {
+    // The path of the full file in its place.
+    fn full_path(&self, alloc: Global) -> Result<String, AllocError> {
+        match self {
+            Newer::Tile(newer) => {
+                Tile::new(newer.tile.level(), newer.tile.number(), 256).path(alloc)
+            }
+            Newer::Bundle(number, _) => Tile::new(0, *number, 256).entries_path(alloc),
+        }
+    }
+}
+
+/// Reads the older partial files in the place of a newer one. `Damaged` names one that isn't a beginning of it.
+pub(crate) fn compare_older<F: Folder>(
     alloc: Global,
     folder: &mut F,
-    newer: &StoredTile<Sha256>,
+    newer: &Newer,
 ) -> Result<(), LogError>
     ensures cause { HasCauseOf (LogError.Folder FolderError.Failed) F.IsFaithful
         (F.faults folder.old) (F.faults folder.new) result }
 {
-    let full = Tile::new(newer.tile.level(), newer.tile.number(), 256);
-    let names = partial_names(alloc, folder, full.path(alloc)?)?;
+    let names = partial_names(alloc, folder, newer.full_path(alloc)?)?;
     'names: for name in names.as_slice() {
-        match Tile::from_path(name.as_str()) {
-            Ok(tile) if tile.width() < newer.tile.width() => {
-                compare_older_tile(alloc, folder, tile, newer)?;
-            }
-            _ => {}
-        }
+        compare_named(alloc, folder, name.as_str(), newer)?;
     }
     Ok(())
+}
+
+// Refuses the file of this name, if it is an older one and isn't a beginning of the newer one.
+fn compare_named<F: Folder>(
+    alloc: Global,
+    folder: &mut F,
+    name: &str,
+    newer: &Newer,
+) -> Result<(), LogError>
+    ensures cause { HasCauseOf (LogError.Folder FolderError.Failed) F.IsFaithful
+        (F.faults folder.old) (F.faults folder.new) result }
+{
+    match newer {
+        Newer::Tile(newer) => match Tile::from_path(name) {
+            Ok(tile) if tile.width() < newer.tile.width() => {
+                compare_older_tile(alloc, folder, tile, newer)
+            }
+            _ => Ok(()),
+        },
+        Newer::Bundle(_, entries) => match Tile::from_entries_path(name) {
+            Ok(tile) if tile.width() < entries.len() => {
+                compare_older_bundle(alloc, folder, &tile, entries)
+            }
+            _ => Ok(()),
+        },
+    }
 }
 
 // Refuses a tile that isn't a beginning of a newer one.
@@ -51,30 +91,6 @@ fn compare_older_tile<F: Folder>(
     }
     let path = tile.path(alloc)?;
     Err(LogError::damaged(alloc, path.as_str(), NO_BEGINNING))
-}
-
-/// Reads the older partial bundles at the place of a bundle with these entries. `Damaged` names one that isn't a beginning of
-/// it.
-pub(crate) fn compare_older_bundles<F: Folder>(
-    alloc: Global,
-    folder: &mut F,
-    number: usize,
-    entries: &[Vec<u8>],
-) -> Result<(), LogError>
-    ensures cause { HasCauseOf (LogError.Folder FolderError.Failed) F.IsFaithful
-        (F.faults folder.old) (F.faults folder.new) result }
-{
-    let full = Tile::new(0, number, 256);
-    let names = partial_names(alloc, folder, full.entries_path(alloc)?)?;
-    'names: for name in names.as_slice() {
-        match Tile::from_entries_path(name.as_str()) {
-            Ok(tile) if tile.width() < entries.len() => {
-                compare_older_bundle(alloc, folder, &tile, entries)?;
-            }
-            _ => {}
-        }
-    }
-    Ok(())
 }
 
 // Refuses a bundle that isn't a beginning of these entries.

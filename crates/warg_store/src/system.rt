@@ -7,9 +7,9 @@ ghost use Rattle.warg_store.specs.System.{nothing, OnlyNothing, NothingSince, no
 use crate::device::{Folder, FolderError};
 use crate::disk::{Disk, Fault, folder_of};
 use crate::names::{MARK, REPLACING, STAGED_FOLDER};
+use crate::seen::SeenFolders;
 use std::alloc::{AllocError, Global};
 use std::cell::Cell;
-use std::collections::BTreeMap;
 use std::io;
 
 /// A folder of the system's files. Each file is forced to the disk as it is written, and `sync` forces each folder in which a
@@ -21,8 +21,7 @@ use std::io;
 #[derive(Drop)]
 pub struct SystemFolder<'a> {
     disk: Disk<'a>,
-    // Folders that were seen to be there since the last sync, and whether a name in one is new or gone.
-    seen: BTreeMap<String, bool>,
+    seen: SeenFolders,
     // What an earlier run may have left is forced, too.
     is_settled: bool,
     // A sync has failed: the system may have dropped what was written.
@@ -39,27 +38,16 @@ impl<'a> SystemFolder<'a> {
         let root = String::from_str(rt.alloc(), path)?;
         Ok(SystemFolder {
             disk: Disk { rt, root, fault },
-            seen: BTreeMap::new(rt.alloc()),
+            seen: SeenFolders::new(rt.alloc()),
             is_settled: false,
             is_lost: false,
         })
     }
 
-    // Notes that a folder is there, and whether a name in it is new or gone.
-    fn note(&mut self, folder: &str, is_changed: bool) -> Result<(), AllocError> {
-        if !matches!(self.seen.get(folder), Some(true)) {
-            let folder = String::from_str(self.disk.rt.alloc(), folder)?;
-            self.seen.insert(folder, is_changed)?;
-        }
-        Ok(())
-    }
-
     // Whether a folder is there. Refuses one on whose path anything but a folder stands.
     fn has_folder(&self, folder: &str) -> io::Result<bool> {
-        if folder.is_empty() || self.seen.contains_key(folder) {
-            return Ok(true);
-        }
-        Ok(self.has_folder(folder_of(folder))? && self.disk.has_folder(folder)?)
+        let is_seen = self.seen.has(folder);
+        Ok(is_seen || self.has_folder(folder_of(folder))? && self.disk.has_folder(folder)?)
     }
 
     // Whether a name has a file. Refuses one that has anything else, and one behind a link.
@@ -69,14 +57,14 @@ impl<'a> SystemFolder<'a> {
 
     // Makes a folder where it isn't there, and those above it.
     fn make_folder(&mut self, folder: &str) -> io::Result<()> {
-        if folder.is_empty() || self.seen.contains_key(folder) {
+        if self.seen.has(folder) {
             return Ok(());
         }
         self.make_folder(folder_of(folder))?;
         if self.disk.make_folder(folder)? {
-            self.note(folder_of(folder), true)?;
+            self.seen.note(folder_of(folder), true)?;
         }
-        Ok(self.note(folder, false)?)
+        Ok(self.seen.note(folder, false)?)
     }
 
     fn read_file(&self, name: &str, most: usize) -> io::Result<Option<Vec<u8>>> {
@@ -100,7 +88,7 @@ impl<'a> SystemFolder<'a> {
         if self.has_file(name)? {
             self.disk.remove(name)?;
         }
-        self.note(folder_of(name), true)?;
+        self.seen.note(folder_of(name), true)?;
         self.disk.make_file(name, bytes)
     }
 
@@ -110,8 +98,8 @@ impl<'a> SystemFolder<'a> {
         }
         self.make_folder(folder_of(to))?;
         self.has_file(to)?;
-        self.note(folder_of(from), true)?;
-        self.note(folder_of(to), true)?;
+        self.seen.note(folder_of(from), true)?;
+        self.seen.note(folder_of(to), true)?;
         self.disk.rename(from, to)
     }
 
@@ -119,24 +107,17 @@ impl<'a> SystemFolder<'a> {
         if !self.has_file(name)? {
             return Ok(());
         }
-        self.note(folder_of(name), true)?;
+        self.seen.note(folder_of(name), true)?;
         self.disk.remove(name)
     }
 
-    // Forces the folders in which a name is new or gone, and forgets what was seen. The last in order is the first, so that a
-    // commit's files are forced where they are served before they are forced to be gone from the staged ones.
+    // Forces the folders in which a name is new or gone, the first time also those that an earlier run may have left.
     fn force_all(&mut self) -> io::Result<()> {
         if !self.is_settled {
             self.note_left()?;
             self.is_settled = true;
         }
-        for (folder, is_changed) in self.seen.iter().rev() {
-            if *is_changed {
-                self.disk.force(folder.as_str())?;
-            }
-        }
-        self.seen.clear();
-        Ok(())
+        self.seen.force(&self.disk)
     }
 
     // Notes the folders in which an earlier run may have left names that aren't forced: those of a log's own files, and, where
@@ -144,13 +125,13 @@ impl<'a> SystemFolder<'a> {
     fn note_left(&mut self) -> io::Result<()> {
         for folder in ["", ".log", STAGED_FOLDER] {
             if self.has_folder(folder)? {
-                self.note(folder, true)?;
+                self.seen.note(folder, true)?;
             }
         }
         if !matches!(self.has_file(MARK), Ok(false)) {
             for served in ["map", "tile"] {
                 for folder in &self.below(served, None)? {
-                    self.note(folder.as_str(), true)?;
+                    self.seen.note(folder.as_str(), true)?;
                 }
             }
         }
@@ -179,28 +160,27 @@ impl Folder for SystemFolder<'_> {
     ghost only_now = { λ _. nothing_now };
 
     fn read(&mut self, _: Global, name: &str, most: usize) -> Result<Option<Vec<u8>>, FolderError> {
-        self.read_file(name, most)
-            .map_err(|error| self.disk.failed(name, error, true))
+        self.disk.told(name, self.read_file(name, most), true)
     }
 
     fn list(&mut self, _: Global, prefix: &str) -> Result<Vec<String>, FolderError> {
-        self.below(folder_of(prefix), Some(prefix))
-            .map_err(|error| self.disk.failed(prefix, error, true))
+        self.disk
+            .told(prefix, self.below(folder_of(prefix), Some(prefix)), true)
     }
 
     fn write(&mut self, name: &str, bytes: &[u8]) -> Result<(), FolderError> {
-        self.make_file(name, bytes)
-            .map_err(|error| self.disk.failed(name, error, false))
+        let made = self.make_file(name, bytes);
+        self.disk.told(name, made, false)
     }
 
     fn rename(&mut self, from: &str, to: &str) -> Result<(), FolderError> {
-        self.move_file(from, to)
-            .map_err(|error| self.disk.failed(to, error, false))
+        let moved = self.move_file(from, to);
+        self.disk.told(to, moved, false)
     }
 
     fn remove(&mut self, name: &str) -> Result<(), FolderError> {
-        self.remove_file(name)
-            .map_err(|error| self.disk.failed(name, error, false))
+        let removed = self.remove_file(name);
+        self.disk.told(name, removed, false)
     }
 
     fn sync(&mut self) -> Result<(), FolderError> {
@@ -209,7 +189,7 @@ impl Folder for SystemFolder<'_> {
         }
         let forced = self.force_all();
         self.is_lost = forced.is_err();
-        forced.map_err(|error| self.disk.failed("", error, false))
+        self.disk.told("", forced, false)
     }
 
     fn replace(&mut self, name: &str, bytes: &[u8]) -> Result<(), FolderError> {

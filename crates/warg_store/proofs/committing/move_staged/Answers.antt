@@ -7,6 +7,7 @@ use Rattle.warg_store.specs.Files.{Files}
 use Rattle.warg_store.specs.Names.{staged}
 use Rattle.warg_store.specs.Private.Steps.{IsMoving}
 use Rattle.warg_store.proofs.StepLemmas.{moved_gone, moving_none}
+use Rattle.warg_store.proofs.ListedRuns.{list_leaves, list_then, list_then_sync}
 use Rattle.warg_store.proofs.committing.move_staged.Goals as goal
 
 pub returns-clause-moved : goal.returns-clause-moved
@@ -42,3 +43,27 @@ returns-clause-moving g c = λ faithful.
     subst (IsMoving first) (sym (c.sync.ensures.seen faithful))
     (subst (λ (s : Files). IsMoving s last) (c.list.ensures.seen faithful)
     (c.move_all.ensures.crash faithful last (g.met.F.Folder.seen_may_stay c.move_all.new.folder)))
+
+pub returns-in_err-names-clause-any_moment : goal.returns-in_err-names-clause-any_moment
+returns-in_err-names-clause-any_moment g c = λ faithful.
+    list_leaves g.F.Folder.seen g.F.Folder.may_leave g.F.Folder.moment g.F.Folder.left_since IsMoving c.args.folder.now
+    c.list.new.self (g.met.F.Folder.only_now c.args.folder.now) (λ f was. subst (IsMoving (g.F.Folder.seen c.args.folder.now)) (sym (c.requires faithful f was))
+    (moving_none (g.F.Folder.seen c.args.folder.now)))
+    (c.list.ensures.seen faithful) (c.list.ensures.crash faithful) (c.list.ensures.time faithful)
+
+pub returns-in_err-move_all-clause-any_moment : goal.returns-in_err-move_all-clause-any_moment
+returns-in_err-move_all-clause-any_moment g c = λ faithful.
+    list_then g.F.Folder.seen g.F.Folder.may_leave g.F.Folder.moment g.F.Folder.left_since IsMoving c.args.folder.now
+    c.list.new.self (g.met.F.Folder.only_now c.args.folder.now) (λ f was. subst (IsMoving (g.F.Folder.seen c.args.folder.now)) (sym (c.requires faithful f was))
+    (moving_none (g.F.Folder.seen c.args.folder.now)))
+    (c.list.ensures.seen faithful) (c.list.ensures.crash faithful) (c.list.ensures.time faithful)
+    c.move_all.new.folder (c.move_all.ensures.any_moment faithful)
+
+pub returns-clause-any_moment : goal.returns-clause-any_moment
+returns-clause-any_moment g c = λ faithful.
+    list_then_sync g.F.Folder.seen g.F.Folder.may_leave g.F.Folder.moment g.F.Folder.left_since IsMoving c.args.folder.now
+    c.list.new.self (g.met.F.Folder.only_now c.args.folder.now) (λ f was. subst (IsMoving (g.F.Folder.seen c.args.folder.now)) (sym (c.requires faithful f was))
+    (moving_none (g.F.Folder.seen c.args.folder.now)))
+    (c.list.ensures.seen faithful) (c.list.ensures.crash faithful) (c.list.ensures.time faithful)
+    c.move_all.new.folder c.sync.new.self (c.move_all.ensures.any_moment faithful) (c.move_all.ensures.crash faithful)
+    (c.sync.ensures.crash faithful) (c.sync.ensures.time faithful)

@@ -5,7 +5,9 @@ use Rattle.std.specs.declared.string.String.{String}
 use Rattle.std.specs.declared.alloc.Global.{Global}
 use Rattle.warg_store.specs.Files.{Files}
 use Rattle.warg_store.specs.Opening.{without_staged}
+use Rattle.warg_store.specs.Private.Steps.{IsRemoving}
 use Rattle.warg_store.proofs.StepLemmas.{all_removed}
+use Rattle.warg_store.proofs.ListedRuns.{list_leaves, list_then, list_then_sync}
 use Rattle.warg_store.proofs.staging.remove_staged.Goals as goal
 
 pub returns-clause-removed : goal.returns-clause-removed
@@ -24,3 +26,24 @@ returns-clause-removed g c = λ faithful.
     is))
     ∙ ap without_staged (c.list.ensures.seen faithful))
     (c.sync.ensures.durable faithful)
+
+pub returns-in_err-names-clause-any_moment : goal.returns-in_err-names-clause-any_moment
+returns-in_err-names-clause-any_moment g c = λ faithful.
+    list_leaves g.F.Folder.seen g.F.Folder.may_leave g.F.Folder.moment g.F.Folder.left_since IsRemoving c.args.folder.now
+    c.list.new.self (g.met.F.Folder.only_now c.args.folder.now) (c.requires faithful)
+    (c.list.ensures.seen faithful) (c.list.ensures.crash faithful) (c.list.ensures.time faithful)
+
+pub returns-in_err-remove_all-clause-any_moment : goal.returns-in_err-remove_all-clause-any_moment
+returns-in_err-remove_all-clause-any_moment g c = λ faithful.
+    list_then g.F.Folder.seen g.F.Folder.may_leave g.F.Folder.moment g.F.Folder.left_since IsRemoving c.args.folder.now
+    c.list.new.self (g.met.F.Folder.only_now c.args.folder.now) (c.requires faithful)
+    (c.list.ensures.seen faithful) (c.list.ensures.crash faithful) (c.list.ensures.time faithful)
+    c.remove_all.new.folder (c.remove_all.ensures.any_moment faithful)
+
+pub returns-clause-any_moment : goal.returns-clause-any_moment
+returns-clause-any_moment g c = λ faithful.
+    list_then_sync g.F.Folder.seen g.F.Folder.may_leave g.F.Folder.moment g.F.Folder.left_since IsRemoving c.args.folder.now
+    c.list.new.self (g.met.F.Folder.only_now c.args.folder.now) (c.requires faithful)
+    (c.list.ensures.seen faithful) (c.list.ensures.crash faithful) (c.list.ensures.time faithful)
+    c.remove_all.new.folder c.sync.new.self (c.remove_all.ensures.any_moment faithful) (c.remove_all.ensures.crash faithful)
+    (c.sync.ensures.crash faithful) (c.sync.ensures.time faithful)

@@ -8,10 +8,13 @@ use Rattle.warg_tiles.specs.TilePaths.{entries_path}
 use Rattle.warg_tiles.specs.TileLog.{RightEdge, StandsFor, AreTilesOf, full_between}
 use Rattle.warg_tiles.specs.declared.stored.StoredTile.{StoredTile}
 use Rattle.warg_store.specs.Files.{Files, put}
+use Rattle.warg_store.specs.Moments.{LeavesOnly}
 use Rattle.warg_store.specs.Names.{staged}
+use Rattle.warg_store.specs.Opening.{IsBeside}
 use Rattle.warg_store.specs.Staged.{staged_all, new_files}
 use Rattle.warg_store.specs.Growing.{LogIn}
 use Rattle.warg_store.proofs.GrowingLemmas.{filled_has, bundle_tile, same_tile}
+use Rattle.warg_store.proofs.ReadyRuns.{stages_twice}
 use Rattle.warg_store.proofs.log_folder.LogFolder.stage_full.Goals as goal
 
 pub returns-clause-has : goal.returns-clause-has
@@ -48,3 +51,21 @@ returns-clause-has g c = λ faithful served old next held has.
     ∙ ap (λ (f : Files). staged_all (new_files c.args.self.now.text.length tiles) f)
     (ap (λ (l : LogIn g.row.F.Denot). g.F.Folder.seen l.folder) c.self.view_is)))
     (c.stage_bundle.ensures.staging faithful)
+
+pub returns-in_err-stage_bundle-clause-any_moment : goal.returns-in_err-stage_bundle-clause-any_moment
+returns-in_err-stage_bundle-clause-any_moment g c = λ faithful.
+    stages_twice g.F.Folder.seen g.F.Folder.may_leave g.F.Folder.moment g.F.Folder.left_since g.met.F.Folder.counts_now
+    g.met.F.Folder.seen_may_stay c.args.self.now.folder c.stage_tiles.new.folder c.stage_bundle.new.folder
+    (subst (λ (f : g.row.F.Denot). LeavesOnly g.F.Folder.moment g.F.Folder.left_since f c.stage_tiles.new.folder
+    (IsBeside (g.F.Folder.seen f))) (ap (λ (l : LogIn g.row.F.Denot). l.folder) c.self.view_is)
+    (c.stage_tiles.ensures.any_moment faithful))
+    (c.stage_bundle.ensures.any_moment faithful)
+
+pub returns-clause-any_moment : goal.returns-clause-any_moment
+returns-clause-any_moment g c = λ faithful.
+    stages_twice g.F.Folder.seen g.F.Folder.may_leave g.F.Folder.moment g.F.Folder.left_since g.met.F.Folder.counts_now
+    g.met.F.Folder.seen_may_stay c.args.self.now.folder c.stage_tiles.new.folder c.stage_bundle.new.folder
+    (subst (λ (f : g.row.F.Denot). LeavesOnly g.F.Folder.moment g.F.Folder.left_since f c.stage_tiles.new.folder
+    (IsBeside (g.F.Folder.seen f))) (ap (λ (l : LogIn g.row.F.Denot). l.folder) c.self.view_is)
+    (c.stage_tiles.ensures.any_moment faithful))
+    (c.stage_bundle.ensures.any_moment faithful)
