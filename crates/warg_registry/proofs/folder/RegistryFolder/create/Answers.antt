@@ -1,10 +1,13 @@
-use Rattle.std.proofs.Common.{◌≡◌, ℕ, map, [], ◌∷◌, refl, sym, ap, subst, ◌∙◌}
+use Rattle.std.proofs.Common.{◌≡◌, ◌<◌, ◌⊎◌, ℕ, length, map, [], ◌∷◌, Err, IfErr, refl, sym, ap, subst, ◌∙◌}
 use Rattle.std.specs.declared.alloc.Global.{Global}
 use Rattle.std.specs.declared.vec.Vec.{Vec}
 use Rattle.warg_store.specs.Growing.{Has}
-use Rattle.warg_store.specs.Log.{LogOf}
-use Rattle.warg_registry.specs.Folder.{HasRegistry, RegistryIn}
+use Rattle.warg_store.specs.Log.{LogOf, CanBeKept}
+use Rattle.warg_store.specs.declared.opening.CreateError.{CreateError}
+use Rattle.warg_store.specs.declared.opening.CreateError.TheVariants.{Origin}
+use Rattle.warg_registry.specs.Folder.{registry_of, HasRegistry, RegistryIn}
 use Rattle.warg_registry.specs.Registry.{line_of}
+use Rattle.warg_registry.proofs.Refused.{told_as}
 use Rattle.warg_registry.proofs.RegistryGrowth.{empty_registry, no_insertions_root}
 use Rattle.warg_registry.proofs.folder.RegistryFolder.create.Goals as goal
 
@@ -23,3 +26,15 @@ returns-clause-has g c = λ faithful.
       root = no_insertions_root c.new-map.result.root c.new-map.ensures.root;
       count = c.new-map.ensures.version;
     })
+
+pub returns-in_err-log-clause-origin : goal.returns-in_err-log-clause-origin
+returns-in_err-log-clause-origin g c = λ refused.
+    let origin = c.args.origin.now in
+    let lines : map (λ (l : Vec ℕ Global). l.items) c.as_slice.result.now ≡ line_of c.new-map.result.root ∷ [] =
+    ap (map (λ (l : Vec ℕ Global). l.items)) c.as_slice.ensures.value ∙ c.in_ok-lines.ensures.lines in
+    let P : CreateError → Type 0 = λ e. e ≡ Origin → (65535 < length origin) ⊎ (CanBeKept (registry_of origin []) → ⊥) in
+    let Q : LogOf → Type 0 = λ n. (65535 < length origin) ⊎ (CanBeKept n → ⊥) in
+    let none = empty_registry origin c.new-map.result.root _ c.new-map.ensures.root lines in
+    subst (λ r. IfErr r P) refused (told_as P c.in_err-log.field-0.0 c.from_residual-in_err-log.result
+    c.from_residual-in_err-log.ensures.1
+    (λ is. subst Q none (c.in_err-log.ensures.origin (ap (λ e. Err e) is)))) refl

@@ -5,7 +5,7 @@ use Rattle.warg_tiles.specs.CheckpointText.{Said}
 use Rattle.warg_store.specs.Refusals.{IsNoFault}
 use Rattle.warg_store.specs.Log.{Serves}
 use Rattle.warg_store.specs.Files.{Files}
-use Rattle.warg_registry.specs.Folder.{registry_of}
+use Rattle.warg_registry.specs.Folder.{registry_of, IsNoFault as NoFault}
 use Rattle.warg_registry.proofs.FolderMoments.{log_read_then}
 use Rattle.warg_registry.proofs.MapLines.{map_digest}
 use Rattle.warg_registry.proofs.Pruned.{served_source}
@@ -50,13 +50,14 @@ pub returns-in-Err-Log-clause-whole : goal.returns-in-Err-Log-clause-whole
 returns-in-Err-Log-clause-whole g c = λ faithful known origin insertions read serves.
     let now : Serves (registry_of origin insertions) (g.F.Folder.seen c.args.self.now.log.folder) =
     subst (λ (f : Files). Serves (registry_of origin insertions) f) (sym read.read.found) serves in
-    c.in-Err-Log.ensures.err (sparse_root sha256 256 (map_of sha256 insertions)) (map_digest (map_of sha256 insertions))
-    (ap (λ (t : Said). t.extensions) (c.in_ok-text.ensures.said faithful (registry_of origin insertions) now))
+    subst NoFault c.in-Err-Log.field-0-is
+    (c.in-Err-Log.ensures.err (sparse_root sha256 256 (map_of sha256 insertions)) (map_digest (map_of sha256 insertions))
+    (ap (λ (t : Said). t.extensions) (c.in_ok-text.ensures.said faithful (registry_of origin insertions) now)))
 
-pub returns-in-Err-NoMap-clause-whole : goal.returns-in-Err-NoMap-clause-whole
-returns-in-Err-NoMap-clause-whole g c = λ faithful known origin insertions read serves.
+pub returns-clause-whole : goal.returns-clause-whole
+returns-clause-whole g c = λ faithful known origin insertions read serves.
     let now : Serves (registry_of origin insertions) (g.F.Folder.seen c.args.self.now.log.folder) =
     subst (λ (f : Files). Serves (registry_of origin insertions) f) (sym read.read.found) serves in
-    absurd (c.in-Err-NoMap.ensures.err (sparse_root sha256 256 (map_of sha256 insertions))
-    (map_digest (map_of sha256 insertions))
-    (ap (λ (t : Said). t.extensions) (c.in_ok-text.ensures.said faithful (registry_of origin insertions) now)))
+    absurd (subst NoFault c.in-Err-NoMap.field-0-is
+    (c.in-Err-NoMap.ensures.err (sparse_root sha256 256 (map_of sha256 insertions)) (map_digest (map_of sha256 insertions))
+    (ap (λ (t : Said). t.extensions) (c.in_ok-text.ensures.said faithful (registry_of origin insertions) now))))
