@@ -1,6 +1,7 @@
 mod NameLemmas
 mod FileLemmas
 mod ListLemmas
+mod OptionLemmas
 mod MomentLemmas
 mod ListedRuns
 mod StepLemmas

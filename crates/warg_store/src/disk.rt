@@ -6,7 +6,7 @@ use crate::device::FolderError;
 use crate::names::{STAGED, STAGED_FOLDER};
 use std::alloc::{AllocError, Global};
 use std::cell::Cell;
-use std::fs::{DirEntry, File, FileType};
+use std::fs::{File, FileType};
 use std::io::{ErrorKind, Read, Write};
 use std::{fs, io};
 
@@ -130,71 +130,41 @@ impl Disk<'_> {
     /// The names below a folder that is there: of the files that begin with a prefix or, where none is given, of the folders,
     /// itself among them.
     pub(crate) fn below(&self, folder: &str, prefix: Option<&str>) -> io::Result<Vec<String>> {
-        let mut walk = Walk::new(self.rt.alloc(), folder)?;
-        for _ in 0..u64::MAX {
-            let Some(folder) = walk.folders.pop() else {
-                break;
-            };
-            self.look_through(&mut walk, folder.as_str(), prefix)?;
-            if prefix.is_none() {
-                walk.names.push(folder)?;
-            }
-        }
-        Ok(walk.names)
-    }
-
-    // Adds what stands in a folder to a walk.
-    fn look_through(&self, walk: &mut Walk, folder: &str, prefix: Option<&str>) -> io::Result<()> {
-        for entry in fs::read_dir(self.rt, self.path(folder)?.as_str())? {
-            self.look_at(walk, folder, &entry?, prefix)?;
-        }
-        Ok(())
-    }
-
-    // Adds an entry of a folder to a walk.
-    fn look_at(
-        &self,
-        walk: &mut Walk,
-        folder: &str,
-        entry: &DirEntry,
-        prefix: Option<&str>,
-    ) -> io::Result<()> {
-        let kind = entry.file_type()?;
-        let name = name_at(self.rt.alloc(), folder, entry.file_name())?;
-        Ok(walk.add(folder, name, kind, prefix)?)
-    }
-}
-
-// A walk through folders: the names that it found, and the folders through which it hasn't looked yet.
-#[derive(Drop)]
-struct Walk {
-    names: Vec<String>,
-    folders: Vec<String>,
-}
-
-impl Walk {
-    // One that begins at a folder.
-    fn new(alloc: Global, folder: &str) -> Result<Walk, AllocError> {
+        let alloc = self.rt.alloc();
+        let mut names = Vec::new(alloc);
         let mut folders = Vec::new(alloc);
         folders.push(String::from_str(alloc, folder)?)?;
-        Ok(Walk {
-            names: Vec::new(alloc),
-            folders,
-        })
+        for _ in 0..u64::MAX {
+            let Some(folder) = folders.pop() else {
+                break;
+            };
+            self.add_entries(&mut names, &mut folders, folder.as_str(), prefix)?;
+            if prefix.is_none() {
+                names.push(folder)?;
+            }
+        }
+        Ok(names)
     }
 
-    // Adds a file whose name begins with the prefix, or a folder: no folder stands where files are staged.
-    fn add(
-        &mut self,
-        above: &str,
-        name: String,
-        kind: FileType,
+    // Adds the names of the files in a folder that begin with a prefix, and its folders.
+    fn add_entries(
+        &self,
+        names: &mut Vec<String>,
+        folders: &mut Vec<String>,
+        folder: &str,
         prefix: Option<&str>,
-    ) -> Result<(), AllocError> {
-        if kind.is_dir() && above != STAGED_FOLDER {
-            self.folders.push(name)?;
-        } else if kind.is_file() && matches!(prefix, Some(it) if name.as_str().starts_with(it)) {
-            self.names.push(name)?;
+    ) -> io::Result<()> {
+        for entry in fs::read_dir(self.rt, self.path(folder)?.as_str())? {
+            let entry = entry?;
+            let kind = entry.file_type()?;
+            let name = name_at(self.rt.alloc(), folder, entry.file_name())?;
+            if kind.is_dir() && folder != STAGED_FOLDER {
+                folders.push(name)?;
+            } else if kind.is_file()
+                && matches!(prefix, Some(it) if name.as_str().starts_with(it))
+            {
+                names.push(name)?;
+            }
         }
         Ok(())
     }

@@ -7,6 +7,7 @@ use Rattle.warg_store.specs.Names.{checkpoint, state}
 use Rattle.warg_store.specs.Opening.{AgreesWith, IsTakenOver}
 use Rattle.warg_store.specs.Log.{LogOf, Serves, Keeps, HasLog, said_of}
 use Rattle.warg_store.specs.Refusals.{IsNoFault}
+use Rattle.warg_store.proofs.OptionLemmas.{one_value, no_value}
 use Rattle.warg_store.proofs.WholeLemmas.{err_same}
 use Rattle.warg_store.proofs.MomentLemmas.{begins, then, then_reads, read_twice, weaker}
 use Rattle.warg_store.proofs.OpenLemmas.{kept_said}
@@ -20,9 +21,8 @@ returns-in_default-clause-text g c = λ faithful.
     (λ (text : Said). (served log : LogOf) → HasLog served log (g.F.Folder.seen c.args.folder.now)
     → (text ≡ said_of log) × Keeps served log last)
     (λ text taken served log has. ⊎_elim
-    (λ keeps. let gone : ◌≡◌ {A = Option Said} None (Some (said_of log)) = sym c.in_default.is
-    ∙ c.in_ok-state.ensures.text faithful (said_of log) None (kept_said log keeps.can) keeps.state in
-    absurd (cc (gone)))
+    (λ keeps. absurd (no_value _ _ c.in_default.is
+    (c.in_ok-state.ensures.text faithful (said_of log) None (kept_said log keeps.can) keeps.state)))
     (λ without. let found = taken log (subst (Serves log) (sym (c.read_text.ensures.seen faithful)) without.2) in
     (found.0, subst (λ (s : LogOf). Keeps s log last) (sym without.0) found.1))
     has)
@@ -34,12 +34,10 @@ returns-clause-text g c = λ faithful served log has.
     ∙ c.read_text.ensures.seen faithful in
     ⊎_elim
     (λ keeps.
-    let both : ◌≡◌ {A = Option Said} (Some c.in-Some.state) (Some (said_of log)) = sym c.in-Some.is
-    ∙ c.in_ok-state.ensures.text faithful (said_of log) None (kept_said log keeps.can) keeps.state in
-    let said : c.in-Some.state ≡ said_of log = cc (both) in
+    let said = one_value _ c.in-Some.state (said_of log) c.in-Some.is
+    (c.in_ok-state.ensures.text faithful (said_of log) None (kept_said log keeps.can) keeps.state) in
     (said, subst (Keeps served log) (sym same) keeps))
-    (λ without. let gone : ◌≡◌ {A = Option Said} (Some c.in-Some.state) None = sym c.in-Some.is
-    ∙ (c.in_ok-state.ensures.none faithful).1 without.1 in absurd (cc (gone)))
+    (λ without. absurd (no_value _ _ ((c.in_ok-state.ensures.none faithful).1 without.1) c.in-Some.is))
     has
 
 pub returns-in_err-state-clause-whole : goal.returns-in_err-state-clause-whole
@@ -54,14 +52,12 @@ returns-in_err-compare-clause-whole g c = λ faithful served log has.
     c.from_residual-in_err-compare.ensures.1 (⊎_elim
     (λ keeps.
     let first = c.read_text.ensures.seen faithful in
-    let both : ◌≡◌ {A = Option Said} (Some c.in-Some.state) (Some (said_of log)) = sym c.in-Some.is
-    ∙ c.in_ok-state.ensures.text faithful (said_of log) None (kept_said log keeps.can) keeps.state in
-    let said : c.in-Some.state ≡ said_of log = cc (both) in
+    let said = one_value _ c.in-Some.state (said_of log) c.in-Some.is
+    (c.in_ok-state.ensures.text faithful (said_of log) None (kept_said log keeps.can) keeps.state) in
     c.in_err-compare.ensures.whole faithful served log
     (subst (Keeps served log) (sym (c.read_served.ensures.seen faithful ∙ first)) keeps) said
     (c.in_ok-served.ensures.text faithful served (subst (Serves served) (sym first) keeps.serves)))
-    (λ without. let gone : ◌≡◌ {A = Option Said} (Some c.in-Some.state) None = sym c.in-Some.is
-    ∙ (c.in_ok-state.ensures.none faithful).1 without.1 in absurd (cc (gone)))
+    (λ without. absurd (no_value _ _ ((c.in_ok-state.ensures.none faithful).1 without.1) c.in-Some.is))
     has)
 
 pub returns-clause-any_moment : goal.returns-clause-any_moment

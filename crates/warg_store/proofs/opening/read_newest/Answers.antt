@@ -4,6 +4,7 @@ use Rattle.warg_store.specs.Files.{Files}
 use Rattle.warg_store.specs.Names.{checkpoint}
 use Rattle.warg_store.specs.Log.{Serves, Keeps, said_of}
 use Rattle.warg_store.specs.Refusals.{IsNoFault}
+use Rattle.warg_store.proofs.OptionLemmas.{one_value, no_value}
 use Rattle.warg_store.proofs.WholeLemmas.{err_same, has_serves, one_serves, one_state, one_newest}
 use Rattle.warg_store.proofs.OpenLemmas.{kept_said}
 use Rattle.warg_store.proofs.opening.read_newest.Goals as goal
@@ -15,13 +16,13 @@ returns-in-Some-state-2-clause-text g c faithful =
     let found = c.in_ok-served.ensures.text faithful (said_of log) serves.checkpoint.0 (kept_said log serves.can)
     (ap (λ (f : Files). f checkpoint) first ∙ serves.checkpoint.1) in
     newest log (subst (Serves log) (sym (c.read_text-2.ensures.seen faithful ∙ first)) serves)
-    (cc (found, c.in-Some.is))) (c.newest_of.ensures.text faithful)
+    (one_value _ _ _ c.in-Some.is found)) (c.newest_of.ensures.text faithful)
 
 pub returns-in-None-state-clause-text : goal.returns-in-None-state-clause-text
 returns-in-None-state-clause-text g c faithful log serves =
     let found = c.in_ok-served.ensures.text faithful (said_of log) serves.checkpoint.0 (kept_said log serves.can)
     (ap (λ (f : Files). f checkpoint) (c.read_text.ensures.seen faithful) ∙ serves.checkpoint.1) in
-    cc (found, c.in-Some.is)
+    one_value _ _ _ c.in-Some.is found
 
 pub returns-in_err-state-clause-whole : goal.returns-in_err-state-clause-whole
 returns-in_err-state-clause-whole g c = λ faithful served log has.
@@ -42,7 +43,7 @@ returns-in_default-clause-whole g c = λ faithful served log has.
     let serves = has_serves served log (g.F.Folder.seen c.args.folder.now) has in
     let found = c.in_ok-served.ensures.text faithful (said_of served) serves.checkpoint.0 (kept_said served serves.can)
     (ap (λ (f : Files). f checkpoint) (c.read_text.ensures.seen faithful) ∙ serves.checkpoint.1) in
-    absurd (cc (found, c.in_default.is))
+    absurd (no_value _ _ c.in_default.is found)
 
 pub returns-in-Some-state-2-clause-whole : goal.returns-in-Some-state-2-clause-whole
 returns-in-Some-state-2-clause-whole g c = λ faithful served log has.
@@ -52,9 +53,8 @@ returns-in-Some-state-2-clause-whole g c = λ faithful served log has.
     let said = c.in_ok-state.ensures.text faithful (said_of log) None (kept_said log keeps.can) keeps.state in
     c.newest_of.ensures.whole faithful served log
     (λ idle. subst (Keeps served log) (sym (c.read_text-2.ensures.seen faithful ∙ first)) keeps)
-    (cc (said, c.in-Some-state-2.is)))
-    (λ without. absurd (let none = (c.in_ok-state.ensures.none faithful).1 without.1 in cc
-    (none, c.in-Some-state-2.is)))
+    (one_value _ _ _ c.in-Some-state-2.is said))
+    (λ without. absurd (no_value _ _ ((c.in_ok-state.ensures.none faithful).1 without.1) c.in-Some-state-2.is))
     has
 
 pub returns-in_err-state-clause-meanwhile : goal.returns-in_err-state-clause-meanwhile
@@ -76,7 +76,7 @@ returns-in_default-clause-meanwhile g c = λ faithful served old next one.
     let is = one_serves served old next (g.F.Folder.seen c.args.folder.now) one in
     let found = c.in_ok-served.ensures.text faithful (said_of is.0) is.1.checkpoint.0 (kept_said is.0 is.1.can)
     (ap (λ (f : Files). f checkpoint) (c.read_text.ensures.seen faithful) ∙ is.1.checkpoint.1) in
-    absurd (cc (found, c.in_default.is))
+    absurd (no_value _ _ c.in_default.is found)
 
 pub returns-in-Some-state-2-clause-meanwhile : goal.returns-in-Some-state-2-clause-meanwhile
 returns-in-Some-state-2-clause-meanwhile g c = λ faithful served old next one.
@@ -84,5 +84,5 @@ returns-in-Some-state-2-clause-meanwhile g c = λ faithful served old next one.
     let is = one_newest served old next files (g.F.Folder.seen c.read_text-2.new.folder) c.in-Some-state-2.state
     (c.read_text-2.ensures.seen faithful ∙ c.read_text.ensures.seen faithful) one
     (λ log has. let said = c.in_ok-state.ensures.text faithful (said_of log) None (kept_said log has.can) has.text in
-    cc (said, c.in-Some-state-2.is)) in
+    one_value _ _ _ c.in-Some-state-2.is said) in
     c.newest_of.ensures.whole faithful is.0 is.1 is.2 is.3

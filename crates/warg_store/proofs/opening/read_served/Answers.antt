@@ -1,6 +1,7 @@
 use Rattle.std.proofs.Common.{◌≡◌, Option, Some, sym, ◌∙◌}
 use Rattle.warg_tiles.specs.CheckpointText.{Said}
 use Rattle.warg_store.specs.Log.{said_of}
+use Rattle.warg_store.proofs.OptionLemmas.{one_value, no_value}
 use Rattle.warg_store.proofs.OpenLemmas.{kept_said}
 use Rattle.warg_store.specs.Refusals.{IsNoFault}
 use Rattle.warg_store.proofs.WholeLemmas.{err_same}
@@ -8,16 +9,12 @@ use Rattle.warg_store.proofs.opening.read_served.Goals as goal
 
 pub returns-in-Some-clause-text : goal.returns-in-Some-clause-text
 returns-in-Some-clause-text g c = λ faithful log serves.
-    let both : ◌≡◌ {A = Option Said} (Some c.in-Some.text) (Some (said_of log)) = sym c.in-Some.is
-    ∙ c.in_ok-text.ensures.text faithful (said_of log) serves.checkpoint.0
-    (kept_said log serves.can) serves.checkpoint.1 in
-    cc (both)
+    one_value _ _ _ c.in-Some.is (c.in_ok-text.ensures.text faithful (said_of log) serves.checkpoint.0
+    (kept_said log serves.can) serves.checkpoint.1)
 
 pub returns-in-Some-clause-said : goal.returns-in-Some-clause-said
 returns-in-Some-clause-said g c = λ faithful said behind can there.
-    let both : ◌≡◌ {A = Option Said} (Some c.in-Some.text) (Some said) = sym c.in-Some.is
-    ∙ c.in_ok-text.ensures.text faithful said behind can there in
-    cc (both)
+    one_value _ _ _ c.in-Some.is (c.in_ok-text.ensures.text faithful said behind can there)
 
 pub returns-in_err-text-clause-whole : goal.returns-in_err-text-clause-whole
 returns-in_err-text-clause-whole g c = λ faithful log serves.
@@ -27,6 +24,5 @@ returns-in_err-text-clause-whole g c = λ faithful log serves.
 
 pub returns-in-None-clause-whole : goal.returns-in-None-clause-whole
 returns-in-None-clause-whole g c = λ faithful log serves.
-    let found = c.in_ok-text.ensures.text faithful (said_of log) serves.checkpoint.0
-    (kept_said log serves.can) serves.checkpoint.1 in
-    absurd (cc (found, c.in-None.is))
+    absurd (no_value _ _ c.in-None.is (c.in_ok-text.ensures.text faithful (said_of log) serves.checkpoint.0
+    (kept_said log serves.can) serves.checkpoint.1))

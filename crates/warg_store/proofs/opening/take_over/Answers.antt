@@ -3,6 +3,7 @@ use Rattle.warg_tiles.specs.CheckpointText.{Said, text_of, text_before}
 use Rattle.warg_store.specs.Files.{Files, put}
 use Rattle.warg_store.specs.Names.{checkpoint, state}
 use Rattle.warg_store.specs.Log.{HasFiles, Keeps, said_of, checkpoint_of}
+use Rattle.warg_store.proofs.OptionLemmas.{one_value, no_value}
 use Rattle.warg_store.proofs.OpenLemmas.{kept_said, agrees_self, taken_over}
 use Rattle.warg_store.specs.Growing.{ArePartsOf}
 use Rattle.warg_store.specs.Refusals.{IsNoFault}
@@ -16,10 +17,8 @@ use Rattle.warg_store.proofs.opening.take_over.Goals as goal
 pub returns-clause-text : goal.returns-clause-text
 returns-clause-text g c = λ faithful log serves.
     let seen = g.F.Folder.seen in
-    let both : ◌≡◌ (Some c.in-Some.served) (Some (said_of log)) = sym c.in-Some.is
-    ∙ c.in_ok-served.ensures.text faithful (said_of log) serves.checkpoint.0
-    (kept_said log serves.can) serves.checkpoint.1 in
-    let said : c.in-Some.served ≡ said_of log = cc (both) in
+    let said = one_value _ c.in-Some.served (said_of log) c.in-Some.is (c.in_ok-served.ensures.text faithful (said_of log)
+    serves.checkpoint.0 (kept_said log serves.can) serves.checkpoint.1) in
     let same = c.read_edge.ensures.seen faithful ∙ c.read_text.ensures.seen faithful in
     let bytes : c.as_slice-2.result.now ≡ checkpoint_of log = c.as_slice-2.ensures.value ∙ c.in_ok-bytes.ensures
     ∙ ap text_of said in (
@@ -33,10 +32,8 @@ returns-clause-text g c = λ faithful log serves.
 
 pub returns-in_err-edge-clause-whole : goal.returns-in_err-edge-clause-whole
 returns-in_err-edge-clause-whole g c = λ faithful log serves.
-    let both : ◌≡◌ (Some c.in-Some.served) (Some (said_of log)) = sym c.in-Some.is
-    ∙ c.in_ok-served.ensures.text faithful (said_of log) serves.checkpoint.0
-    (kept_said log serves.can) serves.checkpoint.1 in
-    let said : c.in-Some.served ≡ said_of log = cc (both) in
+    let said = one_value _ c.in-Some.served (said_of log) c.in-Some.is (c.in_ok-served.ensures.text faithful (said_of log)
+    serves.checkpoint.0 (kept_said log serves.can) serves.checkpoint.1) in
     let size : c.length.result ≡ length log.entries = c.length.ensures ∙ c.checkpoint-checkpoint.ensures.length
     ∙ ap (λ (s : Said). s.length) said in
     err_same (IsNoFault ⊥) c.in_err-edge.field-0.0 c.from_residual-in_err-edge.result
@@ -46,10 +43,8 @@ returns-in_err-edge-clause-whole g c = λ faithful log serves.
 
 pub returns-in_err-open_edge-clause-whole : goal.returns-in_err-open_edge-clause-whole
 returns-in_err-open_edge-clause-whole g c = λ faithful log serves.
-    let both : ◌≡◌ (Some c.in-Some.served) (Some (said_of log)) = sym c.in-Some.is
-    ∙ c.in_ok-served.ensures.text faithful (said_of log) serves.checkpoint.0
-    (kept_said log serves.can) serves.checkpoint.1 in
-    let said : c.in-Some.served ≡ said_of log = cc (both) in
+    let said = one_value _ c.in-Some.served (said_of log) c.in-Some.is (c.in_ok-served.ensures.text faithful (said_of log)
+    serves.checkpoint.0 (kept_said log serves.can) serves.checkpoint.1) in
     let size : c.length.result ≡ length log.entries = c.length.ensures ∙ c.checkpoint-checkpoint.ensures.length
     ∙ ap (λ (s : Said). s.length) said in
     let parts = c.in_ok-edge.ensures.edge faithful log size
@@ -68,15 +63,13 @@ returns-in_err-served-clause-whole g c = λ faithful log serves.
 
 pub returns-in_default-clause-whole : goal.returns-in_default-clause-whole
 returns-in_default-clause-whole g c = λ faithful log serves.
-    let found = c.in_ok-served.ensures.text faithful (said_of log) serves.checkpoint.0
-    (kept_said log serves.can) serves.checkpoint.1 in
-    absurd (cc (found, c.in_default.is))
+    absurd (no_value _ _ c.in_default.is (c.in_ok-served.ensures.text faithful (said_of log) serves.checkpoint.0
+    (kept_said log serves.can) serves.checkpoint.1))
 
 pub returns-clause-agrees : goal.returns-clause-agrees
 returns-clause-agrees g c = λ faithful served behind can there.
-    let both : ◌≡◌ (Some c.in-Some.served) (Some served) = sym c.in-Some.is
-    ∙ c.in_ok-served.ensures.text faithful served behind can there in
-    let same : c.in-Some.served ≡ served = cc (both) in
+    let same = one_value _ c.in-Some.served served c.in-Some.is (c.in_ok-served.ensures.text faithful served behind can
+    there) in
     subst (AgreesWith c.in-Some.served) same (agrees_self c.in-Some.served)
 
 pub returns-clause-any_moment : goal.returns-clause-any_moment
@@ -90,8 +83,8 @@ returns-clause-any_moment g c = λ faithful only none.
     let P : Files → Type 0 = λ f. (f ≡ first) ⊎ IsTakenOver first f in
     let says : (said : Said) (behind : Option (List ℕ)) → CanBeServed said
     → first checkpoint ≡ Some (text_before said behind) → text ≡ text_of said = λ said behind can there.
-    let read = c.in_ok-served.ensures.text faithful said behind can there in
-    let same : c.in-Some.served ≡ said = cc (read, c.in-Some.is) in
+    let same = one_value _ c.in-Some.served said c.in-Some.is (c.in_ok-served.ensures.text faithful said behind can
+    there) in
     c.as_slice-2.ensures.value ∙ c.in_ok-bytes.ensures ∙ ap text_of same in
     let edge = then_reads moment since may g.met.F.Folder.counts_now c.args.folder.now c.read_text.new.folder
     c.read_edge.new.folder Same

@@ -1,6 +1,6 @@
 use Rattle.std.proofs.Common.{sym, subst}
 use Rattle.warg_store.specs.Memory.{MayLeave, stays}
-use Rattle.warg_store.proofs.MemoryLemmas.{synced}
+use Rattle.warg_store.proofs.MemoryLemmas.{synced, elapses, same_moment}
 use Rattle.warg_store.proofs.memory.MemoryFolderFolder.sync.Goals as goal
 
 pub returns-clause-durable : goal.returns-clause-durable
@@ -14,3 +14,9 @@ pub returns-clause-crash : goal.returns-clause-crash
 returns-clause-crash c = λ faithful. λ e left. subst (MayLeave c.args.self.now.calls.items)
     (sym ((synced c.args.self.now.calls.items c.add.new.calls.items c.in_ok-add.ensures.ok).1 e left))
     (stays c.args.self.now.calls.items)
+
+pub returns-in_err-add-clause-time : goal.returns-in_err-add-clause-time
+returns-in_err-add-clause-time c = λ faithful. same_moment c.args.self.now _ c.in_err-add.ensures.err
+
+pub returns-clause-time : goal.returns-clause-time
+returns-clause-time c = λ faithful. elapses c.args.self.now _ _ c.in_ok-add.ensures.ok
