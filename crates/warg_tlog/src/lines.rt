@@ -1,10 +1,9 @@
 //! Standard input, line by line.
 
-use crate::refusal::{Refusal, on_stream};
+use crate::refusal::{Refusal, read};
 use hex::FromHexError;
 use memchr::memchr;
 use std::alloc::{AllocError, Global};
-use std::io;
 use std::io::{BufRead, BufReader, Input, Read, Take};
 
 // The greatest number of bytes of an entry.
@@ -16,21 +15,14 @@ const MOST_INSERTION: usize = MOST - 16;
 // A line of the greatest entry, with a carriage return, a newline and one byte more.
 const LONGEST: u64 = 131_073;
 
-// How many bytes are read at a time.
-const AT_ONCE: usize = 1 << 16;
-
 const NO_INSERTION: &str =
     "isn't an insertion: write KEY VALUE, each two hexadecimal digits for each byte or - for no bytes";
-
-const LONG_INSERTION: &str = "is too long: a key and its value have at most 65,519 bytes together";
-
-type Reader = <HostRuntime as Input>::Reader;
 
 /// The lines of standard input, one at a time.
 #[derive(Drop)]
 pub struct Lines {
     alloc: Global,
-    input: Take<BufReader<Reader>>,
+    input: Take<BufReader<<HostRuntime as Input>::Reader>>,
     // The line, with its end.
     line: Vec<u8>,
     entry: Vec<u8>,
@@ -41,7 +33,7 @@ impl Lines {
     /// The lines of standard input, before the first.
     pub fn new(rt: &HostRuntime) -> Result<Lines, Refusal> {
         let alloc = rt.alloc();
-        let input = read(alloc, BufReader::with_capacity(alloc, AT_ONCE, rt.reader()))?;
+        let input = read(BufReader::with_capacity(alloc, 1 << 16, rt.reader()))?;
         Ok(Lines {
             alloc,
             input: input.take(LONGEST),
@@ -59,11 +51,20 @@ impl Lines {
         if let Some(newline) = memchr(b'\n', held) {
             self.line.extend_from_slice(&held[..newline + 1])?;
             self.input.consume(newline + 1);
-        } else if read(self.alloc, self.input.read_until(b'\n', &mut self.line))? == 0 {
+        } else if read(self.input.read_until(b'\n', &mut self.line))? == 0 {
             return Ok(false);
         }
         self.number = self.number.saturating_add(1);
         Ok(true)
+    }
+
+    // Goes on to the next line, whose newline has to be there. False at the end of the input.
+    fn go_on_whole(&mut self) -> Result<bool, Refusal> {
+        let is_there = self.go_on()?;
+        if is_there && !self.line.ends_with(b"\n") && (self.line.len() as u64) < LONGEST {
+            return Err(self.refused("has no end: whoever wrote it may have died"));
+        }
+        Ok(is_there)
     }
 
     /// The line's bytes, without its newline, and without a carriage return before that.
@@ -83,23 +84,11 @@ impl Lines {
             return Err(self.refused("is too long: an entry has at most 65,535 bytes"));
         }
         self.entry.resize(digits.len() / 2, 0)?;
-        if hex::decode_to_slice(digits, self.entry.as_mut_slice()).is_err() {
-            return Err(self.refused(
-                "isn't an entry: write two hexadecimal digits for each byte, and nothing else",
-            ));
+        let fault = "isn't an entry: write two hexadecimal digits for each byte, and nothing else";
+        match hex::decode_to_slice(digits, self.entry.as_mut_slice()) {
+            Ok(()) => Ok(self.entry.as_slice()),
+            Err(_) => Err(self.refused(fault)),
         }
-        Ok(self.entry.as_slice())
-    }
-
-    // Goes on to the next line, whose newline has to be there. False at the end of the input.
-    fn go_on_whole(&mut self) -> Result<bool, Refusal> {
-        if !self.go_on()? {
-            return Ok(false);
-        }
-        if !self.line.ends_with(b"\n") && (self.line.len() as u64) < LONGEST {
-            return Err(self.refused("has no end: whoever wrote it may have died"));
-        }
-        Ok(true)
     }
 
     /// Goes on to the next entry, in digits on a line or else in bytes; none at the end of the input.
@@ -111,20 +100,6 @@ impl Lines {
             return Ok(None);
         }
         Ok(Some(self.entry()?))
-    }
-
-    /// Goes on to the next line and returns its key and its value; none at the end of the input.
-    pub fn next_insertion(&mut self) -> Result<Option<(Vec<u8>, Vec<u8>)>, Refusal> {
-        if !self.go_on_whole()? {
-            return Ok(None);
-        }
-        match insertion_in(self.alloc, self.line())? {
-            None => Err(self.refused(NO_INSERTION)),
-            Some((key, value)) if key.len().saturating_add(value.len()) > MOST_INSERTION => Err(
-                self.refused(LONG_INSERTION),
-            ),
-            insertion => Ok(insertion),
-        }
     }
 
     // The next entry as a bundle has it: two bytes of length, the greater one first, and its bytes.
@@ -147,14 +122,30 @@ impl Lines {
     fn gather(&mut self, count: u16) -> Result<(), Refusal> {
         self.entry.clear();
         self.input.set_limit(u64::from(count));
-        read(self.alloc, self.input.read_to_end(&mut self.entry))?;
+        read(self.input.read_to_end(&mut self.entry))?;
         Ok(())
     }
-}
 
-/// What a read of standard input returned.
-pub fn read<T: Drop>(alloc: Global, done: io::Result<T>) -> Result<T, Refusal> {
-    on_stream(alloc, "standard input", true, done)
+    /// Goes on to the next line and returns its key and its value; none at the end of the input.
+    pub fn next_insertion(&mut self) -> Result<Option<(Vec<u8>, Vec<u8>)>, Refusal> {
+        if !self.go_on_whole()? {
+            return Ok(None);
+        }
+        let (key, value) = self.insertion()?.ok_or(self.refused(NO_INSERTION))?;
+        let fault = "is too long: a key and its value have at most 65,519 bytes together";
+        if key.len().saturating_add(value.len()) > MOST_INSERTION {
+            return Err(self.refused(fault));
+        }
+        Ok(Some((key, value)))
+    }
+
+    // The key and the value of the line, if it has both.
+    fn insertion(&self) -> Result<Option<(Vec<u8>, Vec<u8>)>, AllocError> {
+        let line = self.line();
+        let (key, value) = line.split_at(memchr(b' ', line).unwrap_or(line.len()));
+        let key = word_in(self.alloc, key)?;
+        Ok(key.zip(word_in(self.alloc, value.strip_prefix(b" ").unwrap_or(value))?))
+    }
 }
 
 // A line without its newline, and without a carriage return before that.
@@ -163,23 +154,14 @@ fn without_end(line: &[u8]) -> &[u8] {
     line.strip_suffix(b"\r").unwrap_or(line)
 }
 
-// The key and the value of a line, if it has both.
-fn insertion_in(alloc: Global, line: &[u8]) -> Result<Option<(Vec<u8>, Vec<u8>)>, AllocError> {
-    let (key, value) = line.split_at(memchr(b' ', line).unwrap_or(line.len()));
-    let key = decoded(alloc, key)?;
-    let value = decoded(alloc, value.strip_prefix(b" ").unwrap_or(value))?;
-    Ok(key.zip(value))
-}
-
 /// The bytes of a word of hexadecimal digits, or of none for `-`, if it is such.
-pub fn decoded(alloc: Global, word: &[u8]) -> Result<Option<Vec<u8>>, AllocError> {
+pub fn word_in(alloc: Global, word: &[u8]) -> Result<Option<Vec<u8>>, AllocError> {
     match word {
         [] => Ok(None),
         [b'-'] => Ok(Some(Vec::new(alloc))),
         digits => match hex::decode(alloc, digits) {
-            Ok(bytes) => Ok(Some(bytes)),
             Err(FromHexError::OutOfMemory) => Err(AllocError),
-            Err(_) => Ok(None),
+            bytes => Ok(bytes.ok()),
         },
     }
 }

@@ -12,7 +12,7 @@ mod usage;
 mod verify;
 
 use clap::ArgMatches;
-use refusal::{Refusal, on_stream};
+use refusal::{Refusal, said};
 use session::Session;
 use std::env;
 use std::io::ErrorKind;
@@ -36,24 +36,17 @@ fn answer(rt: &HostRuntime) -> Result<bool, Refusal> {
     match command(rt.alloc())?.try_get_matches_from(words.as_slice()) {
         Ok(matches) => run_command(rt, &matches),
         Err(error) if error.use_stderr() => Err(Refusal::of_arguments(rt.alloc(), &error)?),
-        Err(help) => {
-            Session::new(rt, "").said(help.print(rt))?;
-            Ok(true)
-        }
+        Err(help) => said(help.print(rt)).map(|()| true),
     }
 }
 
 // The words of the command line, the program's name first.
 fn commandline(rt: &HostRuntime) -> Result<Vec<String>, Refusal> {
-    match env::args(rt) {
-        Err(error) if error.kind() == ErrorKind::InvalidData => Err(Refusal::Argument(
-            "an argument isn't UTF-8",
-        )),
-        words => {
-            let words = on_stream(rt.alloc(), "the command line", true, words)?;
-            Ok(words.collect::<Vec<String>>(rt.alloc())?)
-        }
-    }
+    let words = env::args(rt).map_err(|error| match error.kind() {
+        ErrorKind::InvalidData => Refusal::Argument("an argument isn't UTF-8".into()),
+        _ => Refusal::of("the command line", error, true),
+    })?;
+    Ok(words.collect::<Vec<String>>(rt.alloc())?)
 }
 
 // Does what a command asks for. False where a claim is.
@@ -61,31 +54,27 @@ fn run_command(rt: &HostRuntime, matches: &ArgMatches<'_>) -> Result<bool, Refus
     let Some((name, asked)) = matches.subcommand() else {
         return Ok(true);
     };
-    let session = Session::new(rt, text(asked, "FOLDER"));
     if name == "verify" {
-        return verify(&session);
+        return verify(rt);
     }
-    if session.folder.is_empty() {
-        return Err(Refusal::Argument("the folder has no name"));
-    }
-    run(&session, name, asked)?;
+    run(&Session::new(rt, text(asked, "FOLDER"))?, name, asked)?;
     Ok(true)
 }
 
 // Does what a command on a folder asks for.
 fn run(session: &Session<'_>, name: &str, asked: &ArgMatches<'_>) -> Result<(), Refusal> {
     match name {
-        "init" => log::init(session, asked),
-        "append" => log::append(session, asked),
-        "publish" => registry::publish(session, asked),
-        "sign" => log::sign(session),
-        "prune" => log::prune(session),
-        "rebuild" => log::rebuild(session),
-        "page" => log::put_page(session),
-        "checkpoint" => log::print_checkpoint(session),
-        "prove" => log::print_inclusion(session, asked),
-        "consistency" => log::print_consistency(session, asked),
-        "get" => registry::print_key(session, asked),
-        _ => log::audit(session),
+        "init" => session.init(asked),
+        "append" => session.append(asked),
+        "publish" => session.publish(asked),
+        "sign" => session.sign(),
+        "prune" => session.prune(),
+        "rebuild" => session.rebuild(),
+        "page" => session.put_page(),
+        "checkpoint" => session.print_checkpoint(),
+        "prove" => session.print_inclusion(asked),
+        "consistency" => session.print_consistency(asked),
+        "get" => session.print_key(asked),
+        _ => session.audit(),
     }
 }

@@ -2,6 +2,7 @@
 
 use crate::session::Session;
 use std::alloc::{AllocError, Global};
+use std::borrow::CowStr;
 use std::io;
 use std::io::ErrorKind;
 use thiserror::Error;
@@ -12,9 +13,7 @@ use warg_store::{Damage, FolderError, FolderLock, LockError, LogError};
 #[derive(Debug, Drop, Error)]
 pub enum Refusal {
     #[error("{0}; see warg_tlog --help")]
-    Argument(&'static str),
-    #[error("{0}; see warg_tlog --help")]
-    Arguments(String),
+    Argument(CowStr<'static>),
     #[error("line {0} of standard input {1}")]
     Line(usize, &'static str),
     #[error("an entry on standard input has more than 65,535 bytes")]
@@ -40,13 +39,13 @@ pub enum Refusal {
     #[error("the log is at another checkpoint, of {0} entries")]
     Elsewhere(usize),
     #[error("{0} can't be written, as there is no room: make room and run the command again, the log is as it was")]
-    NoRoom(String),
+    NoRoom(CowStr<'static>),
     #[error("{0} can't be written: {1}; the log is as it was, or has all that was to be added: see warg_tlog checkpoint FOLDER")]
-    Unwritable(String, io::Error),
+    Unwritable(CowStr<'static>, io::Error),
     #[error("{0} can't be written any more by this run: run the command again")]
     Lost(String),
     #[error("{0} can't be read: {1}")]
-    Unreadable(String, io::Error),
+    Unreadable(CowStr<'static>, io::Error),
     #[error("out of memory: run the command again with more, the log is as it was")]
     Memory(#[from(alloc)] AllocError),
     #[error("the log has 2^63 entries and takes no more: make another by warg_tlog init FOLDER ORIGIN")]
@@ -61,7 +60,7 @@ impl Refusal {
     /// The exit status.
     pub fn status(&self) -> u8 {
         match self {
-            Refusal::Argument(_) | Refusal::Arguments(_) => 2,
+            Refusal::Argument(_) => 2,
             Refusal::Line(..) | Refusal::LongEntry | Refusal::Note(_) => 3,
             Refusal::NoLog(_) => 4,
             Refusal::Exists(_) => 5,
@@ -81,18 +80,15 @@ impl Refusal {
     /// That the command line isn't understood. What it says goes up to the first empty line.
     pub fn of_arguments(alloc: Global, error: &clap::Error) -> Result<Refusal, AllocError> {
         let text = error.to_string(alloc)?;
-        let mut line = String::new(alloc);
-        for part in text.lines().take_while(|part| !part.is_empty()) {
-            if !line.is_empty() {
-                line.push(' ')?;
-            }
-            line.push_str(part.strip_prefix("error:").unwrap_or(part).trim())?;
-        }
-        Ok(Refusal::Arguments(line))
+        let lines = text.lines().take_while(|line| !line.is_empty());
+        let parts = lines.map(|line| line.strip_prefix("error:").unwrap_or(line).trim());
+        let parts: Vec<&str> = parts.collect(alloc)?;
+        Ok(Refusal::Argument(parts.join(alloc, " ")?.into()))
     }
 
-    /// That the system refused a call on a file.
-    pub fn of(path: String, error: io::Error, is_read: bool) -> Refusal {
+    /// That the system refused a call on a file or a stream.
+    pub fn of(path: impl Into<CowStr<'static>>, error: io::Error, is_read: bool) -> Refusal {
+        let path = path.into();
         match error.kind() {
             ErrorKind::OutOfMemory => Refusal::Memory(AllocError),
             _ if is_read => Refusal::Unreadable(path, error),
@@ -102,17 +98,14 @@ impl Refusal {
     }
 }
 
-/// What a call on a stream returned, or the refusal for it.
-pub fn on_stream<T: Drop>(
-    alloc: Global,
-    name: &str,
-    is_read: bool,
-    done: io::Result<T>,
-) -> Result<T, Refusal> {
-    match done {
-        Ok(value) => Ok(value),
-        Err(error) => Err(Refusal::of(String::from_str(alloc, name)?, error, is_read)),
-    }
+/// What became of a write on standard output.
+pub fn said(done: io::Result<()>) -> Result<(), Refusal> {
+    done.map_err(|error| Refusal::of("standard output", error, false))
+}
+
+/// What a read of standard input returned.
+pub fn read<T: Drop>(done: io::Result<T>) -> Result<T, Refusal> {
+    done.map_err(|error| Refusal::of("standard input", error, true))
 }
 
 impl Session<'_> {
@@ -127,9 +120,9 @@ impl Session<'_> {
     /// What became of a registry that was to be opened.
     pub fn opened<T: Drop>(&self, opened: Result<T, RegistryError>) -> Result<T, Refusal> {
         match opened {
-            Ok(registry) => Ok(registry),
             Err(RegistryError::NoMap) => Err(Refusal::NoMap(self.name()?)),
-            Err(RegistryError::Log(error)) => Err(self.of_log(error)?),
+            Err(RegistryError::Log(error)) => self.done(Err(error)),
+            Ok(registry) => Ok(registry),
         }
     }
 
@@ -146,34 +139,22 @@ impl Session<'_> {
 
     // The refusal for a call on a log or a registry.
     fn of_call(&self, error: PublishError) -> Result<Refusal, AllocError> {
-        match error {
-            PublishError::TooLong => Ok(Refusal::LongEntry),
-            PublishError::Full => Ok(Refusal::Full),
-            PublishError::Closed => Ok(Refusal::Lost(self.name()?)),
-            PublishError::Log(error) => self.of_log(error),
-        }
-    }
-
-    // The refusal for a log that isn't opened or read.
-    fn of_log(&self, error: LogError) -> Result<Refusal, AllocError> {
-        match error {
-            LogError::NoLog => Ok(Refusal::NoLog(self.name()?)),
-            LogError::Damaged(damage) => self.of_damage(&damage),
-            LogError::RolledBack { found, newest } => {
-                Ok(Refusal::RolledBack(self.path("checkpoint")?, found, newest))
+        Ok(match error {
+            PublishError::TooLong => Refusal::LongEntry,
+            PublishError::Full => Refusal::Full,
+            PublishError::Closed => Refusal::Lost(self.name()?),
+            PublishError::Log(LogError::NoLog) => Refusal::NoLog(self.name()?),
+            PublishError::Log(LogError::Damaged(damage)) => self.of_damage(&damage)?,
+            PublishError::Log(LogError::RolledBack { found, newest }) => {
+                Refusal::RolledBack(self.path("checkpoint")?, found, newest)
             }
-            LogError::OutOfRange { bound } => Ok(Refusal::OutOfRange(bound)),
-            LogError::Folder(error) => self.of_folder(error),
-        }
-    }
-
-    /// The refusal for a call on the folder.
-    pub fn of_folder(&self, error: FolderError) -> Result<Refusal, AllocError> {
-        match (error, self.fault.take()) {
-            (FolderError::Memory, _) => Err(AllocError),
-            (_, Some(it)) => Ok(Refusal::of(it.path, it.error, it.is_read)),
-            (_, None) => Ok(Refusal::Lost(self.name()?)),
-        }
+            PublishError::Log(LogError::OutOfRange { bound }) => Refusal::OutOfRange(bound),
+            PublishError::Log(LogError::Folder(FolderError::Memory)) => Refusal::Memory(AllocError),
+            PublishError::Log(LogError::Folder(FolderError::Failed)) => match self.fault.take() {
+                Some(it) => Refusal::of(it.path, it.error, it.is_read),
+                None => Refusal::Lost(self.name()?),
+            },
+        })
     }
 
     // The refusal for a file that isn't what it is to be.

@@ -1,12 +1,14 @@
-//! A run on one folder: its runtime, the folder's name, and what the system refused.
+//! A command's run on one folder: its runtime, the folder's name, and what the system refused.
 
-use crate::refusal::{Refusal, on_stream};
+use crate::refusal::Refusal;
 use std::alloc::AllocError;
 use std::cell::Cell;
-use std::io;
 use warg_store::{Fault, FolderLock, LogFolder, LogReader, Progress, SystemFolder};
 
-/// A run on one folder.
+/// A log in a folder of the system's.
+pub type Log<'a> = LogFolder<SystemFolder<'a>>;
+
+/// A command's run on one folder.
 #[derive(Drop)]
 pub struct Session<'a> {
     pub rt: &'a HostRuntime,
@@ -17,13 +19,16 @@ pub struct Session<'a> {
 }
 
 impl<'a> Session<'a> {
-    /// A run on the folder of this name.
-    pub fn new(rt: &'a HostRuntime, folder: &'a str) -> Session<'a> {
-        Session {
+    /// The run on the folder of this name.
+    pub fn new(rt: &'a HostRuntime, folder: &'a str) -> Result<Session<'a>, Refusal> {
+        if folder.is_empty() {
+            return Err(Refusal::Argument("the folder has no name".into()));
+        }
+        Ok(Session {
             rt,
             folder,
             fault: Cell::new(None),
-        }
+        })
     }
 
     /// The folder's files.
@@ -37,7 +42,7 @@ impl<'a> Session<'a> {
     }
 
     /// The folder's log, for the one who holds the folder's lock.
-    pub fn log(&self) -> Result<LogFolder<SystemFolder<'_>>, Refusal> {
+    pub fn log(&self) -> Result<Log<'_>, Refusal> {
         self.done(LogFolder::open(self.rt.alloc(), self.files()?))
     }
 
@@ -48,23 +53,12 @@ impl<'a> Session<'a> {
 
     /// The path of a file of the folder.
     pub fn path(&self, name: &str) -> Result<String, AllocError> {
-        let folder = self.folder;
-        format!(in self.rt.alloc(); "{folder}/{name}")
+        format!(in self.rt.alloc(); "{}/{name}", self.folder)
     }
 
     /// The folder's own path.
     pub fn name(&self) -> Result<String, AllocError> {
         String::from_str(self.rt.alloc(), self.folder)
-    }
-
-    /// What became of a write on standard output.
-    pub fn said(&self, done: io::Result<()>) -> Result<(), Refusal> {
-        on_stream(self.rt.alloc(), "standard output", false, done)
-    }
-
-    /// Prints where the entries begin that were added, and the new length.
-    pub fn say_added(&self, first: usize, length: usize) -> Result<(), Refusal> {
-        self.said(println!(self.rt; "first {first}, length {length}"))
     }
 }
 
@@ -74,10 +68,9 @@ pub struct Counted<'a>(pub &'a HostRuntime, pub usize);
 
 impl Progress for Counted<'_> {
     fn step(&mut self) {
-        let count = self.1.saturating_add(1);
-        if count % 1_000_000 == 0 {
-            let _ = eprintln!(self.0; "warg_tlog: {count} entries");
+        self.1 = self.1.saturating_add(1);
+        if self.1 % 1_000_000 == 0 {
+            let _ = eprintln!(self.0; "warg_tlog: {} entries", self.1);
         }
-        self.1 = count;
     }
 }

@@ -1,8 +1,7 @@
 //! The command that judges a path from standard input alone.
 
 use crate::lines::Lines;
-use crate::refusal::Refusal;
-use crate::session::Session;
+use crate::refusal::{Refusal, said};
 use base64::engine::general_purpose::STANDARD;
 use std::alloc::{AllocError, Global};
 use warg_crypto::{Hash, Sha256};
@@ -23,9 +22,9 @@ enum Claim {
 }
 
 /// Says whether the path on standard input shows the claim above it, and prints that.
-pub fn verify(session: &Session<'_>) -> Result<bool, Refusal> {
-    let verdict = judged(session.rt.alloc(), &mut Lines::new(session.rt)?)?;
-    session.said(println!(session.rt; "{verdict}"))?;
+pub fn verify(rt: &HostRuntime) -> Result<bool, Refusal> {
+    let verdict = judged(rt.alloc(), &mut Lines::new(rt)?)?;
+    said(println!(rt; "{verdict}"))?;
     Ok(verdict)
 }
 
@@ -71,9 +70,8 @@ fn path_in(alloc: Global, lines: &mut Lines) -> Result<Vec<Hash<Sha256>>, Refusa
 
 // The claim of a line.
 fn claim_in(alloc: Global, line: &[u8]) -> Result<Option<Claim>, AllocError> {
-    let line = str::from_utf8(line).unwrap_or("");
-    let words: Vec<&str> = line.split(' ').collect(alloc)?;
-    Ok(claim_of(words.as_slice()))
+    let words = str::from_utf8(line).unwrap_or("").split(' ');
+    Ok(claim_of(words.collect::<Vec<&str>>(alloc)?.as_slice()))
 }
 
 fn claim_of(words: &[&str]) -> Option<Claim> {
