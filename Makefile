@@ -1,5 +1,5 @@
 # Entry points; 'make' alone lists them. The first line of a target's comment is its help.
-.PHONY: help run verdict tlog try test kit-gate wrong-bodies bench definitions ffi ffi-test install dist interop
+.PHONY: help run verdict tlog try test wrong-bodies bench definitions ffi ffi-test install dist interop
 
 PROVE = python3 scripts/prove_all.py $(if $(V),--notes) $(if $(CPU),--cpu $(CPU))
 
@@ -31,13 +31,9 @@ tlog:
 	mkdir -p bin && cp crates/warg_tlog/out/proved/warg_tlog bin/warg_tlog && \
 	echo "bin/warg_tlog keeps a log in a folder; see bin/warg_tlog --help"
 
-# Runs the merge gate: each proof from nothing, the tests, the programs, the wrong bodies, the examples.
+# Runs the merge gate: the kit's own with each proof, test and program, the wrong bodies, the examples.
 test:
 	@python3 scripts/gate.py
-
-# Runs the kit's own gate, which keeps nothing of any proof and tries must-fail/ by itself: before a release.
-kit-gate:
-	@rt ci
 
 # Tries wrong bodies; of one crate with CRATE=warg_log, by a word of their names with ONLY=push.
 wrong-bodies:

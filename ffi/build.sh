@@ -1,19 +1,17 @@
 #!/usr/bin/env bash
 # Proves the static library, and leaves it for C at ffi/libwarg.a and ffi/libwarg.so, and beside the modules for Python and
-# Go. Nothing but the calls of ffi/warg.h can be seen in either. With --as-proved it takes the one that the gate has just
-# proved. CPU=x86-64-v3 builds for newer processors.
+# Go. Nothing but the calls of ffi/warg.h can be seen in either. With --as-proved it stands on the libraries that the gate has
+# just proved. CPU=x86-64-v3 builds for newer processors.
 set -eu
 cd "$(dirname "$0")/.."
 kit="$(dirname "$(rt doc)")"
 work="$(mktemp -d)"
 trap 'rm -rf "$work"' EXIT
 
-if [ "${1:-}" = --as-proved ]; then
-    library=crates/warg_ffi/out/libwarg_ffi.a
-else
-    python3 scripts/prove_all.py ${CPU:+--cpu "$CPU"} warg_ffi
-    library=crates/warg_ffi/out/proved/libwarg_ffi.a
-fi
+over=
+[ "${1:-}" != --as-proved ] || over=--over-gate
+python3 scripts/prove_all.py ${CPU:+--cpu "$CPU"} $over warg_ffi
+library=crates/warg_ffi/out/proved/libwarg_ffi.a
 parts=("$library" "$kit/c/liblibc_c.a")
 sed -n 's/^u\{0,1\}int32_t \(warg_[a-z_]*\)(.*/\1/p' ffi/warg.h > "$work/calls"
 { echo '{ global:'; sed 's/$/;/' "$work/calls"; echo 'local: *; };'; } > "$work/version"

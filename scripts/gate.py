@@ -1,11 +1,9 @@
 #!/usr/bin/env python3
-"""Shows that the tree may be merged, on a copy of it without what earlier checks left: looks.py and pages.py, which
-look at the text; prove_all.py, which proves the crates from nothing and runs the programs, the vectors and the tests; the wrong bodies
-over the work that these proofs have kept; the examples for C, Python, Rust and Go; the archive of make dist, packed twice; the programs
-with right and wrong arguments, and disturbed; and the comparisons with Google's protobuf and Go's checksum database, and the page of
-explorer/ in Chromium, where these are there.
-
-The kit's own gate, rt ci, keeps nothing of a proof, and so proves a crate once more for its wrong bodies: make kit-gate.
+"""Shows that the tree may be merged, on a copy of it without what earlier checks left: looks.py and pages.py, which look at the text;
+the kit's own gate, rt ci, which proves each crate and its tests from nothing, unless a run on this machine has proved the same files,
+and runs the tests and the programs; the wrong bodies over the libraries that it has built; the examples for C, Python, Rust and Go;
+the archive of make dist, packed twice; the programs with right and wrong arguments, and disturbed; and the comparisons with Google's
+protobuf and Go's checksum database, and the page of explorer/ in Chromium, where these are there.
 
 Prints what each part took in processor minutes, and last 'N passed, M failed'.
 """
@@ -21,19 +19,17 @@ import time
 
 import kit
 
-BUILT = {it: f"crates/{it}/out/{it}" for it in ("warg_check_cli", "warg_verdict", "warg_tlog", "warg_vectors")}
-CHECK, VERDICT, TLOG, VECTORS = BUILT.values()
+CHECK, VERDICT, TLOG, VECTORS = (f"crates/{it}/out/{it}" for it in ("warg_check_cli", "warg_verdict", "warg_tlog", "warg_vectors"))
 TWICE = "scripts/dist.sh --as-proved; mv dist first; scripts/dist.sh --as-proved; diff -r first dist"
 BEFORE = {
     "the text": ["looks.py"],
     "the pages": ["pages.py", "--check"],
-    "proofs, builds and tests": ["prove_all.py"],
+    "proofs, builds and tests": ["rt", "ci"],
 }
-# What is tried over the proofs, and the programs that have just been built.
+# What is tried over the libraries and the programs that have been built.
 BEHIND = {
     "wrong bodies": ["wrong_bodies.py"],
     "examples for C, Python, Rust and Go, and the archive": ["bash", "-ec", f"ffi/build.sh --as-proved; ffi/test.sh; {TWICE}"],
-    "what the programs can call": ["looks.py", *(f"{name}={BUILT[name]}" for name in [*BUILT][:3])],
     "the programs": ["check_programs.py", CHECK, VERDICT, TLOG, "warg_check", "warg_verdict", "warg_tlog"],
     "appends that are disturbed": ["check_programs.py", CHECK, VERDICT, TLOG, "disturbed", "power"],
     "comparison with Google's protobuf": ["check_programs.py", CHECK, VERDICT, TLOG, "protobuf"],
@@ -47,7 +43,9 @@ for it in golang-go golang-golang-x-mod-dev protobuf-compiler strace chromium; d
 # The files that git tracks, and the new ones that it does not ignore (whoever owns the checkout).
 COPY = """git -c safe.directory='*' ls-files -z --cached --others --exclude-standard |
 xargs -0 ls -d 2> /dev/null | tar -cT - | tar -xC "$0" """
-COUNTED = re.compile(r"[\w ]+: (\d+) (?:ok|refused), (\d+) failed")
+COUNTED = re.compile(r"(?:[\w ]+: )?(\d+) (?:ok|refused|passed), (\d+) failed")
+# What rt ci says of each item that is proved and each library that is read.
+USUAL = re.compile(r"(?:fn|struct|enum|trait|impl|macro) .*: proved$|(?:statements|logic|by-macro:|crate) ")
 
 
 def used():
@@ -62,7 +60,7 @@ def tried(tree, words):
     line, is_run = "", True
     with subprocess.Popen(words, cwd=tree, stdout=subprocess.PIPE, text=True, errors="replace") as part:
         for line in part.stdout:
-            print(line, end="", flush=True)
+            print("" if USUAL.match(line) else line, end="", flush=True)
             is_run = is_run and ": not run, " not in line
     counted = COUNTED.match(line)
     if counted and bool(int(counted[2])) == bool(part.returncode):

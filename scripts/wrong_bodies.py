@@ -3,14 +3,15 @@
 
 An edit is a line 'file: src/lib.rt' and then pairs of lines 'old: TEXT' and 'new: TEXT', each old text standing
 there once; 'old line: TEXT' stands for a whole line. One check of a copy of the crate carries a round of edits, one a
-proof at most: a function's proof rests on its callees' contracts and not on their bodies, and the check names each
-function with an open goal of its own. An edit is refused exactly if the check names such a goal, or an error in its
-proof files, of the function that it changes, or of one in a cycle of calls with it, as these have one proof. What waits
-for a callee, lacks a name or was cut off goes to the next round. An edit that changes more than one function's body goes
-alone, and so does each that no round has judged. What is still let through fails.
+proof at most, and looks at the functions that they change and those below them: a function's proof rests on its callees'
+contracts and not on their bodies, and the check names each function with an open goal of its own. An edit is refused
+exactly if the check names such a goal, or an error in its proof files, of the function that it changes, or of one in a
+cycle of calls with it, as these have one proof. What waits for a callee, lacks a name or was cut off goes to the next
+round. An edit that changes more than one function's body goes alone, over the whole crate, and so does each that no
+round has judged. What is still let through fails.
 
-A crate whose check has kept nothing is first proved without any edit, into a folder that each round starts from a copy of.
-Of a program, which has few edits, only the functions that they change and those below them are checked.
+The checks of a crate keep their work in one folder, which begins with what rt check has left in out/, if that is there.
+The libraries below are those that rt ci or rt check has left.
 
 The edits in wrong-bodies/planted change no meaning, and show that this script can fail: each must come out as let
 through, and one named waits_* must wait, in its first round, for the broken function that it calls.
@@ -126,13 +127,13 @@ def rename(folder, before, old, new):
 class Check:
     """What the prover says of a copy of a crate with some edits."""
 
-    def __init__(self, said, is_whole):
-        self.said, self.is_whole = said, is_whole
+    def __init__(self, said, is_read):
+        self.said, self.is_read = said, is_read
         self.lines = dict(re.findall(r"^fn (\S+): (.*)$", said, re.M))
         found = re.findall(r"^(?:\./)?proofs/(\S*?)/?\w+\.antt:\d+:\d+: error: (.*)$", said, re.M)
         self.faults = {folder.replace("+", "") for folder, fault in found if not LACKS_A_NAME.search(fault)}
         self.asked = {it.partition(": ")[0]: dict(ASKS.findall(it)) for it in re.split(r"^fn ", said, flags=re.M)[1:]}
-        self.is_proved = bool(re.search(r"^(logic=proved|only=(\d+) proved=\2$)", said, re.M))
+        self.is_proved = bool(re.search(r"^logic=proved", said, re.M))
 
     def is_broken(self, name):
         """Whether a function has an open goal of its own, or an error in its own proof that is no lack of a name."""
@@ -149,27 +150,34 @@ class Check:
                 found.add((folder, *words))
         return found
 
-    def answer(self, edit, names, reached, is_alone):
-        """Returns what it says of an edit of these functions: refused, proved, or a word why it says nothing yet."""
+    def answer(self, edit):
+        """Returns what it says of one of its edits: refused, proved, or a word why it says nothing yet."""
+        names = edit.names(self.lines)
         said = self.lines[names[0]] if names else ""
-        if not self.is_whole:
+        if not self.is_read:
             return "unread: " + next((it for it in self.said.splitlines() if "error" in it), "")[:200]
-        if any(map(self.is_broken, names)) or is_alone and (reached or not edit.functions and self.faults):
+        if any(map(self.is_broken, names)):
             return "refused"
-        if said.startswith("proved") or is_alone and self.is_proved:
+        if said.startswith("proved"):
             return "proved"
         if names and self.renamed(names[0]) - edit.renamed:
             edit.renamed |= self.renamed(names[0])
             return RENAMED
         return "waits" if WAITS.search(said) else f"unjudged: {said[:200]}"
 
+    def answer_whole(self, edit):
+        """Returns what a check of the whole crate with one edit alone says of it."""
+        if self.is_read and (any(map(self.is_broken, self.lines)) or not edit.functions and self.faults):
+            return "refused"
+        return "proved" if self.is_proved else self.answer(edit)
+
 
 class Crate:
-    """A crate whose wrong bodies are tried, over a copy of the work that its proof has left."""
+    """A crate whose wrong bodies are tried. Its checks keep their work in a folder of their own."""
 
     def __init__(self, name, only):
-        self.name, self.folder = name, kit.ROOT / "crates" / name
-        self.kept, self.seconds, self.checks, self.known = self.folder / "out/incremental", 0.0, 0, []
+        self.name, self.folder, self.kept = name, kit.ROOT / "crates" / name, None
+        self.seconds, self.checks = 0.0, 0
         self.texts = {str(it.relative_to(self.folder)): it.read_text() for it in sorted(self.folder.glob("src/**/*.rt"))}
         self.functions, cycles = {}, collections.defaultdict(list)
         for file, text in self.texts.items():
@@ -186,8 +194,6 @@ class Crate:
         for edit in self.edits:
             own = self.function_of(edit)
             edit.functions = [own, *(it for cycle in cycles.values() if own in cycle for it in cycle if it != own)] if own else []
-        changed = [it.functions[0] if it.functions else "" for it in self.edits]
-        self.scope = [word for it in changed for word in ("--only", it)] if "src/main.rt" in self.texts else []
 
     def function_of(self, edit):
         """Returns the end of the name of the one function that holds all of the edit's old texts outside its clauses, or none."""
@@ -200,11 +206,12 @@ class Crate:
             found.add(around[-1] if around else "")
         return found.pop() if len(found) == 1 else ""
 
-    def check(self, edits, keeps=None, flags=()):
-        """Checks a copy of the crate with these edits, over a copy of its kept work, or into a folder that keeps it."""
+    def check(self, edits, is_whole):
+        """Checks a copy of the crate with these edits: the whole crate, or the functions that they change and those below them."""
         texts = self.texts
         for edit in edits:
             texts = applied(edit, texts)
+        scope = [] if is_whole else [word for it in edits for word in ("--only", it.functions[0])]
         with tempfile.TemporaryDirectory(prefix="wrong-bodies-") as room:
             for part in filter(lambda it: (self.folder / it).is_dir(), kit.PARTS):
                 shutil.copytree(self.folder / part, f"{room}/{part}")
@@ -212,37 +219,27 @@ class Crate:
                 pathlib.Path(room, file).write_text(text)
             for folder, *words in {it for edit in edits for it in edit.renamed}:
                 rename(f"{room}/proofs/{folder}", *words)
-            if not keeps:
-                shutil.copytree(self.kept, f"{room}/kept", copy_function=os.link)
-            words = [kit.RATTLE, "check", *kit.words(self.name), *self.scope, "--jobs", "1", "--incremental", keeps or f"{room}/kept"]
-            _, said, seconds = kit.call([*words, "--stage-times", f"{room}/stages", *flags], room)
+            words = [kit.RATTLE, "check", *kit.words(self.name), *scope, "--jobs", "1", "--incremental", self.kept]
+            _, said, seconds = kit.call([*words, "--stage-times", f"{room}/stages"], room)
             stages = pathlib.Path(room, "stages")
-            is_whole = stages.exists() and "stage lines" in stages.read_text()
+            is_read = stages.exists() and "stage lines" in stages.read_text()
         self.seconds, self.checks = self.seconds + seconds, self.checks + 1
-        return Check(said, is_whole)
-
-    def refused_of(self, edits):
-        """Returns those of the edits that are refused where their functions alone are checked, and what these call: of one, or
-        of several that a whole check has seen, so that none of them reaches further than its function."""
-        names = {it: it.names(self.known) for it in edits}
-        if self.scope or not any(names.values()) or any(it.is_planted for it in edits):
-            return []
-        checked = self.check(edits, flags=[word for own in names.values() for it in own for word in ("--only", it)])
-        return [it for it, own in names.items() if checked.is_whole and any(map(checked.is_broken, own))]
+        return Check(said, is_read)
 
     def judge(self, edits):
-        """Checks a round, and notes what it tells of each edit."""
-        checked = self.check(edits)
-        self.known = [*checked.lines]
-        names = {it: it.names(checked.lines) for it in edits}
-        reached = [it for it in checked.lines if checked.is_broken(it) and not any(it in own for own in names.values())]
-        if len(edits) > 1 and (reached or not checked.is_whole):
+        """Checks a round, and notes what it tells of each edit. What can't be read goes on by halves, and one edit alone over the
+        whole crate."""
+        checked = self.check(edits, is_whole=False) if edits[0].functions else None
+        if len(edits) > 1 and not checked.is_read:
             half = len(edits) // 2
             self.judge(edits[:half])
             self.judge(edits[half:])
             return
-        for edit, own in names.items():
-            edit.told.append(checked.answer(edit, own, reached, len(edits) == 1))
+        for edit in edits:
+            edit.told.append(checked.answer(edit) if checked else "")
+        alone = edits[0]
+        if len(edits) == 1 and alone.told[-1] not in ("refused", "proved", RENAMED):
+            alone.told[-1] = self.check(edits, is_whole=True).answer_whole(alone)
 
     def fitting(self, edits):
         """Returns as many of the edits as fit into one round, one a function at most. What two rounds left goes alone."""
@@ -256,28 +253,18 @@ class Crate:
         return taken or edits[:1]
 
     def try_all(self, room):
-        """Proves the crate, unless a check has kept that work, tries the edits in rounds, until each is judged, and then
-        the crate without any. Returns its faults."""
-        if not self.kept.is_dir():
-            self.kept = pathlib.Path(room, self.name)
-            self.kept.mkdir()
-            self.check([], keeps=self.kept)
+        """Tries the edits in rounds, until each is judged. Returns the crate's faults."""
+        self.kept = pathlib.Path(room, self.name)
+        if (self.folder / "out/incremental").is_dir():
+            shutil.copytree(self.folder / "out/incremental", self.kept, copy_function=os.link)
         left = [*self.edits]
         while left:
             taken = self.fitting(left)
-            refused = self.refused_of(taken) if len(taken) == 1 or all(it.told for it in taken) else []
-            for edit in refused:
-                edit.told.append("refused")
-            rest = [it for it in taken if it not in refused]
-            if rest:
-                self.judge(rest)
+            self.judge(taken)
             ended = [it for it in taken if it.told[-1] == "refused" or it.is_planted and it.told[-1] == "proved"]
-            ended += rest if len(rest) == 1 and rest[0].told[-1] != RENAMED else []
+            ended += taken if len(taken) == 1 and taken[0].told[-1] != RENAMED else []
             left = [it for it in left if it not in ended]
-        whole = self.check([], flags=["--empty-contracts"])
         faults = [f"{it.path.stem}: an old text doesn't stand exactly once in its file" for it in self.found if it not in self.edits]
-        faults += [] if whole.is_proved else ["the crate without an edit isn't proved over the same work"]
-        faults += [f"a contract that no call can meet: {it}" for it in kit.EMPTY.findall(whole.said)]
         faults += [f"{it.path.stem}: {it.fault()}" for it in self.edits if it.fault()]
         wrong = [it for it in self.edits if not it.is_planted]
         print(f"{self.name}: {self.refused()} of {len(wrong)} wrong bodies refused, {len(self.edits) - len(wrong)} planted,"

@@ -334,7 +334,7 @@ pub update_convicts : {D A : _} (H : List ℕ → List ℕ) (bytes : List ℕ) (
     (finding : Finding D A) → map_bundle_of bytes ≡ Ok b → slice_get b.proofs place ≡ Some peers
     → verdict H (update key old_value new_value old_root new_root) (by_bundle bytes place) ≡ Ok true
     → Finds (IsChangeMet H peers key old_value new_value old new) (IsUpdate key old_value new_value old new)
-    (IsUpdatePlaced H peers old_value new_value key (old, new)) finding
+    (IsUpdatePlaced H peers (old_value, new_value) key (old, new)) finding
     → Convicts H (update key old_value new_value old_root new_root) (by_bundle bytes place) (old, new) finding
 update_convicts H bytes place key old_value new_value old_root new_root old new b peers finding reads there shown
     found =
@@ -347,7 +347,7 @@ update_convicts H bytes place key old_value new_value old_root new_root old new 
     (λ both. record { before = is.0 ∙ both.roots.0; after = is.1 ∙ both.roots.1 })
     (λ met claim. claim)
     (λ met claim. claim)
-    (λ first second at. subst (λ ps. IsUpdatePlaced H ps old_value new_value key (old, new) first second)
+    (λ first second at. subst (λ ps. IsUpdatePlaced H ps (old_value, new_value) key (old, new) first second)
     (found_peers (λ (b : MapBundle). b.proofs) place _ b peers reads there) at)
     found
 
@@ -356,7 +356,7 @@ pub insertion_convicts : {D A : _} (H : List ℕ → List ℕ) (bytes : List ℕ
     (finding : Finding D A) → map_bundle_of bytes ≡ Ok b → slice_get b.absences place ≡ Some peers
     → verdict H (insertion key value old_root new_root) (by_bundle bytes place) ≡ Ok true
     → Finds (IsChangeMet H peers key [] value old new) (IsUpdate key [] value old new)
-    (IsUpdatePlaced H peers [] value key (old, new)) finding
+    (IsUpdatePlaced H peers ([], value) key (old, new)) finding
     → Convicts H (insertion key value old_root new_root) (by_bundle bytes place) (old, new) finding
 insertion_convicts H bytes place key value old_root new_root old new b peers finding reads there shown found =
     let is = both_led_there H key (empty_root H 0) (leaf_digest H value) old_root new_root peers
@@ -370,7 +370,7 @@ insertion_convicts H bytes place key value old_root new_root old new b peers fin
     (λ both. record { before = old_is ∙ both.roots.0; after = is.1 ∙ both.roots.1 })
     (λ met claim. claim)
     (λ met claim. claim)
-    (λ first second at. subst (λ ps. IsUpdatePlaced H ps [] value key (old, new) first second)
+    (λ first second at. subst (λ ps. IsUpdatePlaced H ps ([], value) key (old, new) first second)
     (found_peers (λ (b : MapBundle). b.absences) place _ b peers reads there) at)
     found
 

@@ -69,7 +69,7 @@ pub changed : (H : List ℕ → List ℕ) (peers : Peers) (key old_value new_val
     → SomeCollision H (IsPlacedInMaps H (maps.0 ++ (key, new_value) ∷ []) maps.1))
     → proof_value H peers (leaf_digest H new_value) (key_bits H key) ≡ new_root → IsMapOf H new_root maps.1
     → ¬ IsUpdate key old_value new_value maps.0 maps.1
-    → SomeCollision H (IsUpdatePlaced H peers old_value new_value key maps)
+    → SomeCollision H (IsUpdatePlaced H peers (old_value, new_value) key maps)
 changed H peers key old_value new_value new_root maps by_key by_update by_maps new_is root untrue =
     elim (same_or_not (value_in (last_insertion key maps.0)) old_value) [
       | inr other ↦ let c = by_key other in

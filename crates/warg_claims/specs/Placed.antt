@@ -39,8 +39,8 @@ IsPlacedByBundle H (entry_at index value log) bytes place entries = IsValuePlace
 IsPlacedByBundle H (growth old new) bytes place entries = IsConsistencyPlaced H (digests_in (bundle_of bytes)) entries.0 entries.1
 IsPlacedByBundle H (value_under key value root) bytes place insertions = IsKeyPlaced H (peers_in (λ b. b.proofs) place (map_bundle_of bytes)) value key insertions
 IsPlacedByBundle H (nothing_under key root) bytes place insertions = IsKeyPlaced H (peers_in (λ b. b.absences) place (map_bundle_of bytes)) [] key insertions
-IsPlacedByBundle H (update key old_value new_value old_root new_root) bytes place maps = IsUpdatePlaced H (peers_in (λ b. b.proofs) place (map_bundle_of bytes)) old_value new_value key maps
-IsPlacedByBundle H (insertion key value old_root new_root) bytes place maps = IsUpdatePlaced H (peers_in (λ b. b.absences) place (map_bundle_of bytes)) [] value key maps
+IsPlacedByBundle H (update key old_value new_value old_root new_root) bytes place maps = IsUpdatePlaced H (peers_in (λ b. b.proofs) place (map_bundle_of bytes)) (old_value, new_value) key maps
+IsPlacedByBundle H (insertion key value old_root new_root) bytes place maps = IsUpdatePlaced H (peers_in (λ b. b.absences) place (map_bundle_of bytes)) ([], value) key maps
 
 -- With a path: the same, of the path's evaluation. Nothing stands anywhere of a claim about a map.
 abbrev pub IsPlacedByPath : (List ℕ → List ℕ) → (claim : Claim) → List (List ℕ) → World claim → List ℕ → List ℕ → Type 0

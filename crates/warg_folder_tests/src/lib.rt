@@ -7,9 +7,15 @@ mod crashes;
 #[cfg(test)]
 mod discarding;
 #[cfg(test)]
+mod log_damage;
+#[cfg(test)]
 mod log_folder;
 #[cfg(test)]
 mod log_moments;
+#[cfg(test)]
+mod log_pages;
+#[cfg(test)]
+mod log_signing;
 #[cfg(test)]
 mod pages;
 #[cfg(test)]

@@ -1,12 +1,13 @@
 -- What stands at each moment while a registry grows: files that are read, staged and committed, one run after the other.
 use Rattle.std.proofs.Common.{◌≡◌, ℕ, ◌≤◌, ap, subst, ◌∙◌}
-use Rattle.warg_store.specs.Files.{Files}
+use Rattle.warg_folder.specs.Files.{Files}
 use Rattle.warg_store.specs.Growing.{LogIn}
 use Rattle.warg_store.specs.Log.{LogOf, Keeps, IsOneOf, IsCommitting}
-use Rattle.warg_store.specs.Moments.{IsRead, LeavesOnly}
-use Rattle.warg_store.specs.Opening.{IsBeside, IsStaging}
+use Rattle.warg_folder.specs.Moments.{IsRead, LeavesOnly}
+use Rattle.warg_folder.specs.Commits.{IsBeside, IsStaging}
 use Rattle.warg_registry.specs.Folder.{IsLogRead}
-use Rattle.warg_store.proofs.ForCallers.{read_then, read_leaves, leaves_then, leaves_weaker, beside_committing, committing_then}
+use Rattle.warg_folder.proofs.ForCallers.{read_then, read_leaves, leaves_then, leaves_weaker}
+use Rattle.warg_store.proofs.ForCallers.{beside_committing, committing_then}
 
 module _ {F : Type 0} (seen : F → Files) (may_leave : F → Files → Type 0) (moment : F → ℕ)
     (left_since : F → ℕ → Files → Type 0)
@@ -23,19 +24,18 @@ module _ {F : Type 0} (seen : F → Files) (may_leave : F → Files → Type 0) 
       → LeavesOnly moment left_since old new (IsBeside (seen old))
   beside_then old mid new one two =
       let here = beside_now old mid one in
-      leaves_then seen may_leave moment left_since old mid new (IsBeside (seen old)) one
-      (leaves_weaker seen may_leave moment left_since mid new (IsBeside (seen mid)) (IsBeside (seen old)) two
-      (λ c was. record {
+      leaves_then moment left_since old mid new (IsBeside (seen old)) (IsBeside (seen mid)) (IsBeside (seen old)) one
+      two (λ c was. was) (λ c was. record {
         outside = λ n isnt. was.outside n isnt ∙ here.outside n isnt;
         no_mark = was.no_mark;
-      }))
+      })
 
   module _ (served old next : LogOf) where
     -- a run that stages, and nothing behind it
     pub staged_only : (first last : F) → Keeps served old (seen first)
         → LeavesOnly moment left_since first last (IsBeside (seen first))
         → LeavesOnly moment left_since first last (IsCommitting served old next (seen first))
-    staged_only first last keeps run = leaves_weaker seen may_leave moment left_since first last (IsBeside (seen first))
+    staged_only first last keeps run = leaves_weaker moment left_since first last (IsBeside (seen first))
         (IsCommitting served old next (seen first)) run
         (λ c was. beside_committing served old next (seen first) c keeps was)
 
@@ -46,11 +46,10 @@ module _ {F : Type 0} (seen : F → Files) (may_leave : F → Files → Type 0) 
         → LeavesOnly moment left_since first last (IsCommitting served old next (seen first))
     commit_then first mid last keeps run commit =
         let here = beside_now first mid run in
-        leaves_then seen may_leave moment left_since first mid last (IsCommitting served old next (seen first))
-        (staged_only first mid keeps run)
-        (leaves_weaker seen may_leave moment left_since mid last (IsCommitting served old next (seen mid))
-        (IsCommitting served old next (seen first)) commit
-        (λ c was. committing_then served old next (seen first) (seen mid) c here was))
+        leaves_then moment left_since first mid last (IsBeside (seen first)) (IsCommitting served old next (seen mid))
+        (IsCommitting served old next (seen first)) run commit
+        (λ c was. beside_committing served old next (seen first) c keeps was)
+        (λ c was. committing_then served old next (seen first) (seen mid) c here was)
 
     -- a run that only reads
     pub read_only : (first last : F) → Keeps served old (seen first) → IsStaging (seen first) (may_leave first)
@@ -64,7 +63,7 @@ module _ {F : Type 0} (seen : F → Files) (may_leave : F → Files → Type 0) 
     pub one_read : (first last : F) → Keeps served old (seen first) → IsStaging (seen first) (may_leave first)
         → IsRead seen may_leave moment left_since first last
         → LeavesOnly moment left_since first last (IsOneOf served old next)
-    one_read first last keeps staging read = leaves_weaker seen may_leave moment left_since first last
+    one_read first last keeps staging read = leaves_weaker moment left_since first last
         (IsCommitting served old next (seen first)) (IsOneOf served old next) (read_only first last keeps staging read)
         (λ c was. was.one)
 
@@ -74,9 +73,10 @@ module _ {F : Type 0} (seen : F → Files) (may_leave : F → Files → Type 0) 
         → LeavesOnly moment left_since mid last (IsCommitting served old next (seen mid))
         → LeavesOnly moment left_since first last (IsCommitting served old next (seen first))
     read_then_commit first mid last keeps staging read commit =
-        leaves_then seen may_leave moment left_since first mid last (IsCommitting served old next (seen first))
-        (read_only first mid keeps staging read)
-        (subst (λ (f : Files). LeavesOnly moment left_since mid last (IsCommitting served old next f)) read.found commit)
+        leaves_then moment left_since first mid last (IsCommitting served old next (seen first))
+        (IsCommitting served old next (seen mid)) (IsCommitting served old next (seen first))
+        (read_only first mid keeps staging read) commit (λ c was. was)
+        (λ c was. subst (λ (f : Files). IsCommitting served old next f c) read.found was)
 
 -- a log that is only read goes on so
 pub log_read_then : {F : Type 0} (seen : F → Files) (may_leave : F → Files → Type 0) (moment : F → ℕ)

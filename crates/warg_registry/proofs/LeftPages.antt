@@ -4,8 +4,8 @@ use Rattle.std.specs.Prelude.{IsSome}
 use Rattle.std.specs.List.{All, Contains}
 use Rattle.std.specs.declared.alloc.Global.{Global}
 use Rattle.std.specs.declared.string.String.{String}
-use Rattle.warg_store.specs.Files.{Files}
-use Rattle.warg_store.specs.Names.{is_tile, is_page}
+use Rattle.warg_folder.specs.Files.{Files}
+use Rattle.warg_folder.specs.Names.{is_tile, is_page}
 use Rattle.warg_store.specs.Pruned.{IsPruned, IsWithoutPages}
 use Rattle.warg_registry.specs.Pruning.{bytes_of}
 use Rattle.warg_registry.proofs.Listed.{of_mapped}

@@ -62,6 +62,16 @@ differ same = let keys : key ≡ [] = ap (λ e. e.0) same in cc
 pub empty_is : IsPart []
 empty_is = omega arith
 
+-- An insertion of no bytes, and one under another key.
+abbrev pub bare : List ℕ × List ℕ
+bare = ([], [])
+
+abbrev pub other : List ℕ × List ℕ
+other = (0 ∷ [], [])
+
+pub keys_differ : ¬ (bare ≡ other)
+keys_differ same = let keys : bare.0 ≡ other.0 = ap (λ e. e.0) same in cc
+
 -- Each list has one of them.
 pub same_entries : entries_of (long_key ∷ []) ≡ entries_of (long_value ∷ [])
 same_entries = ap (λ entry. entry ∷ []) same_entry
@@ -125,6 +135,9 @@ nothing m = []
 -- An insertion of no bytes, alone.
 abbrev pub alone : List (List ℕ × List ℕ)
 alone = ([], []) ∷ []
+
+pub counts_differ : ¬ (said_of nothing [] [] ≡ said_of nothing [] alone)
+counts_differ same = let counts : 0 ≡ length alone = ap (λ s. s.length) same in cc
 
 pub first_version : 0 + 1 ≡ version nothing alone (key_bits nothing [])
 unfolding last_place bits_from

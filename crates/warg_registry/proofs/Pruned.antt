@@ -25,10 +25,10 @@ use Rattle.warg_pages.specs.Slots.{SlotAt}
 use Rattle.warg_pages.specs.Visits.{AreAllPagesWhere, IsAllowed}
 use Rattle.warg_pages.proofs.ForCallers.{own_visit, visit_own}
 use Rattle.warg_tiles.specs.CheckpointText.{Said}
-use Rattle.warg_store.specs.Files.{File, Files}
+use Rattle.warg_folder.specs.Files.{File, Files}
 use Rattle.warg_store.specs.Log.{Serves}
 use Rattle.warg_store.specs.Log as log
-use Rattle.warg_store.specs.Names.{page_name}
+use Rattle.warg_folder.specs.Names.{page_name}
 use Rattle.warg_store.specs.Pruned.{IsNoneOf}
 use Rattle.warg_registry.specs.Folder.{pages_of, page_read, registry_of}
 use Rattle.warg_registry.specs.Insertions.{entry_of}

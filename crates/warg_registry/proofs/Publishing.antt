@@ -5,7 +5,7 @@ use Rattle.warg_crypto.specs.Digests.{sha256}
 use Rattle.warg_map.specs.Sparse.{map_of, sparse_root}
 use Rattle.warg_pages.specs.ChangedPages.{ChangedPageAt, AreChangedPages}
 use Rattle.warg_pages.specs.ProvedKeys.{IsOwnSource}
-use Rattle.warg_store.specs.Files.{Files}
+use Rattle.warg_folder.specs.Files.{Files}
 use Rattle.warg_store.specs.Growing.{LogIn, Has, HasNext}
 use Rattle.warg_store.specs.Log.{LogOf}
 use Rattle.warg_store.proofs.ForCallers.{has_read}

@@ -9,7 +9,7 @@ use Rattle.warg_map.proofs.ForCallers.{empty_map_root}
 use Rattle.warg_pages.specs.ChangedPages.{ChangedPageAt, page_at, ChangesAt, AreChangedPages}
 use Rattle.warg_pages.specs.Prefixes.{bits_of_bytes, version}
 use Rattle.warg_pages.proofs.ForCallers.{one_path_below, version_within}
-use Rattle.warg_store.specs.Files.{File, Files}
+use Rattle.warg_folder.specs.Files.{File, Files}
 use Rattle.warg_store.specs.Growing.{LogIn, Has, IsFresh, with_entry, with_page}
 use Rattle.warg_store.proofs.ForCallers.{has_with}
 use Rattle.warg_store.specs.Log.{LogOf, HasPage, Extends, no_entries_with}

@@ -18,9 +18,9 @@ use Rattle.warg_pages.proofs.ForCallers.{one_path_below, page_is_short, page_has
 use Rattle.warg_log.specs.Tree.{root_of, leaves_of}
 use Rattle.warg_map.specs.Sparse.{map_of, sparse_root}
 use Rattle.warg_tiles.specs.CheckpointText.{Said, text_before}
-use Rattle.warg_store.specs.Files.{File, Files}
+use Rattle.warg_folder.specs.Files.{File, Files}
 use Rattle.warg_store.specs.Log as log
-use Rattle.warg_store.specs.Names.{checkpoint}
+use Rattle.warg_folder.specs.Names.{checkpoint}
 use Rattle.warg_registry.specs.Insertions.{entry_of, entries_of}
 use Rattle.warg_registry.specs.Registry.{line_of, said_of}
 use Rattle.warg_store.specs.Log.{HasFiles, HasPage, Serves}

@@ -14,7 +14,7 @@ use Rattle.warg_pages.specs.ChangedPages.{ChangedPageAt}
 use Rattle.warg_pages.specs.Visits.{IsAllowed, lone_slots}
 use Rattle.warg_pages.proofs.ForCallers.{audited, AreInPages-push, count_last-push, length_versions}
 use Rattle.warg_store.specs.Audited.{IsOfEntries}
-use Rattle.warg_store.specs.Files.{Files}
+use Rattle.warg_folder.specs.Files.{Files}
 use Rattle.warg_registry.specs.Auditing.{AreAllInFiles, AreOfRegistry, IsReplayed}
 use Rattle.warg_registry.specs.Folder.{page_read}
 use Rattle.warg_registry.specs.Insertions.{entry_of, entries_of}

@@ -6,13 +6,13 @@ use Rattle.std.specs.declared.alloc.Global.{Global}
 use Rattle.std.specs.declared.string.String.{String}
 use Rattle.warg_crypto.specs.Digests.{sha256}
 use Rattle.warg_pages.specs.ProvedKeys.{IsOwnSource}
-use Rattle.warg_store.specs.Files.{Files}
+use Rattle.warg_folder.specs.Files.{Files}
 use Rattle.warg_store.specs.Growing.{LogIn, Has}
 use Rattle.warg_store.specs.Log.{LogOf, Serves, IsOneOf}
-use Rattle.warg_store.specs.Moments.{LeavesOnly}
-use Rattle.warg_store.specs.Names.{is_page}
+use Rattle.warg_folder.specs.Moments.{LeavesOnly}
+use Rattle.warg_folder.specs.Names.{is_page}
 use Rattle.warg_store.specs.Pruned.{IsNoneOf, ArePagesNotOf, IsPruned, IsWithoutPages}
-use Rattle.warg_store.proofs.ForCallers.{read_is, leaves_then}
+use Rattle.warg_folder.proofs.ForCallers.{read_is, leaves_then}
 use Rattle.warg_registry.specs.Folder.{registry_of, pages_of, page_read, RegistryIn, HasRegistry, IsLogRead}
 use Rattle.warg_registry.specs.Pruning.{bytes_of, IsPageOf}
 use Rattle.warg_registry.proofs.FolderMoments.{one_read}
@@ -98,5 +98,6 @@ module _ {F : Type 0} (seen : F → Files) (may_leave : F → Files → Type 0) 
           has.log.keeps has.log.staging (read r.log is_read).read
 
       then : (one two three : LogIn F) → RunsFrom one two → RunsFrom two three → RunsFrom one three
-      then one two three run more = leaves_then seen may_leave moment left_since one.folder two.folder three.folder
-          (IsOneOf Served Kept Kept) run more
+      then one two three run more = leaves_then moment left_since one.folder two.folder three.folder
+          (IsOneOf Served Kept Kept) (IsOneOf Served Kept Kept) (IsOneOf Served Kept Kept) run more
+          (λ c was. was) (λ c was. was)

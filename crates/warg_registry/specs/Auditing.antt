@@ -8,7 +8,7 @@ use Rattle.warg_map.specs.Sparse.{map_of, sparse_root}
 use Rattle.warg_pages.specs.Audits.{AreInPages, count_last}
 use Rattle.warg_pages.specs.ChangedPages.{ChangedPageAt}
 use Rattle.warg_pages.specs.Visits.{AreAllPages, IsAllowed}
-use Rattle.warg_store.specs.Files.{Files}
+use Rattle.warg_folder.specs.Files.{Files}
 use Rattle.warg_registry.specs.Folder.{page_read}
 use Rattle.warg_registry.specs.Insertions.{entries_of}
 

@@ -11,10 +11,10 @@ use Rattle.warg_pages.specs.PageBytes.{page_bytes}
 use Rattle.warg_pages.specs.PagePaths.{byte_path, page_path}
 use Rattle.warg_pages.specs.Prefixes.{bits_of_bytes, version}
 use Rattle.warg_pages.specs.Slots.{numbers, page_of}
-use Rattle.warg_store.specs.Files.{File, Files}
+use Rattle.warg_folder.specs.Files.{File, Files}
 use Rattle.warg_store.specs.Growing.{LogIn, Has, IsFresh, with_page}
 use Rattle.warg_store.specs.Log.{LogOf}
-use Rattle.warg_store.specs.Moments.{IsRead}
+use Rattle.warg_folder.specs.Moments.{IsRead}
 use Rattle.warg_store.specs.Refusals as log
 use Rattle.warg_registry.specs.declared.error.RegistryError.{RegistryError}
 use Rattle.warg_registry.specs.declared.error.RegistryError.TheVariants.{NoMap, Log}

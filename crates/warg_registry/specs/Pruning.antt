@@ -9,8 +9,8 @@ use Rattle.warg_pages.specs.ChangedPages.{ChangedPageAt}
 use Rattle.warg_pages.specs.OwnPages.{stands}
 use Rattle.warg_pages.specs.PagePaths.{page_path}
 use Rattle.warg_pages.specs.Prefixes.{bits_of_bytes, version}
-use Rattle.warg_store.specs.Files.{File}
-use Rattle.warg_store.specs.Names.{page_name}
+use Rattle.warg_folder.specs.Files.{File}
+use Rattle.warg_folder.specs.Names.{page_name}
 use Rattle.warg_registry.specs.Folder.{pages_of}
 
 -- The bytes of names.

@@ -1,6 +1,6 @@
 -- Why insertions aren't published.
 use Rattle.warg_store.specs.Refusals.{IsNoFault}
-use Rattle.warg_store.specs.declared.device.FolderError.TheVariants.{Memory}
+use Rattle.warg_folder.specs.declared.device.FolderError.TheVariants.{Memory}
 use Rattle.warg_store.specs.declared.error.LogError.TheVariants.{Folder}
 use Rattle.warg_store.specs.declared.log_folder.CommitError.{CommitError}
 use Rattle.warg_store.specs.declared.log_folder.CommitError.TheVariants as commit

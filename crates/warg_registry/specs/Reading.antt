@@ -11,7 +11,7 @@ use Rattle.warg_map.specs.Peers.{Proves, ProvesAbsent}
 use Rattle.warg_map.specs.ProofValue.{proof_value}
 use Rattle.warg_map.specs.Sparse.{map_of, sparse_root}
 use Rattle.warg_pages.specs.Prefixes.{version}
-use Rattle.warg_store.specs.Files.{Files}
+use Rattle.warg_folder.specs.Files.{Files}
 use Rattle.warg_store.specs.Reading.{ServedIn, Reads, IsShown}
 use Rattle.warg_registry.specs.declared.reader.KeyInRegistry.{KeyInRegistry}
 use Rattle.warg_registry.specs.declared.reader.KeyInRegistry.TheVariants.{Held, Absent}

@@ -8,7 +8,7 @@ ghost use Rattle.warg_pages.specs.Audits.{IsHeldIn, IsInPages};
 ghost use Rattle.warg_pages.specs.ChangedPages.{ChangedPageAt};
 ghost use Rattle.warg_pages.specs.Visits.{lone_slots};
 ghost use Rattle.warg_store.specs.Audited.{IsOfEntries};
-ghost use Rattle.warg_store.specs.Moments.{IsRead};
+ghost use Rattle.warg_folder.specs.Moments.{IsRead};
 ghost use Rattle.warg_store.specs.Reading.{checkpoint_said};
 ghost use Rattle.warg_registry.specs.Auditing.{AreOfRegistry, AreAllInFiles, IsReplayed};
 

@@ -79,7 +79,7 @@ impl From<LogError> for PublishError {
 
 impl From<AllocError> for PublishError {
     ghost use Rattle.std.specs.Prelude.{◌≡◌};
-    ghost use Rattle.warg_store.specs.declared.device.FolderError.TheVariants.{Memory};
+    ghost use Rattle.warg_folder.specs.declared.device.FolderError.TheVariants.{Memory};
     ghost use Rattle.warg_store.specs.declared.error.LogError.TheVariants.{Folder};
     ghost use Rattle.warg_registry.specs.declared.error.PublishError.TheVariants.{Log};
 
@@ -92,7 +92,7 @@ impl From<AllocError> for PublishError {
 
 impl<T: Drop> From<AllocFailed<T>> for PublishError {
     ghost use Rattle.std.specs.Prelude.{◌≡◌};
-    ghost use Rattle.warg_store.specs.declared.device.FolderError.TheVariants.{Memory};
+    ghost use Rattle.warg_folder.specs.declared.device.FolderError.TheVariants.{Memory};
     ghost use Rattle.warg_store.specs.declared.error.LogError.TheVariants.{Folder};
     ghost use Rattle.warg_registry.specs.declared.error.PublishError.TheVariants.{Log};
 

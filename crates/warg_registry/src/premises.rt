@@ -1,7 +1,7 @@
 //! What the premises of the laws are for: the contract of each function says that the law of its name is false without
 //! any one of them, and it has no effect.
 
-ghost use Rattle.std.specs.Prelude.{◌≡◌, ℕ, ◌+◌, List, Option, Some, slice_get};
+ghost use Rattle.std.specs.Prelude.{◌≡◌, ℕ, ◌+◌, List, All, Option, Some, slice_get};
 ghost use Rattle.std.specs.FinMap.{get};
 ghost use Rattle.warg_crypto.specs.Framed.{IsPart};
 ghost use Rattle.warg_crypto.specs.Digests.{sha256};
@@ -11,27 +11,32 @@ ghost use Rattle.warg_map.specs.Sparse.{map_of};
 ghost use Rattle.warg_pages.specs.Prefixes.{version};
 ghost use Rattle.warg_pages.specs.OwnPages.{AreOwnPages};
 ghost use Rattle.warg_tiles.specs.CheckpointText.{text_before};
-ghost use Rattle.warg_store.specs.Files.{Files};
-ghost use Rattle.warg_store.specs.Names.{checkpoint};
+ghost use Rattle.warg_folder.specs.Files.{Files};
+ghost use Rattle.warg_folder.specs.Names.{checkpoint};
 ghost use Rattle.warg_registry.specs.Folder.{page_found};
-ghost use Rattle.warg_registry.specs.Insertions.{entry_of, entries_of};
+ghost use Rattle.warg_registry.specs.Insertions.{entry_of, entries_of, IsInsertion};
 ghost use Rattle.warg_registry.specs.Registry.{said_of};
 
-/// A key, or a value, of 2^64 bytes has the length of none in 8 bytes, and so two insertions may have one entry.
+/// A key, or a value, of 2^64 bytes has the length of none in 8 bytes, and so two insertions may have one entry. Of two
+/// entries they are two.
 pub fn one_insertion()
     ensures key { ¬ ((a b : List ℕ × List ℕ) → IsPart a.1 → entry_of a ≡ entry_of b → a ≡ b) }
     ensures value { ¬ ((a b : List ℕ × List ℕ) → IsPart a.0 → entry_of a ≡ entry_of b → a ≡ b) }
+    ensures entry { ¬ ((a b : List ℕ × List ℕ) → IsInsertion a → a ≡ b) }
 {}
 
-/// And so may two lists.
+/// So it is of two lists.
 pub fn one_list()
-    ensures { ¬ ((xs ys : List (List ℕ × List ℕ)) → entries_of xs ≡ entries_of ys → xs ≡ ys) }
+    ensures lengths { ¬ ((xs ys : List (List ℕ × List ℕ)) → entries_of xs ≡ entries_of ys → xs ≡ ys) }
+    ensures entries { ¬ ((xs ys : List (List ℕ × List ℕ)) → All IsInsertion xs → xs ≡ ys) }
 {}
 
-/// Of these two lists the maps may have other roots, and the registries say other things.
+/// Of such lists the maps may have other roots, and the registries say other things.
 pub fn one_registry()
-    ensures { ¬ ((H : List ℕ → List ℕ) (origin : List ℕ) (xs ys : List (List ℕ × List ℕ))
+    ensures lengths { ¬ ((H : List ℕ → List ℕ) (origin : List ℕ) (xs ys : List (List ℕ × List ℕ))
         → entries_of xs ≡ entries_of ys → said_of H origin xs ≡ said_of H origin ys) }
+    ensures entries { ¬ ((H : List ℕ → List ℕ) (origin : List ℕ) (xs ys : List (List ℕ × List ℕ))
+        → All IsInsertion xs → said_of H origin xs ≡ said_of H origin ys) }
 {}
 
 /// At another index there may be no entry, and a leaf digest that isn't held is of no value.

@@ -8,7 +8,7 @@ ghost use Rattle.warg_pages.specs.PagePaths.{page_path};
 ghost use Rattle.warg_pages.specs.ProvedKeys.{IsOwnSource};
 ghost use Rattle.warg_store.specs.Growing.{LogIn};
 ghost use Rattle.warg_store.specs.Log.{Serves};
-ghost use Rattle.warg_store.specs.Names.{is_page};
+ghost use Rattle.warg_folder.specs.Names.{is_page};
 ghost use Rattle.warg_store.specs.Pruned.{IsNoneOf};
 ghost use Rattle.warg_store.specs.Refusals.{IsNoFault};
 ghost use Rattle.warg_registry.specs.Folder.{registry_of, pages_of, page_read, IsLogRead};

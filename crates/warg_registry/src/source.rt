@@ -3,7 +3,7 @@
 ghost use Rattle.std.specs.Prelude.{◌≡◌, ◌∷◌, ◌++◌, [], ℕ, Bool, true, List, codes, IfOk, string_bytes};
 ghost use Rattle.warg_pages.specs.Refusals.{IsOfSourceUnless};
 ghost use Rattle.warg_store.specs.Growing.{LogIn};
-ghost use Rattle.warg_store.specs.Moments.{IsRead};
+ghost use Rattle.warg_folder.specs.Moments.{IsRead};
 ghost use Rattle.warg_store.specs.Reading.{ServedIn};
 ghost use Rattle.warg_store.specs.Refusals.{IsNoFault};
 ghost use Rattle.warg_registry.specs.Folder.{path_below, page_read, found_if, IsLogRead};

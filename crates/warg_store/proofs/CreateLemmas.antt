@@ -10,16 +10,24 @@ use Rattle.warg_tiles.specs.Tiles.{TileAt}
 use Rattle.warg_tiles.specs.Between.{IsTileOf}
 use Rattle.warg_tiles.specs.TileLog.{RightEdge, StandsFor}
 use Rattle.warg_tiles.specs.EntryBundles.{bundle_of}
-use Rattle.warg_store.specs.Files.{File, Files, put}
-use Rattle.warg_store.specs.Names.{checkpoint, state, mark, staged, is_staged, page_name}
-use Rattle.warg_store.specs.Opening.{is_signed, opened_by, committed, finished, published, told, IsStaging, NothingStaged}
+use Rattle.warg_folder.specs.Files.{File, Files, put}
+use Rattle.warg_folder.specs.Moments.{Only}
+use Rattle.warg_folder.specs.Names.{checkpoint, state, mark, staged, is_staged, page_name}
+use Rattle.warg_folder.specs.Commits.{is_signed, opened_by, committed, finished, published, told, IsStaging, NothingStaged}
+use Rattle.warg_store.specs.Opening.{HasNoLogFile}
 use Rattle.warg_store.specs.Log.{CanBeKept, said_of, checkpoint_of, Keeps, HasFiles, no_entries_with}
 use Rattle.warg_store.specs.Growing.{Has}
-use Rattle.warg_store.proofs.FileLemmas.{put_here}
-use Rattle.warg_store.proofs.ReadLemmas.{unsigned_is}
-use Rattle.warg_store.proofs.StepLemmas.{without_at, told_checkpoint, unmarked}
+use Rattle.warg_folder.proofs.ForCallers.{put_here, unsigned_is, without_at, told_checkpoint, unmarked}
 use Rattle.warg_store.proofs.LeadLemmas.{extends_self, own_pages}
 use Rattle.warg_store.proofs.GrowingLemmas.{none_some}
+
+-- a folder without files of a log, once a crash leaves what is seen
+pub settled : (before mid now : Files) (may : Files → Type 0) → HasNoLogFile before → mid ≡ before → now ≡ mid
+    → Only mid may → IsStaging now may
+settled before mid now may fresh same kept only c left = record {
+  outside = λ n isnt. ap (λ (f : Files). f n) (only c left ∙ sym kept);
+  no_mark = ap (λ (f : Files). f mark) (only c left ∙ same) ∙ fresh mark refl;
+}
 
 -- a name that is listed nowhere has no file
 pub absent : (s : Files) (names : List (String Global)) (n : List ℕ)
@@ -86,8 +94,8 @@ module _ (origin : List ℕ) (lines : List (List ℕ)) (named : CanBeKept (no_en
 
 -- a new log has no entries
 pub has_none : {F : Type 0} (seen : F → Files) (may_leave : F → Files → Type 0) (origin : List ℕ)
-    (lines : List (List ℕ)) (folder : F) (edge : RightEdge) → edge ≡ record { len = 0; taken = 0; digests = []; full = [] }
-    → StandsFor sha256 edge []
+    (lines : List (List ℕ)) (folder : F) (edge : RightEdge)
+    → edge ≡ record { len = 0; taken = 0; digests = []; full = [] } → StandsFor sha256 edge []
     → Keeps (no_entries_with origin lines) (no_entries_with origin lines) (seen folder) → NothingStaged (seen folder)
     → IsStaging (seen folder) (may_leave folder)
     → Has seen may_leave (no_entries_with origin lines) (no_entries_with origin lines) (no_entries_with origin lines)

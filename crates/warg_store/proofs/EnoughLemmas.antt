@@ -2,7 +2,7 @@
 use Rattle.std.proofs.Common.{◌≡◌, ℕ, ◌+◌, ◌-◌, ◌*◌, ◌^◌, ◌<◌, ◌≤◌, ◌||◌, Bool, true, false, cond, List, [], ◌∷◌, ◌++◌, length, map, take, drop, get_or, slice_index_or, Option, Some, None, IsSome, Result, Ok, Err, refl, sym, ap, ◌∙◌, arith}
 use Rattle.std.specs.Prelude.{OnOk, IfErr}
 use Rattle.std.specs.List.{AllByRecursion, slice_get}
-use Rattle.std.proofs.lemmas.Bool.{true≢false, le-leb}
+use Rattle.std.proofs.lemmas.Bool.{le-leb}
 use Rattle.std.proofs.lemmas.List.{take_all, take_more, map-append, length-map, get_or-map, get_or-drop, get_or-take}
 use Rattle.std.proofs.lemmas.List.Folds.{list_any-append}
 use Rattle.std.proofs.lemmas.Option.{slice_get_within, get_or_from_slice_get}
@@ -29,10 +29,6 @@ use Rattle.warg_store.proofs.LeadLemmas.{end_inside}
 
 abbrev tiles_of : Tiles → List TileAt
 tiles_of tiles = map (λ t. t.0) tiles
-
--- nothing more
-pub gives_none : (tiles : Tiles) → GivesMore tiles [] tiles
-gives_none tiles = record { keep = λ x given. given; add = λ x given. absurd (true≢false (sym given)) }
 
 first_of : (b : Bool) → (b || false) ≡ true → b ≡ true
 first_of true is = refl

@@ -16,11 +16,11 @@ use Rattle.warg_tiles.specs.TileData.{Tiles, IsTileBy, digest_by}
 use Rattle.warg_tiles.specs.TileLog.{tile_digests}
 use Rattle.warg_tiles.specs.EntryBundles.{bundle_of}
 use Rattle.warg_tiles.proofs.ForCallers.{bundle_once, bundle_same, digest_by_own, low_level, tile_own}
-use Rattle.warg_store.specs.Files.{Files}
-use Rattle.warg_store.specs.Moments.{Within}
+use Rattle.warg_folder.specs.Files.{Files}
+use Rattle.warg_folder.specs.Moments.{Within}
 use Rattle.warg_store.specs.Log.{LogOf, IsTileIn, IsBundleIn, bundle_bytes, Keeps, ArePagesStaged}
 use Rattle.warg_store.specs.Growing.{LogIn, Has, AreFullStaged}
-use Rattle.warg_store.proofs.ReadyLemmas.{staging_kept}
+use Rattle.warg_store.proofs.ReadyRuns.{staging_kept}
 use Rattle.warg_store.specs.Reading.{bundle_in, inclusion_in, consistency_in}
 use Rattle.warg_store.specs.Private.Fetched.{AreOwn}
 use Rattle.warg_protobuf.proofs.ForCallers.{all_push}

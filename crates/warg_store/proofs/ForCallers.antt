@@ -1,35 +1,18 @@
 -- Lemmas for the proofs of the crates above, over public definitions alone.
-use Rattle.std.proofs.Common.{◌≡◌, ◌⊎◌, ⊎_elim, ℕ, ◌<◌, ◌≤◌, List, length, sym, ap, subst, ◌∙◌, arith}
+use Rattle.std.proofs.Common.{◌≡◌, ◌⊎◌, ⊎_elim, ℕ, ◌<◌, List, length, sym, ap, subst, ◌∙◌, arith}
 use Rattle.std.specs.List.{Contains}
-use Rattle.warg_store.specs.Files.{File, Files}
-use Rattle.warg_store.specs.Moments.{IsRead, LeavesOnly}
+use Rattle.warg_folder.specs.Files.{File, Files}
+use Rattle.warg_folder.specs.Moments.{IsRead}
 use Rattle.warg_store.specs.Log.{LogOf, HasFiles, Keeps, ArePagesStaged, IsCommitting}
-use Rattle.warg_store.specs.Opening.{IsBeside}
+use Rattle.warg_folder.specs.Commits.{IsBeside}
 use Rattle.warg_store.specs.Growing.{LogIn, IsReady, Has}
 use Rattle.warg_store.specs.Reading.{ServedIn, Reads}
 use Rattle.warg_store.proofs.FetchedLemmas as fetched
 use Rattle.warg_store.proofs.GrowingLemmas as growing
-use Rattle.warg_store.proofs.MomentLemmas as moments
-use Rattle.warg_store.proofs.ReadyLemmas.{staging_kept}
+use Rattle.warg_store.proofs.ReadyRuns.{staging_kept}
 
 module _ {F : Type 0} (seen : F → Files) (may_leave : F → Files → Type 0) (moment : F → ℕ)
     (left_since : F → ℕ → Files → Type 0) where
-  -- a folder is only read by no call, and by two that only read
-  pub read_is : (x : F) → IsRead seen may_leave moment left_since x x
-  read_is = moments.read_is seen may_leave moment left_since
-
-  pub read_then : (old mid new : F)
-      → ((t : ℕ) (c : Files) → t ≤ moment old → may_leave old c → left_since old t c)
-      → IsRead seen may_leave moment left_since old mid → IsRead seen may_leave moment left_since mid new
-      → IsRead seen may_leave moment left_since old new
-  read_then = moments.read_then seen may_leave moment left_since
-
-  -- what a crash leaves while a folder is only read
-  pub read_leaves : (old new : F) (P : Files → Type 0) → ((c : Files) → left_since old (moment old) c → may_leave old c)
-      → ((c : Files) → may_leave old c → P c) → IsRead seen may_leave moment left_since old new
-      → LeavesOnly moment left_since old new P
-  read_leaves = moments.read_leaves seen may_leave moment left_since
-
   -- a log whose folder was only read has the same
   pub has_read : (served old next : LogOf) (l m : LogIn F) → m ≡ record l { folder = m.folder }
       → IsRead seen may_leave moment left_since l.folder m.folder → Has seen may_leave served old next l
@@ -52,16 +35,6 @@ module _ {F : Type 0} (seen : F → Files) (may_leave : F → Files → Type 0) 
     text = ap (λ (x : ServedIn F). x.text) same ∙ reads.text;
     files = subst (HasFiles log) (sym read.found) reads.files;
   }
-
-  -- two runs, the second after the first
-  pub leaves_then : (old mid new : F) (P : Files → Type 0) → LeavesOnly moment left_since old mid P
-      → LeavesOnly moment left_since mid new P → LeavesOnly moment left_since old new P
-  leaves_then old mid new P one two = moments.then moment left_since old mid new P P P one two (λ c p. p) (λ c p. p)
-
-  -- a weaker fact
-  pub leaves_weaker : (old new : F) (P Q : Files → Type 0) → LeavesOnly moment left_since old new P
-      → ((c : Files) → P c → Q c) → LeavesOnly moment left_since old new Q
-  leaves_weaker = moments.weaker moment left_since
 
 -- fewer pages to be kept, where each of the others is kept already
 fewer_staged : (served old next fewer : List File) (files : Files)

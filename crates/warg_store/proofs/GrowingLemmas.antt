@@ -15,17 +15,15 @@ use Rattle.warg_tiles.specs.EntryBundles.{two_bytes, bundle_of}
 use Rattle.warg_tiles.specs.CheckpointText.{Said}
 use Rattle.warg_tiles.specs.TileLog.{RightEdge, StandsFor, full_between, partial_tiles, AreTilesOf}
 use Rattle.warg_tiles.proofs.ForCallers.{full_tiles, partial_of, own_tile, bundle_more, low_level}
-use Rattle.warg_store.specs.Files.{File, Files, put, IsNameOf}
-use Rattle.warg_store.specs.Names.{checkpoint, state, staged, is_staged, is_tile, page_name}
-use Rattle.warg_store.specs.Opening.{IsBeside, IsStaging, NothingStaged, opened, opened_by}
+use Rattle.warg_folder.specs.Files.{File, Files, put, IsNameOf}
+use Rattle.warg_folder.specs.Names.{checkpoint, state, staged, is_staged, is_tile, page_name}
+use Rattle.warg_folder.specs.Commits.{IsBeside, IsStaging, NothingStaged, opened, opened_by}
 use Rattle.warg_store.specs.Log.{LogOf, said_of, Keeps, HasLog, Extends, IsOneOf, IsCommitting, tile_bytes, bundle_bytes, IsTileIn, IsBundleIn, IsNewTile, ArePagesStaged, AreStagedFor}
 use Rattle.warg_store.specs.Staged.{staged_all, new_files}
-use Rattle.warg_store.specs.Moments.{LeavesOnly}
+use Rattle.warg_folder.specs.Moments.{LeavesOnly}
 use Rattle.warg_store.specs.Growing.{LogIn, Has, HasAll, with_entry, IsNewFull, AreFullStaged}
-use Rattle.warg_store.proofs.NameLemmas.{one_name, apart, staged_once, served_not_staged}
-use Rattle.warg_store.proofs.FileLemmas.{put_here, put_apart}
+use Rattle.warg_folder.proofs.ForCallers.{one_name, apart, staged_once, served_not_staged, put_here, put_apart, leaves_none}
 use Rattle.warg_protobuf.proofs.ForCallers.{all_append}
-use Rattle.warg_store.proofs.MomentLemmas.{stays}
 use Rattle.warg_store.proofs.PathLemmas.{tile_path_once, entries_path_once, no_tile_a_bundle, no_page_a_tile, no_page_a_bundle}
 use Rattle.warg_store.proofs.LeadLemmas.{tile_between, end_inside, same_kept, file_served, tile_kept, bundle_kept, extends_self, extends_then, pages_stay, own_pages}
 use Rattle.warg_store.proofs.StagedLemmas.{staged_there, staged_from, staged_outside}
@@ -889,18 +887,8 @@ module _ {F : Type 0} (seen : F → Files) (may_leave : F → Files → Type 0) 
   pub idle : ((c : Files) → left_since l.folder (moment l.folder) c → may_leave l.folder c)
       → Has seen may_leave served old next l → LeavesOnly moment left_since l.folder l.folder
       (IsCommitting served old next (seen l.folder))
-  idle now has = stays moment left_since l.folder (IsCommitting served old next (seen l.folder))
+  idle now has = leaves_none moment left_since l.folder (IsCommitting served old next (seen l.folder))
       (λ c left. beside_committing served old next (seen l.folder) c has.keeps (has.staging c (now c left)))
-
-  -- a log whose folder keeps as many entries keeps them all
-  pub all_there : l.edge.len ≡ l.text.length → Has seen may_leave served old next l → (log : LogOf)
-      × Has seen may_leave log next next l
-  all_there same has = (
-    served,
-    subst (λ log. Has seen may_leave served log next l) (same_length old next has.extends
-        (sym (ap (λ (s : Said). s.length) has.text) ∙ sym same ∙ sym has.edge.count
-        ∙ length-map next.entries (λ (e : List ℕ). sha256 (0 ∷ e)))) has,
-  )
 
 -- the checkpoint's text is noted, which says what the log has
 pub noted : {F : Type 0} (seen : F → Files) (may_leave : F → Files → Type 0) (log next : LogOf) (l : LogIn F)

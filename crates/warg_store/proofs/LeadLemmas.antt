@@ -16,11 +16,11 @@ use Rattle.warg_tiles.specs.TilePaths.{tile_path, entries_path}
 use Rattle.warg_tiles.specs.Between.{IsTileOf}
 use Rattle.warg_tiles.specs.TileLog.{tile_digests}
 use Rattle.warg_tiles.specs.EntryBundles.{bundle_of}
-use Rattle.warg_store.specs.Files.{File, Files}
-use Rattle.warg_store.specs.Names.{checkpoint, state, mark, staged, is_own, page_name, is_served}
-use Rattle.warg_store.specs.Opening.{is_signed, checkpoint_after, opened, committed, IsBetween}
+use Rattle.warg_folder.specs.Files.{File, Files}
+use Rattle.warg_folder.specs.Names.{checkpoint, state, mark, staged, is_own, page_name, is_served}
+use Rattle.warg_folder.specs.Commits.{is_signed, opened, committed, IsBetween}
 use Rattle.warg_store.specs.Log.{LogOf, CanBeKept, checkpoint_of, tile_bytes, bundle_bytes, IsTileIn, IsBundleIn, HasFiles, Serves, IsFileOf, Extends, Keeps, KeepsNext, IsServed, IsOneOf, IsCommitting, HasPage, IsNewPage, IsNewName, ArePagesStaged, AreStagedFor}
-use Rattle.warg_store.proofs.NameLemmas.{apart, served_not_own, served_kind, page_once}
+use Rattle.warg_folder.proofs.ForCallers.{apart, served_not_own, served_kind, page_once}
 use Rattle.warg_store.proofs.PathLemmas.{tile_path_once, entries_path_once, no_tile_a_bundle, no_page_a_tile, no_page_a_bundle}
 use Rattle.warg_store.proofs.ServeLemmas.{idle_same, committed_served, opened_idle}
 
@@ -298,9 +298,6 @@ module _ (served old next : LogOf) (extends : Extends old next) (files : Files)
 module _ (served old next : LogOf) (files : Files) (keeps : Keeps served old files) (extends : Extends old next)
     (are_staged : AreStagedFor served old next files) (text : List ℕ) (says : text ≡ checkpoint_of next)
     (named : CanBeKept next) where
-  committed_checkpoint : committed text files checkpoint ≡ checkpoint_after text (files checkpoint)
-  committed_checkpoint = refl
-
   served_stays : (n : List ℕ) → IsFileOf served n → committed text files n ≡ files n
   served_stays n is = stays served old next keeps.begins extends files are_staged text n is
 

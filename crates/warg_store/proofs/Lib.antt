@@ -1,15 +1,6 @@
-mod NameLemmas
-mod FileLemmas
 mod ListLemmas
 mod OptionLemmas
-mod MomentLemmas
-mod ListedRuns
-mod StepLemmas
-mod ReadLemmas
 mod ServeLemmas
-mod MemoryLemmas
-mod ListedLemmas
-mod ReadyLemmas
 mod ReadyRuns
 mod PathLemmas
 mod LeadLemmas

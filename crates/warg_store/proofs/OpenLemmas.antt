@@ -22,13 +22,13 @@ use Rattle.warg_tiles.specs.TileLog.{RightEdge, StandsFor, last_tile, tile_diges
 use Rattle.warg_tiles.specs.EntryBundles.{bundle_of}
 use Rattle.warg_tiles.specs.CheckpointText.{Said, CanBeSaid, line, lines, behind, text_before, text_of}
 use Rattle.warg_tiles.proofs.ForCallers.{partial_of, tile_own}
-use Rattle.warg_store.specs.Files.{Files, put, SameBut}
-use Rattle.warg_store.specs.Names.{checkpoint, state, staged, is_staged, is_own, page_name}
-use Rattle.warg_store.specs.Opening.{IsStaging, NothingStaged, CanBeServed, AgreesWith}
+use Rattle.warg_folder.specs.Files.{Files, put, SameBut}
+use Rattle.warg_folder.specs.Names.{checkpoint, state, staged, is_staged, is_own, page_name}
+use Rattle.warg_folder.specs.Commits.{IsStaging, NothingStaged}
+use Rattle.warg_store.specs.Opening.{CanBeServed, AgreesWith}
 use Rattle.warg_store.specs.Log.{LogOf, AreShort, CanBeKept, said_of, checkpoint_of, tile_bytes, bundle_bytes, HasFiles, Serves, Keeps, IsFileOf}
 use Rattle.warg_store.specs.Growing.{Has}
-use Rattle.warg_store.proofs.NameLemmas.{apart, served_not_state}
-use Rattle.warg_store.proofs.FileLemmas.{put_here, put_apart}
+use Rattle.warg_folder.proofs.ForCallers.{apart, served_not_state, put_here, put_apart}
 use Rattle.warg_protobuf.proofs.ForCallers.{all_append}
 use Rattle.warg_store.proofs.ListLemmas.{all_take, all_drop}
 use Rattle.warg_store.proofs.LeadLemmas.{end_inside, extends_self, file_served, same_files, same_served, own_pages}

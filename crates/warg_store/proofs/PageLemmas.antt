@@ -2,13 +2,12 @@
 use Rattle.std.proofs.Common.{◌≡◌, ◌≢◌, ◌⊎◌, inl, inr, ⊎_elim, ℕ, zero, suc, List, ◌∷◌, true, false, Some, IsSome, refl, sym, ap, subst, ◌∙◌, arith}
 use Rattle.std.specs.List.{Contains}
 use Rattle.warg_tiles.specs.TilePaths.{tile_path, entries_path}
-use Rattle.warg_store.specs.Files.{File, Files, put}
-use Rattle.warg_store.specs.Names.{staged, is_staged, is_tile, page_name}
-use Rattle.warg_store.specs.Opening.{IsStaging}
+use Rattle.warg_folder.specs.Files.{File, Files, put}
+use Rattle.warg_folder.specs.Names.{staged, is_staged, is_tile, page_name}
+use Rattle.warg_folder.specs.Commits.{IsStaging}
 use Rattle.warg_store.specs.Log.{LogOf, HasPage, ArePagesStaged, Keeps}
 use Rattle.warg_store.specs.Growing.{LogIn, Has, AreFullStaged, IsFresh, with_page}
-use Rattle.warg_store.proofs.NameLemmas.{one_name, apart, staged_once, page_once}
-use Rattle.warg_store.proofs.FileLemmas.{put_here, put_apart}
+use Rattle.warg_folder.proofs.ForCallers.{one_name, apart, staged_once, page_once, put_here, put_apart}
 use Rattle.warg_store.proofs.PathLemmas.{no_page_a_tile, no_page_a_bundle}
 use Rattle.warg_store.proofs.GrowingLemmas.{keeps_beside}
 

@@ -10,8 +10,8 @@ use Rattle.std.proofs.lemmas.List.{append_cancel_left, append-nil}
 use Rattle.std.proofs.lemmas.Str.Parse.{IsNumeralModel, numerals_by_value, tells_digits, not_in_digits}
 use Rattle.warg_tiles.specs.Tiles.{TileAt}
 use Rattle.warg_tiles.specs.TilePaths.{three_digits, group_of, groups_within, groups_of, number_path, place_path, tile_path, entries_path}
-use Rattle.warg_store.specs.Names.{is_page, page_name}
-use Rattle.warg_store.proofs.NameLemmas.{apart}
+use Rattle.warg_folder.specs.Names.{is_page, page_name}
+use Rattle.warg_folder.proofs.ForCallers.{apart}
 
 -- the number whose digits are those of n and then those in a text, whatever else stands between them
 abbrev value_on : ℕ → List ℕ → ℕ

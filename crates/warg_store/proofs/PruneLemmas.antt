@@ -4,22 +4,20 @@ use Rattle.std.specs.Prelude.{option_map}
 use Rattle.warg_tiles.specs.Tiles.{TileAt}
 use Rattle.warg_tiles.specs.TilePaths.{tile_path, entries_path}
 use Rattle.warg_tiles.specs.Between.{IsTileOf}
-use Rattle.warg_store.specs.Files.{Files, without, Either}
-use Rattle.warg_store.specs.Moments.{Only}
-use Rattle.warg_store.specs.Names.{checkpoint, state, mark, staged, is_staged, is_served, page_name}
-use Rattle.warg_store.specs.Opening.{IsBeside, opened}
+use Rattle.warg_folder.specs.Files.{Files, without, Either}
+use Rattle.warg_folder.specs.Moments.{Only}
+use Rattle.warg_folder.specs.Names.{checkpoint, state, mark, staged, is_staged, is_served, page_name}
+use Rattle.warg_folder.specs.Commits.{IsBeside, opened}
 use Rattle.warg_store.specs.Log.{LogOf, IsFileOf, Keeps, IsOneOf}
 use Rattle.warg_store.specs.Growing.{LogIn, Has}
 use Rattle.warg_store.specs.Pruned.{HasFull, full_of, IsSpare, IsPruned}
 use Rattle.warg_store.specs.Private.Steps.{IsPruning}
-use Rattle.warg_store.proofs.NameLemmas.{one_name, apart, served_not_staged}
-use Rattle.warg_store.proofs.FileLemmas.{without_here, without_apart}
+use Rattle.warg_folder.proofs.ForCallers.{one_name, apart, served_not_staged, without_here, without_apart, either}
 use Rattle.warg_store.proofs.PathLemmas.{tile_path_once, entries_path_once, no_tile_a_bundle, no_page_a_tile, no_page_a_bundle}
 use Rattle.warg_store.proofs.ServeLemmas.{opened_idle}
 use Rattle.warg_store.proofs.LeadLemmas.{width_at_most, file_served, same_served, same_kept, pages_stay}
 use Rattle.warg_tiles.proofs.ForCallers.{low_level}
 use Rattle.warg_store.proofs.GrowingLemmas.{none_some}
-use Rattle.warg_store.proofs.StepLemmas.{either}
 use Rattle.warg_store.proofs.SignLemmas.{full_staged_same}
 
 -- a spare name is a served one, and so is the full one's

@@ -1,11 +1,11 @@
 -- Runs over a folder that is ready for the next commit.
-use Rattle.std.proofs.Common.{◌≡◌, ◌≤◌, ℕ, List, Option, Some, sym, ap, nat_eq, if◌then◌else◌, ◌∙◌}
+use Rattle.std.proofs.Common.{◌≡◌, ℕ, List, Option, Some, sym, ap, subst, ◌∙◌, ◌≤◌, nat_eq, if◌then◌else◌}
 use Rattle.std.specs.Cmp.Lexicographic.{pointwise}
-use Rattle.warg_store.specs.Files.{Files, put}
-use Rattle.warg_store.specs.Moments.{Follows, LeavesOnly}
-use Rattle.warg_store.specs.Names.{mark, state}
-use Rattle.warg_store.specs.Opening.{IsBeside, IsStaging}
-use Rattle.warg_store.proofs.MomentLemmas.{then, in_end}
+use Rattle.warg_folder.proofs.ForCallers.{leaves_then, in_end}
+use Rattle.warg_folder.specs.Files.{Files, put}
+use Rattle.warg_folder.specs.Moments.{Follows, LeavesOnly, Within}
+use Rattle.warg_folder.specs.Names.{mark, state}
+use Rattle.warg_folder.specs.Commits.{IsBeside, IsStaging}
 
 beside_then : (s m c : Files) → IsBeside s m → IsBeside m c → IsBeside s c
 beside_then s m c one two = record {
@@ -24,7 +24,7 @@ pub stages_twice : {D : Type 0} (seen : D → Files) (may_leave : D → Files �
 stages_twice seen may_leave moment left_since counts stays old mid new one two =
     let P = IsBeside (seen old) in
     let now : P (seen mid) = in_end moment left_since may_leave counts old mid P one (seen mid) (stays mid) in
-    (then) moment left_since old mid new P (IsBeside (seen mid)) P one two (λ c is. is)
+    leaves_then moment left_since old mid new P (IsBeside (seen mid)) P one two (λ c is. is)
     (λ c. beside_then (seen old) (seen mid) c now)
 
 -- a folder whose state is put stays ready
@@ -38,3 +38,9 @@ state_staging bytes s t may now is follows staging c left =
           ∙ sym (ap (λ (f : Files). f n) is);
       no_mark = ap (λ (f : Files). f mark) from.2 ∙ was.no_mark;
     }
+
+-- a call that changes nothing keeps a folder ready
+pub staging_kept : (s t : Files) (may may_now : Files → Type 0) → t ≡ s → Within may may_now → IsStaging s may
+    → IsStaging t may_now
+staging_kept s t may may_now same within was c left = subst (λ (f : Files). IsBeside f c) (sym same)
+    (was c (within c left))

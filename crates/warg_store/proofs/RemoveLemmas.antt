@@ -6,16 +6,15 @@ use Rattle.std.proofs.lemmas.List.{get_or-map, length-map}
 use Rattle.std.proofs.lemmas.List.Elements.{Contains-get_or}
 use Rattle.std.specs.declared.string.String.{String}
 use Rattle.std.specs.declared.alloc.Global.{Global}
-use Rattle.warg_store.specs.Files.{Files, without}
-use Rattle.warg_store.specs.Moments.{Only, Follows}
-use Rattle.warg_store.specs.Names.{checkpoint, state, mark, staged, is_staged, is_page}
-use Rattle.warg_store.specs.Opening.{IsBeside}
+use Rattle.warg_folder.specs.Files.{Files, without}
+use Rattle.warg_folder.specs.Moments.{Only, Follows}
+use Rattle.warg_folder.specs.Names.{checkpoint, state, mark, staged, is_staged, is_page}
+use Rattle.warg_folder.specs.Commits.{IsBeside}
 use Rattle.warg_store.specs.Log.{LogOf, IsFileOf, Keeps, IsOneOf}
 use Rattle.warg_store.specs.Growing.{LogIn, Has}
 use Rattle.warg_store.specs.Pruned.{ArePagesNotOf, IsNoneOf, IsWithoutPages}
 use Rattle.warg_store.specs.Private.Steps.{IsPageGone}
-use Rattle.warg_store.proofs.NameLemmas.{one_name, apart, served_not_staged}
-use Rattle.warg_store.proofs.FileLemmas.{without_here, without_apart}
+use Rattle.warg_folder.proofs.ForCallers.{one_name, apart, served_not_staged, without_here, without_apart}
 use Rattle.warg_store.proofs.LeadLemmas.{file_served}
 use Rattle.warg_store.proofs.PruneLemmas.{still_keeps, still_one_of, still_has}
 

@@ -1,12 +1,10 @@
 -- Files between two states.
-use Rattle.std.proofs.Common.{◌≡◌, ◌⊎◌, inl, inr, ℕ, List, true, false, Option, Some, None, refl, sym, ap, ◌∙◌}
+use Rattle.std.proofs.Common.{◌≡◌, ℕ, List, true, false, Option, None, refl, sym, ap, ◌∙◌}
 use Rattle.std.specs.Option.{option_or}
-use Rattle.warg_store.specs.Files.{Files, put}
-use Rattle.warg_store.specs.Names.{mark, staged, is_staged, is_own, is_served}
-use Rattle.warg_store.specs.Opening.{opened, committed, opened_by}
-use Rattle.warg_store.proofs.NameLemmas.{not_staged, served_not_own, mark_not_staged_file}
-use Rattle.warg_store.proofs.FileLemmas.{put_apart}
-use Rattle.warg_store.proofs.StepLemmas.{without_at, opened_served, unmarked}
+use Rattle.warg_folder.specs.Files.{Files, put}
+use Rattle.warg_folder.specs.Names.{mark, staged, is_staged, is_own, is_served}
+use Rattle.warg_folder.specs.Commits.{opened, committed, opened_by}
+use Rattle.warg_folder.proofs.ForCallers.{not_staged, served_not_own, mark_not_staged_file, put_apart, without_at, opened_served, unmarked}
 
 -- where no commit stands, files stand for themselves
 pub idle_same : (s : Files) (n : List ℕ) → s mark ≡ None → is_own n ≡ false → opened s n ≡ s n
@@ -14,12 +12,6 @@ idle_same s n none out = ap (λ (o : Option (List ℕ)). opened_by o s n) none �
 
 pub opened_idle : (s : Files) (n : List ℕ) → s mark ≡ None → is_staged n ≡ false → opened s n ≡ s n
 opened_idle s n none isnt = ap (λ (o : Option (List ℕ)). opened_by o s n) none ∙ without_at s n isnt
-
--- what stands at a served name once the folder has been opened
-opened_name : (s : Files) (n : List ℕ) (o : Option (List ℕ)) → s mark ≡ o → is_served n ≡ true → (opened s n ≡ s n)
-    ⊎ (opened s n ≡ option_or (s (staged n)) (s n))
-opened_name s n None stands is = inl (idle_same s n stands (served_not_own n is))
-opened_name s n (Some text) stands is = inr (opened_served s text n stands is)
 
 -- what stands at a served name once a commit stands
 pub committed_served : (s : Files) (text n : List ℕ) → is_served n ≡ true → committed text s n

@@ -3,15 +3,13 @@ use Rattle.std.proofs.Common.{◌≡◌, ◌≢◌, ℕ, ◌<◌, List, [], ◌�
 use Rattle.std.specs.Cmp.Lexicographic.{pointwise, bytes_decides}
 use Rattle.std.proofs.lemmas.List.{take-append-drop, take_at, drop_at}
 use Rattle.warg_tiles.specs.TilePaths.{tile_path, entries_path}
-use Rattle.warg_store.specs.Files.{Files, put, Either}
-use Rattle.warg_store.specs.Moments.{Follows, LeavesOnly}
-use Rattle.warg_store.specs.Names.{checkpoint, state, mark, staged, is_staged, is_own, page_name}
-use Rattle.warg_store.specs.Opening.{IsBeside, IsStaging}
+use Rattle.warg_folder.specs.Files.{Files, put, Either}
+use Rattle.warg_folder.specs.Moments.{Follows, LeavesOnly}
+use Rattle.warg_folder.specs.Names.{checkpoint, state, mark, staged, is_staged, is_own, page_name}
+use Rattle.warg_folder.specs.Commits.{IsBeside, IsStaging}
 use Rattle.warg_store.specs.Log.{said_of, LogOf, Keeps, IsOneOf, IsFileOf, IsNoteOf, checkpoint_of}
 use Rattle.warg_store.specs.Growing.{LogIn, Has, AreFullStaged}
-use Rattle.warg_store.proofs.NameLemmas.{one_name, apart, served_not_checkpoint}
-use Rattle.warg_store.proofs.FileLemmas.{put_here, put_apart}
-use Rattle.warg_store.proofs.MomentLemmas.{stays}
+use Rattle.warg_folder.proofs.ForCallers.{one_name, apart, served_not_checkpoint, put_here, put_apart, leaves_none}
 use Rattle.warg_store.proofs.LeadLemmas.{extends_self, file_served, same_files, pages_beside}
 use Rattle.warg_store.proofs.GrowingLemmas.{beside_one_of}
 use Rattle.warg_store.proofs.OpenLemmas.{text_parts}
@@ -126,7 +124,7 @@ pub unsigned : {F : Type 0} (seen : F → Files) (may_leave : F → Files → Ty
     (left_since : F → ℕ → Files → Type 0) (served old next : LogOf) (l : LogIn F)
     → ((c : Files) → left_since l.folder (moment l.folder) c → may_leave l.folder c)
     → Has seen may_leave served old next l → LeavesOnly moment left_since l.folder l.folder (IsOneOf served old old)
-unsigned seen may_leave moment left_since served old next l now has = stays moment left_since l.folder
+unsigned seen may_leave moment left_since served old next l now has = leaves_none moment left_since l.folder
     (IsOneOf served old old) (λ c left. beside_one_of served old old (seen l.folder) c has.keeps
     (has.staging c (now c left)))
 

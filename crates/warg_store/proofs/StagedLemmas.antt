@@ -6,12 +6,11 @@ use Rattle.std.proofs.lemmas.List.{take_more, map-append}
 use Rattle.warg_tiles.specs.Tiles.{TileAt, tile_end}
 use Rattle.warg_tiles.specs.TilePaths.{tile_path}
 use Rattle.warg_tiles.specs.TileData.{Tiles}
-use Rattle.warg_store.specs.Files.{File, Files, put, IsNameOf}
-use Rattle.warg_store.specs.Names.{staged, is_staged}
-use Rattle.warg_store.specs.Opening.{IsBeside}
+use Rattle.warg_folder.specs.Files.{File, Files, put, IsNameOf}
+use Rattle.warg_folder.specs.Names.{staged, is_staged}
+use Rattle.warg_folder.specs.Commits.{IsBeside}
 use Rattle.warg_store.specs.Staged.{staged_all, new_files}
-use Rattle.warg_store.proofs.NameLemmas.{one_name, apart, staged_once}
-use Rattle.warg_store.proofs.FileLemmas.{put_here, put_apart}
+use Rattle.warg_folder.proofs.ForCallers.{one_name, apart, staged_once, put_here, put_apart}
 
 pub staged_all-append : (fs gs : List File) (s : Files) → staged_all (fs ++ gs) s ≡ staged_all gs (staged_all fs s)
 staged_all-append [] gs s = refl

@@ -1,5 +1,5 @@
 -- What is read of a log's own files is never at fault.
-use Rattle.std.proofs.Common.{◌≡◌, ◌⊎◌, inl, inr, ⊎_elim, ℕ, ◌+◌, ◌*◌, ◌^◌, ◌<◌, ◌≤◌, List, [], ◌∷◌, length, take, drop, map, ◌==◌, ◌&&◌, nat_eq, Bor, true, false, Option, Some, None, IsSome, Result, Ok, Err, refl, sym, ap, subst, ◌∙◌, arith}
+use Rattle.std.proofs.Common.{◌≡◌, ◌⊎◌, inl, inr, ⊎_elim, ℕ, ◌+◌, ◌*◌, ◌^◌, ◌<◌, ◌≤◌, List, [], ◌∷◌, length, take, drop, map, ◌==◌, ◌&&◌, nat_eq, Bor, true, Option, Some, None, IsSome, Result, Ok, Err, refl, sym, ap, subst, ◌∙◌, arith}
 use Rattle.std.specs.Prelude.{option_map, option_copied, unwrap_or, IfErr, MatchResult}
 use Rattle.std.specs.Result.{IsErrAnd}
 use Rattle.std.specs.Cmp.Lexicographic.{pointwise, bytes_decides}
@@ -19,13 +19,13 @@ use Rattle.warg_tiles.proofs.ForCallers.{bundle_same}
 use Rattle.warg_store.specs.Refusals.{IsNoFault}
 use Rattle.warg_store.specs.declared.error.LogError.{LogError}
 use Rattle.warg_store.specs.declared.error.LogError.TheVariants as refused
-use Rattle.warg_store.specs.Files.{Files}
-use Rattle.warg_store.specs.Names.{checkpoint, state, mark}
-use Rattle.warg_store.specs.Opening.{is_signed, opened, opened_by}
+use Rattle.warg_folder.specs.Files.{Files}
+use Rattle.warg_folder.specs.Names.{checkpoint, state, mark}
+use Rattle.warg_folder.specs.Commits.{opened, opened_by}
 use Rattle.warg_store.specs.Log.{LogOf, Extends, Serves, Keeps, HasLog, HasState, IsOneOf, IsBundleIn, bundle_bytes, said_of, checkpoint_of}
 use Rattle.warg_store.specs.Reading.{checkpoint_said}
 use Rattle.warg_store.proofs.LeadLemmas.{end_inside, extends_length, file_served, same_kept}
-use Rattle.warg_store.proofs.NameLemmas.{served_not_staged}
+use Rattle.warg_folder.proofs.ForCallers.{served_not_staged}
 use Rattle.warg_store.proofs.ServeLemmas.{opened_idle}
 use Rattle.warg_store.proofs.GrowingLemmas.{same_length}
 
@@ -117,16 +117,6 @@ text_no_fault said behind bytes text.Memory can is fault = refl
 pub extends_same : (first log : LogOf) → Extends first log → length log.entries ≤ length first.entries → log ≡ first
 extends_same first log extends short =
     sym (same_length first log extends (omega (arith, short, extends_length first log extends)))
-
--- a folder's log is served whole unless the checkpoint is signed
-pub short_signed : (first log : LogOf) (files : Files) → Keeps first log files
-    → length first.entries < length log.entries → is_signed (files checkpoint) ≡ false → ⊥
-short_signed first log files keeps less unsigned =
-    omega (arith, less, ap (λ (l : LogOf). length l.entries) (keeps.newest unsigned))
-
-pub served_most : (first log : LogOf) (files : Files) → Keeps first log files
-    → length first.entries ≤ length log.entries
-served_most first log files keeps = extends_length first log keeps.begins
 
 -- the text of a commit that stands is that of the log once the folder has been opened
 pub mark_fits : (served log : LogOf) (files : Files) (text : List ℕ) → files mark ≡ Some text

@@ -1,6 +1,3 @@
-pub mod Files
-pub mod Moments
-pub mod Names
 pub mod Opening
 pub mod Reading
 pub mod Log
@@ -8,8 +5,6 @@ pub mod Staged
 pub mod Growing
 pub mod Pruned
 pub mod Private
-pub mod Memory
-pub mod System
 pub mod Audited
 pub mod Errors
 pub mod Refusals

@@ -9,9 +9,9 @@ use Rattle.warg_tiles.specs.Between.{IsTileOf}
 use Rattle.warg_tiles.specs.TileLog.{tile_digests}
 use Rattle.warg_tiles.specs.EntryBundles.{bundle_of}
 use Rattle.warg_tiles.specs.CheckpointText.{Said, IsLine, text_of, text_before}
-use Rattle.warg_store.specs.Files.{File, Files}
-use Rattle.warg_store.specs.Names.{checkpoint, state, staged, is_tile, page_name, is_served}
-use Rattle.warg_store.specs.Opening.{is_signed, opened}
+use Rattle.warg_folder.specs.Files.{File, Files}
+use Rattle.warg_folder.specs.Names.{checkpoint, state, staged, is_tile, page_name, is_served}
+use Rattle.warg_folder.specs.Commits.{is_signed, opened}
 
 -- A log: its origin, its entries, the further lines of its checkpoint's text, and its pages, which are files beside its tiles
 -- and bundles: each with its path below `map/`, and its bytes.

@@ -4,8 +4,8 @@ use Rattle.std.specs.List.{Contains}
 use Rattle.warg_tiles.specs.Tiles.{TileAt}
 use Rattle.warg_tiles.specs.TilePaths.{tile_path, entries_path}
 use Rattle.warg_tiles.specs.Between.{IsTileOf}
-use Rattle.warg_store.specs.Files.{File, Files}
-use Rattle.warg_store.specs.Names.{is_served, is_page, page_name}
+use Rattle.warg_folder.specs.Files.{File, Files}
+use Rattle.warg_folder.specs.Names.{is_served, is_page, page_name}
 use Rattle.warg_store.specs.Log.{LogOf}
 
 -- The full tile in a tile's place.

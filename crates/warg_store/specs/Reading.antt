@@ -7,7 +7,7 @@ use Rattle.warg_log.specs.Cut.{old_over}
 use Rattle.warg_log.specs.Tree.{leaves_of, own_digest}
 use Rattle.warg_paths.specs.Paths.{inclusion_of, inclusion_root, consistency_of, consistency_roots}
 use Rattle.warg_tiles.specs.CheckpointText.{Said}
-use Rattle.warg_store.specs.Files.{Files}
+use Rattle.warg_folder.specs.Files.{Files}
 use Rattle.warg_store.specs.Log.{LogOf, CanBeKept, said_of, HasFiles}
 
 -- A log as a folder serves it: the folder, and what its checkpoint's text says.

@@ -1,6 +1,6 @@
 -- Why a call on a log in files is refused.
 use Rattle.std.specs.Prelude.{◌≢◌}
-use Rattle.warg_store.specs.declared.device.FolderError.TheVariants.{Failed}
+use Rattle.warg_folder.specs.declared.device.FolderError.TheVariants.{Failed}
 use Rattle.warg_store.specs.declared.error.LogError.{LogError}
 use Rattle.warg_store.specs.declared.error.LogError.TheVariants.{NoLog, Damaged, RolledBack, OutOfRange, Folder}
 

@@ -4,8 +4,8 @@ use Rattle.std.specs.List.{flat_map}
 use Rattle.warg_tiles.specs.Tiles.{tile_end}
 use Rattle.warg_tiles.specs.TilePaths.{tile_path}
 use Rattle.warg_tiles.specs.TileData.{Tiles}
-use Rattle.warg_store.specs.Files.{File, Files, put}
-use Rattle.warg_store.specs.Names.{staged}
+use Rattle.warg_folder.specs.Files.{File, Files, put}
+use Rattle.warg_folder.specs.Names.{staged}
 
 -- With all of these staged, a later one over an earlier one.
 abbrev pub staged_all : List File → Files → Files

@@ -2,22 +2,19 @@
 
 ghost use Rattle.std.specs.Prelude.{◌≡◌, ◌*◌, ◌<◌, IfErr, IfOk, OnOk};
 ghost use Rattle.warg_store.specs.Audited.{HasEntries, IsOfEntries};
-ghost use Rattle.warg_store.specs.Moments.{HasCauseOf};
-ghost use Rattle.warg_store.specs.Opening.{IsStaging};
+ghost use Rattle.warg_folder.specs.Moments.{HasCauseOf};
+ghost use Rattle.warg_folder.specs.Commits.{IsStaging};
 ghost use Rattle.warg_store.specs.Refusals.{IsNoFailure};
 
-use crate::committing::{MOST_TEXT, commit};
-use crate::device::{Folder, FolderError};
 use crate::edge::read_tile;
 use crate::error::LogError;
 use crate::log::stage_tiles;
-use crate::names::STATE;
 use crate::older::{Newer, compare_older};
 use crate::opening::read_state;
 use crate::reading::read_entries;
-use crate::recovery::recover;
 use std::alloc::Global;
 use warg_crypto::Sha256;
+use warg_folder::{Folder, FolderError, MOST_TEXT, STATE, commit, recover};
 use warg_log::{Checkpoint, GREATEST_LENGTH, LogBuilder};
 use warg_tiles::{CheckpointText, StoredTile, TileLog};
 

@@ -3,13 +3,13 @@
 ghost use Rattle.std.specs.Prelude.{◌⊎◌, IfOk, IfErr};
 ghost use Rattle.warg_store.specs.Growing.{IsReady, Has};
 ghost use Rattle.warg_store.specs.Log.{LogOf};
-ghost use Rattle.warg_store.specs.Moments.{LeavesOnly};
+ghost use Rattle.warg_folder.specs.Moments.{LeavesOnly};
 ghost use Rattle.warg_store.specs.Opening.{IsOpening};
 ghost use Rattle.warg_store.specs.Refusals.{IsNoFault};
 
-use crate::device::Folder;
 use crate::error::LogError;
 use crate::log_folder::LogFolder;
+use warg_folder::Folder;
 
 impl<F: Folder + Drop> LogFolder<F> {
     /// Drops what was pushed, and the pages that were put, since the last commit, by opening the folder again: returns the log

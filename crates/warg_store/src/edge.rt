@@ -9,16 +9,15 @@ ghost use Rattle.warg_tiles.specs.TileLog.{StandsFor, tile_digests};
 ghost use Rattle.warg_tiles.specs.TilePaths.{tile_path, entries_path};
 ghost use Rattle.warg_store.specs.Growing.{ArePartsOf};
 ghost use Rattle.warg_store.specs.Log.{LogOf, AreShort, CanBeKept, IsBundleIn, HasFiles, said_of, tile_bytes, bundle_bytes};
-ghost use Rattle.warg_store.specs.Moments.{Within, Elapses, LeavesOnly, HasCauseOf};
-ghost use Rattle.warg_store.specs.Opening.{IsStaging};
+ghost use Rattle.warg_folder.specs.Moments.{Within, Elapses, LeavesOnly, HasCauseOf};
+ghost use Rattle.warg_folder.specs.Commits.{IsStaging};
 ghost use Rattle.warg_store.specs.Reading.{checkpoint_said};
 ghost use Rattle.warg_store.specs.Refusals.{IsNoFault, IsNoFailure};
 
-use crate::device::{Folder, FolderError};
 use crate::error::LogError;
-use crate::names::STATE;
 use std::alloc::Global;
 use warg_crypto::{Hash, Sha256, hash_leaf};
+use warg_folder::{Folder, FolderError, STATE};
 use warg_log::{Checkpoint, GREATEST_LENGTH, LogBuilder};
 use warg_paths::{HashesError, hashes_in};
 use warg_tiles::{EntriesError, OpenError, StoredTile, Tile, TileLog, read_entries};
@@ -33,7 +32,7 @@ const MOST_BUNDLE: usize = 256 * 65_537;
 const CUT: &str = "is cut short, or too long";
 
 /// Reads a tile. `Damaged` where its file is missing, or has another number of digests.
-#[tactic(auto, using(crate::proofs::ReadyLemmas::staging_kept))]
+#[tactic(auto, using(crate::proofs::ReadyRuns::staging_kept))]
 pub(crate) fn read_tile<F: Folder>(
     alloc: Global,
     folder: &mut F,
@@ -145,7 +144,7 @@ fn other_root(alloc: Global) -> LogError
 }
 
 /// Reads a bundle of the entries below a tile of level 0. `Damaged` where its file is missing.
-#[tactic(auto, using(crate::proofs::ReadyLemmas::staging_kept))]
+#[tactic(auto, using(crate::proofs::ReadyRuns::staging_kept))]
 pub(crate) fn read_bundle<F: Folder>(
     alloc: Global,
     folder: &mut F,

@@ -2,10 +2,9 @@
 
 ghost use Rattle.std.specs.Prelude.{◌≡◌, ◌≢◌};
 
-use crate::device::FolderError;
-use crate::recovery::RecoverError;
 use std::alloc::{AllocError, AllocFailed, Global};
 use thiserror::Error;
+use warg_folder::{FolderError, MARK, RecoverError};
 
 /// A file that is missing or corrupt.
 #[derive(Debug, PartialEq, Eq, Drop)]
@@ -47,7 +46,7 @@ impl From<FolderError> for LogError {
 }
 
 impl From<AllocError> for LogError {
-    ghost use Rattle.warg_store.specs.declared.device.FolderError.TheVariants.{Memory};
+    ghost use Rattle.warg_folder.specs.declared.device.FolderError.TheVariants.{Memory};
     ghost use Rattle.warg_store.specs.declared.error.LogError.TheVariants.{Folder};
 
     ghost from_gives = { λ _ error. error ≡ Folder Memory };
@@ -58,7 +57,7 @@ impl From<AllocError> for LogError {
 }
 
 impl<T: Drop> From<AllocFailed<T>> for LogError {
-    ghost use Rattle.warg_store.specs.declared.device.FolderError.TheVariants.{Memory};
+    ghost use Rattle.warg_folder.specs.declared.device.FolderError.TheVariants.{Memory};
     ghost use Rattle.warg_store.specs.declared.error.LogError.TheVariants.{Folder};
 
     ghost from_gives = { λ _ error. error ≡ Folder Memory };
@@ -97,11 +96,7 @@ impl LogError {
             RecoverError::Folder(FolderError::Memory) => LogError::Folder(FolderError::Memory),
             RecoverError::Folder(FolderError::Failed) => LogError::Folder(FolderError::Failed),
             RecoverError::TooLong => {
-                LogError::damaged(
-                    alloc,
-                    crate::names::MARK,
-                    "is longer than a checkpoint's text",
-                )
+                LogError::damaged(alloc, MARK, "is longer than a checkpoint's text")
             }
         }
     }

@@ -6,15 +6,15 @@ ghost use Rattle.warg_crypto.specs.Digests.{sha256};
 ghost use Rattle.warg_log.specs.Tree.{leaves_of};
 ghost use Rattle.warg_tiles.specs.Between.{IsTileOf};
 ghost use Rattle.warg_store.specs.Log.{LogOf, IsTileIn, HasFiles};
-ghost use Rattle.warg_store.specs.Moments.{Within, HasCauseOf};
+ghost use Rattle.warg_folder.specs.Moments.{Within, HasCauseOf};
 ghost use Rattle.warg_store.specs.Private.Fetched.{AreOwn, GivesMore};
 ghost use Rattle.warg_store.specs.Refusals.{IsNoFault};
 
-use crate::device::{Folder, FolderError};
 use crate::edge::read_tile;
 use crate::error::LogError;
 use std::alloc::Global;
 use warg_crypto::{Hash, Sha256};
+use warg_folder::{Folder, FolderError};
 use warg_log::{GREATEST_LENGTH, LogData, Node};
 use warg_tiles::{Tile, TileData};
 

@@ -1,45 +1,32 @@
 //! A log in a folder of files: what a crash at any moment leaves of it, and what its readers find.
 //!
-//! The definitions that the contracts cite stand in `specs/`: read Files, Moments and Opening first.
+//! The definitions that the contracts cite stand in `specs/`: read Log, Growing and Reading first, and before them those of
+//! `warg_folder`, whose calls are offered here, too.
 #![tactic(auto)]
 
 mod auditing;
-mod committing;
-mod device;
 mod discarding;
-mod disk;
 mod edge;
 mod error;
 mod fetched;
-mod lock;
 mod log;
 mod log_folder;
-mod memory;
-mod names;
 mod older;
 mod opening;
 mod pages;
 mod pruning;
 mod reader;
 mod reading;
-mod recovery;
-mod seen;
 mod signing;
-mod staging;
-mod system;
 
 pub use auditing::{Progress, rebuild};
-pub use committing::{MOST_TEXT, commit};
-pub use device::{Folder, FolderError};
-pub use disk::Fault;
 pub use error::{Damage, LogError};
-pub use lock::{FolderLock, LockError};
 pub use log_folder::{CommitError, LogFolder, PushError};
-pub use memory::{Call, MemoryFolder};
 pub use opening::CreateError;
 pub use reader::LogReader;
 pub use reading::Path;
-pub use recovery::{RecoverError, recover};
 pub use signing::SignError;
-pub use staging::{discard, stage};
-pub use system::SystemFolder;
+pub use warg_folder::{
+    Call, Fault, Folder, FolderError, FolderLock, LockError, MOST_TEXT, MemoryFolder, RecoverError,
+    SystemFolder, commit, discard, recover, stage,
+};

@@ -3,18 +3,16 @@
 ghost use Rattle.std.specs.Prelude.{◌≡◌, ◌≤◌, ℕ, List, [], ◌∷◌, length, map, IfOk, OnOk};
 ghost use Rattle.std.specs.List.{flat_map};
 ghost use Rattle.warg_tiles.specs.TilePaths.{tile_path, entries_path};
-ghost use Rattle.warg_store.specs.Files.{put};
-ghost use Rattle.warg_store.specs.Moments.{Only, LeavesOnly, HasCause};
-ghost use Rattle.warg_store.specs.Names.{staged};
-ghost use Rattle.warg_store.specs.Opening.{IsBeside, IsStaging, NothingStaged};
+ghost use Rattle.warg_folder.specs.Files.{put};
+ghost use Rattle.warg_folder.specs.Moments.{Only, LeavesOnly, HasCause};
+ghost use Rattle.warg_folder.specs.Names.{staged};
+ghost use Rattle.warg_folder.specs.Commits.{IsBeside, IsStaging, NothingStaged};
 ghost use Rattle.warg_store.specs.Log.{LogOf, CanBeKept, checkpoint_of, Extends, Keeps, KeepsNext, IsCommitting, AreStagedFor};
 ghost use Rattle.warg_store.specs.Staged.{staged_all, new_files};
 
-use crate::committing::{MOST_TEXT, commit};
-use crate::device::{Folder, FolderError};
-use crate::staging::stage;
 use std::alloc::{AllocError, Global};
 use warg_crypto::{Hash, Sha256};
+use warg_folder::{Folder, FolderError, MOST_TEXT, commit, stage};
 use warg_log::GREATEST_LENGTH;
 use warg_tiles::{StoredTile, Tile};
 

@@ -6,20 +6,17 @@ ghost use Rattle.warg_crypto.specs.Digests.{sha256};
 ghost use Rattle.warg_log.specs.Tree.{leaves_of};
 ghost use Rattle.warg_tiles.specs.CheckpointText.{IsLine, text_of};
 ghost use Rattle.warg_tiles.specs.TileLog.{StandsFor};
-ghost use Rattle.warg_store.specs.Moments.{LeavesOnly, HasCause, HasCauseOf};
-ghost use Rattle.warg_store.specs.Opening.{IsBeside, IsStaging};
+ghost use Rattle.warg_folder.specs.Moments.{LeavesOnly, HasCause, HasCauseOf};
+ghost use Rattle.warg_folder.specs.Commits.{IsBeside, IsStaging};
 ghost use Rattle.warg_store.specs.Growing.{IsReady, IsSameBut, Has, HasAll, HasNext, IsEndOf, IsPut, ArePartsOf, with_entry, IsFresh, with_page};
 ghost use Rattle.warg_store.specs.Log.{LogOf, CanBeKept, IsCommitting, said_of, checkpoint_of};
 
-use crate::committing::MOST_TEXT;
-use crate::device::{Folder, FolderError};
 use crate::log::{commit_log, stage_bundle, stage_tiles};
-use crate::names::page_name;
-use crate::staging::stage;
 use std::alloc::{AllocError, Global};
 use std::marker::Model;
 use thiserror::Error;
 use warg_crypto::Sha256;
+use warg_folder::{Folder, FolderError, MOST_TEXT, page_name, stage};
 use warg_log::{Checkpoint, GREATEST_LENGTH, LogBuilder};
 use warg_tiles::{CheckpointText, EntryError, StoredTile, Tile, TileLog, push_entry};
 
@@ -51,7 +48,7 @@ impl From<FolderError> for PushError {
 }
 
 impl From<AllocError> for PushError {
-    ghost use Rattle.warg_store.specs.declared.device.FolderError.TheVariants.{Memory};
+    ghost use Rattle.warg_folder.specs.declared.device.FolderError.TheVariants.{Memory};
     ghost use Rattle.warg_store.specs.declared.log_folder.PushError.TheVariants.{Folder};
 
     ghost from_gives = { λ _ error. error ≡ Folder Memory };

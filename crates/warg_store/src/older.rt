@@ -1,13 +1,13 @@
 //! Older partial tiles and bundles, which stay where a log has grown: each is the beginning of what took its place.
 
 ghost use Rattle.std.specs.Prelude.{◌≡◌};
-ghost use Rattle.warg_store.specs.Moments.{HasCause, HasCauseOf};
+ghost use Rattle.warg_folder.specs.Moments.{HasCause, HasCauseOf};
 
-use crate::device::{Folder, FolderError};
 use crate::edge::{damaged_bundle, entries_of, read_bundle, read_tile};
 use crate::error::LogError;
 use std::alloc::{AllocError, Global};
 use warg_crypto::Sha256;
+use warg_folder::{Folder, FolderError};
 use warg_tiles::{StoredTile, Tile};
 
 // What is wrong with an older file.

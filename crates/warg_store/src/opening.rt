@@ -1,26 +1,27 @@
 //! A log's folder, made and opened.
 
-ghost use Rattle.std.specs.Prelude.{◌≡◌, ◌≢◌, ◌⊎◌, ◌↔◌, ◌<◌, ℕ, true, false, List, [], Option, Some, None, Err, length, IfOk, IfErr, OnOk, IsSome, IsTrue, map, string_bytes};
+ghost use Rattle.std.specs.Prelude.{◌≡◌, ◌≢◌, ◌⊎◌, ◌↔◌, ◌<◌, ◌≤◌, ℕ, true, false, List, [], Option, Some, None, Err, length, IfOk, IfErr, OnOk, IsTrue, map, string_bytes};
 ghost use Rattle.std.specs.List.{All, AllByRecursion, Any};
 ghost use Rattle.warg_tiles.specs.CheckpointText.{Said, CanBeSaid, IsLine, text_before};
-ghost use Rattle.warg_store.specs.Files.{SameBut};
-ghost use Rattle.warg_store.specs.Moments.{Only, Within, Elapses, LeavesOnly, HasCause, HasCauseOf, HasLostCause};
+ghost use Rattle.warg_folder.specs.Files.{SameBut};
+ghost use Rattle.warg_folder.specs.Moments.{Only, Within, Elapses, LeavesOnly, HasCause, HasCauseOf, HasLostCause};
 ghost use Rattle.warg_store.specs.Growing.{IsReady, Has};
 ghost use Rattle.warg_store.specs.Log.{LogOf, CanBeKept, no_entries, no_entries_with, Serves, Keeps, HasLog, IsOneOf, said_of};
-ghost use Rattle.warg_store.specs.Names.{checkpoint, state, mark, is_of_log};
-ghost use Rattle.warg_store.specs.Opening.{IsStaging, CanBeServed, AgreesWith, IsTakenOver, IsOpening, HasNoLogFile, HasLogFile, opened};
+ghost use Rattle.warg_folder.specs.Names.{checkpoint, state, mark, is_of_log};
+ghost use Rattle.warg_folder.specs.Commits.{is_signed, IsStaging, NothingStaged, committed, opened};
+ghost use Rattle.warg_store.specs.Opening.{CanBeServed, AgreesWith, IsAtRest, IsTakenOver, IsOpening, HasNoLogFile, HasLogFile};
 ghost use Rattle.warg_store.specs.Refusals.{IsNoFault, IsNoFailure};
 
-use crate::committing::{MOST_TEXT, commit, is_signed};
-use crate::device::{Folder, FolderError};
 use crate::edge::{open_edge, read_edge, read_last_bundle};
 use crate::error::LogError;
 use crate::log_folder::{LogFolder, with_lines};
-use crate::names::{CHECKPOINT, MARK, STATE, is_log_file};
-use crate::recovery::{RecoverError, recover};
 use std::alloc::{AllocError, Global};
 use thiserror::Error;
 use warg_crypto::{Sha256, hash_empty};
+use warg_folder::{
+    CHECKPOINT, Folder, FolderError, LOCK, MARK, MOST_TEXT, STATE, commit, is_log_file, is_signed,
+    recover,
+};
 use warg_log::Checkpoint;
 use warg_tiles::{CheckpointText, CheckpointTextError, TileLog};
 
@@ -49,7 +50,7 @@ impl From<FolderError> for CreateError {
 }
 
 impl From<AllocError> for CreateError {
-    ghost use Rattle.warg_store.specs.declared.device.FolderError.TheVariants.{Memory};
+    ghost use Rattle.warg_folder.specs.declared.device.FolderError.TheVariants.{Memory};
     ghost use Rattle.warg_store.specs.declared.opening.CreateError.TheVariants.{Folder};
 
     ghost from_gives = { λ _ error. error ≡ Folder Memory };
@@ -104,9 +105,7 @@ impl<F: Folder + Drop> LogFolder<F> {
         if bytes.len() > MOST_TEXT {
             return Err(CreateError::Origin);
         }
-        check_fresh(alloc, &mut folder)?;
-        prepare(alloc, &mut folder)?;
-        commit(alloc, &mut folder, bytes.as_slice())?;
+        put_first(alloc, &mut folder, bytes.as_slice())?;
         Ok(LogFolder::with(alloc, folder, text, TileLog::new(alloc), Vec::new(alloc), 0))
     }
 
@@ -224,6 +223,23 @@ fn take_over<F: Folder>(alloc: Global, folder: &mut F) -> Result<CheckpointText<
     Ok(served)
 }
 
+// Puts the first text into a folder that has no file of a log.
+fn put_first<F: Folder>(alloc: Global, folder: &mut F, text: &[u8]) -> Result<(), CreateError>
+    requires { length text.now ≤ MOST_TEXT }
+    ensures committed { F.IsFaithful → OnOk result (F.seen folder.new ≡ committed text.now (F.seen folder.old)) }
+    ensures ready { F.IsFaithful → OnOk result (IsStaging (F.seen folder.new) (F.may_leave folder.new)) }
+    ensures empty { F.IsFaithful → OnOk result (NothingStaged (F.seen folder.new)) }
+    ensures fresh { F.IsFaithful → OnOk result (HasNoLogFile (F.seen folder.old)) }
+    ensures exists { F.IsFaithful → result ≡ Err CreateError.Exists → HasLogFile (F.seen folder.old) }
+    ensures cause { HasCauseOf (CreateError.Folder FolderError.Failed) F.IsFaithful
+        (F.faults folder.old) (F.faults folder.new) result }
+    ensures other { IfErr result (λ error. error ≢ CreateError.Origin) }
+{
+    check_fresh(alloc, folder)?;
+    folder.sync()?;
+    Ok(commit(alloc, folder, text)?)
+}
+
 // Refuses a folder that has a file of a log.
 fn check_fresh<F: Folder>(alloc: Global, folder: &mut F) -> Result<(), CreateError>
     ensures fresh { F.IsFaithful → OnOk result (HasNoLogFile (F.seen folder.old)) }
@@ -258,23 +274,7 @@ fn are_others(names: &[String]) -> bool
 fn is_of_log(name: &str) -> bool
     ensures { result ≡ is_of_log name.now }
 {
-    is_log_file(name) && name != ".log/lock"
-}
-
-// Nothing is staged, and a crash leaves what is seen.
-fn prepare<F: Folder>(alloc: Global, folder: &mut F) -> Result<(), CreateError>
-    ensures opened { F.IsFaithful → OnOk result (F.seen folder.new ≡ opened (F.seen folder.old)) }
-    ensures ready { F.IsFaithful → OnOk result (IsStaging (F.seen folder.new) (F.may_leave folder.new)) }
-    ensures marked { F.IsFaithful → IfErr result (λ error. error ≡ CreateError.Exists → IsSome (F.seen folder.old mark)) }
-    ensures cause { HasCauseOf (CreateError.Folder FolderError.Failed) F.IsFaithful
-        (F.faults folder.old) (F.faults folder.new) result }
-    ensures other { IfErr result (λ error. error ≢ CreateError.Origin) }
-{
-    match recover(alloc, folder) {
-        Ok(()) => Ok(()),
-        Err(RecoverError::Folder(cause)) => Err(CreateError::Folder(cause)),
-        Err(RecoverError::TooLong) => Err(CreateError::Exists),
-    }
+    is_log_file(name) && name != LOCK
 }
 
 /// What the log's state says. `NoLog` where there is none.
@@ -292,7 +292,7 @@ pub(crate) fn read_state<F: Folder>(
 }
 
 /// What a checkpoint's file says, if it is there.
-#[tactic(auto, using(crate::proofs::ReadyLemmas::staging_kept))]
+#[tactic(auto, using(crate::proofs::ReadyRuns::staging_kept))]
 pub(crate) fn read_text<F: Folder>(
     alloc: Global,
     folder: &mut F,
@@ -332,6 +332,8 @@ pub(crate) fn read_newest<F: Folder>(
         → IfErr result (IsNoFault ⊥) }
     ensures meanwhile { F.IsFaithful → (served old next : LogOf) → IsOneOf served old next (F.seen folder.old)
         → IfErr result (IsNoFault ⊥) }
+    ensures newest { F.IsFaithful → (kept : Said) → IsAtRest kept (F.seen folder.old)
+        → IfOk result (λ text. kept.length ≤ text.length) }
     ensures seen { F.IsFaithful → F.seen folder.new ≡ F.seen folder.old }
     ensures cause { HasCauseOf (LogError.Folder FolderError.Failed) F.IsFaithful
         (F.faults folder.old) (F.faults folder.new) result }
@@ -361,6 +363,8 @@ fn newest_of<F: Folder>(
     ensures whole { F.IsFaithful → (first log : LogOf)
         → (F.seen folder.old mark ≡ None → Keeps first log (F.seen folder.old))
         → state.now ≡ said_of log → IfErr result (IsNoFault ⊥) }
+    ensures newest { F.IsFaithful → F.seen folder.old mark ≡ None → is_signed (F.seen folder.old checkpoint) ≡ false
+        → IfOk result (λ text. state.now.length ≤ text.length) }
     ensures seen { F.IsFaithful → F.seen folder.new ≡ F.seen folder.old }
     ensures cause { HasCauseOf (LogError.Folder FolderError.Failed) F.IsFaithful
         (F.faults folder.old) (F.faults folder.new) result }
@@ -374,7 +378,7 @@ fn newest_of<F: Folder>(
 
 // Whether a commit stands that isn't done yet.
 fn is_committing<F: Folder>(alloc: Global, folder: &mut F) -> Result<bool, FolderError>
-    ensures stands { F.IsFaithful → IfOk result (λ is. is ≡ false → F.seen folder.old mark ≡ None) }
+    ensures stands { F.IsFaithful → IfOk result (λ is. (is ≡ false) ↔ (F.seen folder.old mark ≡ None)) }
     ensures seen { F.IsFaithful → F.seen folder.new ≡ F.seen folder.old }
     ensures cause { HasCause F.IsFaithful (F.faults folder.old) (F.faults folder.new) result }
 {
@@ -391,6 +395,8 @@ fn read_again<F: Folder>(
         → text ≡ said_of log) }
     ensures whole { F.IsFaithful → (first log : LogOf) → Keeps first log (F.seen folder.old)
         → state.now ≡ said_of log → IfErr result (IsNoFault ⊥) }
+    ensures newest { F.IsFaithful → is_signed (F.seen folder.old checkpoint) ≡ false
+        → IfOk result (λ text. state.now.length ≤ text.length) }
     ensures seen { F.IsFaithful → F.seen folder.new ≡ F.seen folder.old }
     ensures cause { HasCauseOf (LogError.Folder FolderError.Failed) F.IsFaithful
         (F.faults folder.old) (F.faults folder.new) result }
@@ -458,7 +464,7 @@ pub(crate) fn read_served<F: Folder>(
 }
 
 // Compares the checkpoint that is served with the log's state: its origin, its length and its root.
-#[tactic(auto, using(crate::proofs::ReadyLemmas::staging_kept))]
+#[tactic(auto, using(crate::proofs::ReadyRuns::staging_kept))]
 fn compare<F: Folder>(
     alloc: Global,
     folder: &mut F,
@@ -468,6 +474,8 @@ fn compare<F: Folder>(
     ensures whole { F.IsFaithful → (first log : LogOf) → Keeps first log (F.seen folder.old)
         → state.now ≡ said_of log → served.now ≡ said_of first → IfErr result (IsNoFault ⊥) }
     ensures agrees { OnOk result (AgreesWith state.now served.now) }
+    ensures newest { F.IsFaithful → is_signed (F.seen folder.old checkpoint) ≡ false
+        → OnOk result (state.now.length ≤ served.now.length) }
     ensures seen { F.IsFaithful → F.seen folder.new ≡ F.seen folder.old }
     ensures any_moment { F.IsFaithful
         → OnOk result (LeavesOnly F.moment F.left_since folder.old folder.new (F.may_leave folder.old)) }

@@ -1,18 +1,17 @@
 //! The pages of a log's folder.
 
 ghost use Rattle.std.specs.Prelude.{◌≡◌, ◌+◌, ℕ, true, List, take, map, option_map, None, IfOk, OnOk, IsSome, All, Contains, string_bytes};
-ghost use Rattle.warg_store.specs.Files.{Files};
+ghost use Rattle.warg_folder.specs.Files.{Files};
 ghost use Rattle.warg_store.specs.Growing.{Has};
 ghost use Rattle.warg_store.specs.Log.{LogOf, IsOneOf};
-ghost use Rattle.warg_store.specs.Moments.{Only, Follows, Elapses, IsRead, LeavesOnly, HasCause};
-ghost use Rattle.warg_store.specs.Names.{is_page, page_name};
+ghost use Rattle.warg_folder.specs.Moments.{Only, Follows, Elapses, IsRead, LeavesOnly, HasCause};
+ghost use Rattle.warg_folder.specs.Names.{is_page, page_name};
 ghost use Rattle.warg_store.specs.Private.Steps.{IsPageGone};
 ghost use Rattle.warg_store.specs.Pruned.{ArePagesNotOf, IsWithoutPages};
 
-use crate::device::{Folder, FolderError};
 use crate::log_folder::LogFolder;
-use crate::names::{is_page, page_name};
 use std::alloc::Global;
+use warg_folder::{Folder, FolderError, is_page, page_name};
 
 impl<F: Folder + Drop> LogFolder<F> {
     /// The bytes of the page at this path below `map/` as a reader finds it, but no more than one above `most`; none where there

@@ -2,21 +2,21 @@
 
 ghost use Rattle.std.specs.Prelude.{◌≡◌, ◌≤◌, ◌<◌, ◌↔◌, ℕ, true, List, length, IsTrue, IfOk, IfErr, IfSome, OnOk, string_bytes};
 ghost use Rattle.warg_tiles.specs.Between.{IsTileOf};
-ghost use Rattle.warg_store.specs.Files.{Files};
-ghost use Rattle.warg_store.specs.Moments.{Only, LeavesOnly, HasCause, HasCauseOf};
-ghost use Rattle.warg_store.specs.Names.{is_staged};
-ghost use Rattle.warg_store.specs.Opening.{IsStaging};
+ghost use Rattle.warg_folder.specs.Files.{Files};
+ghost use Rattle.warg_folder.specs.Moments.{Only, LeavesOnly, HasCause, HasCauseOf};
+ghost use Rattle.warg_folder.specs.Names.{is_staged};
+ghost use Rattle.warg_folder.specs.Commits.{IsStaging};
 ghost use Rattle.warg_store.specs.Log.{LogOf, Serves, Keeps, IsOneOf};
 ghost use Rattle.warg_store.specs.Growing.{Has};
 ghost use Rattle.warg_store.specs.Refusals.{IsNoFault};
 ghost use Rattle.warg_store.specs.Pruned.{full_of, HasFull, IsPruned};
 ghost use Rattle.warg_store.specs.Private.Steps.{IsPruning};
 
-use crate::device::{Folder, FolderError};
 use crate::error::LogError;
 use crate::log_folder::LogFolder;
 use crate::opening::read_served;
 use std::alloc::{AllocError, Global};
+use warg_folder::{Folder, FolderError};
 use warg_log::GREATEST_LENGTH;
 use warg_tiles::Tile;
 

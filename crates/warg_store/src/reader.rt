@@ -1,25 +1,25 @@
 //! A log as a folder serves it, as whoever reads it holds it.
 
 ghost use Rattle.std.specs.Prelude.{◌≡◌, ◌⊎◌, ◌+◌, ◌-◌, ◌*◌, ◌<◌, ◌≤◌, length, map, take, min, Some, None, IsErrAnd, IfOk, IfErr, OnOk, MatchResult, option_map, slice_get};
-ghost use Rattle.warg_tiles.specs.CheckpointText.{text_of};
+ghost use Rattle.warg_tiles.specs.CheckpointText.{Said, text_of};
 ghost use Rattle.warg_store.specs.Audited.{IsOfEntries};
 ghost use Rattle.warg_store.specs.Log.{LogOf, HasLog, Serves, IsOneOf};
-ghost use Rattle.warg_store.specs.Moments.{IsRead, HasCause, HasCauseOf, HasLostCause};
-ghost use Rattle.warg_store.specs.Names.{checkpoint, page_name};
+ghost use Rattle.warg_folder.specs.Moments.{IsRead, HasCause, HasCauseOf, HasLostCause};
+ghost use Rattle.warg_folder.specs.Names.{checkpoint, page_name};
+ghost use Rattle.warg_store.specs.Opening.{IsAtRest};
 ghost use Rattle.warg_store.specs.Reading.{Reads, checkpoint_said, bundle_in, inclusion_in, consistency_in, IsShown, IncludesBy, GrowsBy};
 ghost use Rattle.warg_store.specs.Refusals.{IsNoFault};
 
 use crate::auditing::{Progress, audited};
-use crate::device::{Folder, FolderError};
 use crate::edge::{open_edge, read_edge};
 use crate::error::LogError;
-use crate::names::CHECKPOINT;
 use crate::opening::{read_newest, read_text};
 use crate::pages::read_page;
 use crate::reading::{Path, entry, growth, inclusion, read_entries, read_entry};
 use std::alloc::Global;
 use std::marker::Model;
 use warg_crypto::Sha256;
+use warg_folder::{CHECKPOINT, Folder, FolderError};
 use warg_log::Checkpoint;
 use warg_tiles::CheckpointText;
 
@@ -42,12 +42,14 @@ impl<F: Folder + Drop> Model for LogReader<F> {
 
 impl<F: Folder + Drop> LogReader<F> {
     /// Reads a folder's checkpoint. `NoLog` where there is none; `RolledBack` where the log's state, if that is there, is
-    /// newer, and no commit is under way; `Damaged` where the checkpoint is corrupt.
+    /// newer, no commit is under way, and the checkpoint isn't signed; `Damaged` where the checkpoint is corrupt.
     pub fn open(alloc: Global, mut folder: F) -> Result<LogReader<F>, LogError>
         ensures reads { F.IsFaithful → IfOk result (λ reader. (log : LogOf) → Serves log (F.seen folder)
             → Reads F.seen log reader) }
         ensures opens { F.IsFaithful → (served kept : LogOf) → HasLog served kept (F.seen folder)
             → IfErr result (IsNoFault ⊥) }
+        ensures newest { F.IsFaithful → (kept : Said) → IsAtRest kept (F.seen folder)
+            → IfOk result (λ reader. kept.length ≤ reader.text.length) }
 
         // At each moment of a commit, a signing or a pruning it reads the log that was served, or the next one.
         ensures meanwhile { F.IsFaithful → (served old next : LogOf) → IsOneOf served old next (F.seen folder)

@@ -11,19 +11,19 @@ ghost use Rattle.warg_tiles.specs.TileData.{digest_by};
 ghost use Rattle.warg_store.specs.Audited.{IsOfEntries};
 ghost use Rattle.warg_store.specs.Growing.{Has};
 ghost use Rattle.warg_store.specs.Log.{LogOf, AreShort, HasFiles};
-ghost use Rattle.warg_store.specs.Moments.{Within, Elapses, IsRead, HasCauseOf};
+ghost use Rattle.warg_folder.specs.Moments.{Within, Elapses, IsRead, HasCauseOf};
 ghost use Rattle.warg_store.specs.Private.Fetched.{AreOwn};
 ghost use Rattle.warg_store.specs.Reading.{checkpoint_said, AreOfLog, bundle_in, inclusion_in, consistency_in, LeadsTo, IsShown, IncludesBy, GrowsBy};
 ghost use Rattle.warg_store.specs.Refusals.{IsNoFault, IsNoFailure};
 
 use crate::auditing::{Progress, audited};
-use crate::device::{Folder, FolderError};
 use crate::edge::{damaged_bundle, entries_of, read_bundle};
 use crate::error::LogError;
 use crate::fetched::{Fetched, fetch, fetch_leaf};
 use crate::log_folder::LogFolder;
 use std::alloc::Global;
 use warg_crypto::{Hash, Sha256};
+use warg_folder::{Folder, FolderError};
 use warg_log::{Checkpoint, GREATEST_LENGTH, LeafRange, stored_root};
 use warg_paths::{
     PathError, check_record, check_tree, consistency_path, inclusion_path, root_of_inclusion,

@@ -2,22 +2,20 @@
 
 ghost use Rattle.std.specs.Prelude.{◌≡◌, ◌⊎◌, ◌↔◌, ◌<◌, length, Err, IfOk, IfErr, IsTrue, OnOk};
 ghost use Rattle.warg_tiles.specs.CheckpointText.{text_of};
-ghost use Rattle.warg_store.specs.Files.{put};
-ghost use Rattle.warg_store.specs.Moments.{IsRead, LeavesOnly, HasCauseOf};
-ghost use Rattle.warg_store.specs.Names.{checkpoint};
+ghost use Rattle.warg_folder.specs.Files.{put};
+ghost use Rattle.warg_folder.specs.Moments.{IsRead, LeavesOnly, HasCauseOf};
+ghost use Rattle.warg_folder.specs.Names.{checkpoint};
 ghost use Rattle.warg_store.specs.Log.{LogOf, Serves, IsOneOf, IsNoteOf, said_of};
 ghost use Rattle.warg_store.specs.Growing.{IsReady, Has};
 ghost use Rattle.warg_store.specs.Refusals.{IsNoFault};
 
-use crate::committing::MOST_TEXT;
-use crate::device::{Folder, FolderError};
 use crate::error::LogError;
 use crate::log_folder::LogFolder;
-use crate::names::CHECKPOINT;
 use crate::opening::read_served;
 use std::alloc::AllocError;
 use thiserror::Error;
 use warg_crypto::Sha256;
+use warg_folder::{CHECKPOINT, Folder, FolderError, MOST_TEXT};
 use warg_tiles::CheckpointText;
 
 /// Why a signed note isn't served.
@@ -45,7 +43,7 @@ impl From<FolderError> for SignError {
 }
 
 impl From<AllocError> for SignError {
-    ghost use Rattle.warg_store.specs.declared.device.FolderError.TheVariants.{Memory};
+    ghost use Rattle.warg_folder.specs.declared.device.FolderError.TheVariants.{Memory};
     ghost use Rattle.warg_store.specs.declared.signing.SignError.TheVariants.{Folder};
 
     ghost from_gives = { λ _ error. error ≡ Folder Memory };

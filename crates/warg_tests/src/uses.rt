@@ -7,7 +7,7 @@ use warg_crypto::weak::Flat;
 use warg_log::{LogBuilder, LogData, Node, VecLog};
 use warg_map::Map;
 use warg_store::{Folder, LogError, LogFolder, MemoryFolder};
-use warg_uses::{claims, crypto, map, store, witness};
+use warg_uses::{claims, crypto, folder, map, store, witness};
 use warg_witness::Collision;
 
 #[test]
@@ -93,6 +93,16 @@ fn serves_second<F: Folder + Drop>(alloc: Global, folder: F) -> Result<bool, Log
 // Whether a folder has no log to read.
 fn has_no_log<F: Folder + Drop>(alloc: Global, folder: F) -> bool {
     store::served_release(alloc, folder, 0) == Err(LogError::NoLog)
+}
+
+#[test]
+fn a_notice_in_a_folder(rt: HostRuntime) -> Result<(), Fail> {
+    let alloc = rt.alloc();
+    let mut files = MemoryFolder::new(alloc);
+    folder::noticed(alloc, &mut files, b"moved", b"example.com/log")?;
+    let notice = files.read(alloc, "map/notice", 5)?.ok_or("no notice")?;
+    assert!(rt; notice.as_slice() == b"moved".as_slice());
+    Ok(())
 }
 
 #[test]

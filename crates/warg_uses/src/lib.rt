@@ -6,6 +6,7 @@ pub mod bundle;
 pub mod check;
 pub mod claims;
 pub mod crypto;
+pub mod folder;
 pub mod log;
 pub mod map;
 pub mod paths;

@@ -1,7 +1,6 @@
 //! A registry: what it keeps and says of a release, and how a client looks a package up.
 
-ghost use Rattle.std.specs.Prelude.{◌≡◌, ℕ, List, [], ◌∷◌, ◌++◌, length, map, Option, Some};
-ghost use Rattle.std.specs.Prelude.{MatchOption, IfOk, IfSome, OnErr};
+ghost use Rattle.std.specs.Prelude.{◌≡◌, ℕ, List, [], ◌∷◌, ◌++◌, length, map, Option, Some, MatchOption, IfOk, IfSome, OnErr};
 ghost use Rattle.warg_crypto.specs.Digests.{sha256};
 ghost use Rattle.warg_crypto.specs.Tree.{leaf_digest};
 ghost use Rattle.warg_map.specs.Bits.{key_bits};
@@ -12,7 +11,7 @@ ghost use Rattle.warg_registry.specs.Insertions.{entry_of, entries_of, IsInserti
 ghost use Rattle.warg_registry.specs.Registry.{line_of};
 ghost use Rattle.warg_registry.specs.Folder.{registry_of, HasRegistry};
 ghost use Rattle.warg_store.specs.Log.{HasLog, Serves};
-ghost use Rattle.warg_store.specs.Opening.{opened};
+ghost use Rattle.warg_folder.specs.Commits.{opened};
 
 use anyhow::Result;
 use std::alloc::Global;

@@ -3,7 +3,7 @@
 ghost use Rattle.std.specs.Prelude.{◌≡◌, ◌⊎◌, Some, IfOk, slice_get};
 ghost use Rattle.warg_store.specs.Growing.{HasNext, with_entry};
 ghost use Rattle.warg_store.specs.Log.{LogOf, HasLog, Serves, IsOneOf};
-ghost use Rattle.warg_store.specs.Opening.{opened};
+ghost use Rattle.warg_folder.specs.Commits.{opened};
 
 use anyhow::Result;
 use std::alloc::Global;

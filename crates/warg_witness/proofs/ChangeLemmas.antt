@@ -110,7 +110,7 @@ module _ (H : List ℕ → List ℕ) (peers : List (Option (List ℕ))) (key old
     (met : IsChangeMet H peers key old_value new_value xs ys) where
   abbrev pub FindsChange : {D A : _} → Finding D A → Type 0
   FindsChange finding = Finds (IsChangeMet H peers key old_value new_value xs ys)
-      (IsUpdate key old_value new_value xs ys) (IsUpdatePlaced H peers old_value new_value key (xs, ys)) finding
+      (IsUpdate key old_value new_value xs ys) (IsUpdatePlaced H peers (old_value, new_value) key (xs, ys)) finding
 
   -- a lie about the old value
   pub found_before : {D A : _} (finding : Finding D A) → ¬ (finding ≡ Holds) → Finds (IsKeyMet H peers key old_value xs)
@@ -132,13 +132,13 @@ module _ (H : List ℕ → List ℕ) (peers : List (Option (List ℕ))) (key old
       → Finds Unit (HaveSameValues (xs ++ (key, new_value) ∷ []) ys)
       (IsPlacedInStep H p (xs ++ (key, new_value) ∷ []) ys) finding → FindsChange finding
   found_step p parts before = finds_as (IsPlacedInStep H p (xs ++ (key, new_value) ∷ []) ys)
-      (IsUpdatePlaced H peers old_value new_value key (xs, ys)) (λ _. met) (λ _. tt)
+      (IsUpdatePlaced H peers (old_value, new_value) key (xs, ys)) (λ _. met) (λ _. tt)
       (λ after. record { before = before; after = after }) (λ is. is.after) (λ _. placed p parts)
     where
       placed : {D : _} (p : Divergence D) → Parts H (IsPlacedAtPrefix H peers old_value key xs)
           (IsAlike H peers key old_value xs) p
           → (first second : List ℕ) → IsPlacedInStep H p (xs ++ (key, new_value) ∷ []) ys first second
-          → IsUpdatePlaced H peers old_value new_value key (xs, ys) first second
+          → IsUpdatePlaced H peers (old_value, new_value) key (xs, ys) first second
       placed Target parts first second maps = inr maps
       placed (Branch branches) parts first second (inl is) = let Placed : List ℕ × List ℕ
           → Type 0 = λ two. IsPlacedAtPrefix H peers old_value key xs two.0 two.1 in

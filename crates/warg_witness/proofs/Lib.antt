@@ -11,7 +11,7 @@ pub mod KeyLemmas
 pub mod AgreementLemmas
 pub mod PathLawLemmas
 pub mod TreeLawLemmas
-pub mod ConsistencyLawLemmas
+pub mod HeldLemmas
 pub mod MapLawLemmas
 pub mod ForCallers
 pub mod PremiseLemmas

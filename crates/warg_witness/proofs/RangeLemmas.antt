@@ -3,15 +3,13 @@ use Rattle.std.proofs.Common.{◌≡◌, ℕ, suc, ◌+◌, ◌-◌, ◌*◌, �
 use Rattle.std.proofs.lemmas.Nat.{pow-add, pow_pos, pow_below, row_fits, mul-le}
 use Rattle.std.proofs.lemmas.Bool.{cases_lt, cases_eq}
 use Rattle.warg_log.specs.Cut.{is_target, IsFull}
-use Rattle.warg_log.specs.Nodes.{height_of, place_of, node_over, balanced_over}
+use Rattle.warg_log.specs.Nodes.{height_of, place_of, node_over}
 use Rattle.warg_log.specs.Tree.{front_of}
 use Rattle.warg_witness.specs.Ranges.{IsPart, IsAround}
 use Rattle.warg_witness.specs.Ranges.IsPart.{whole, front, rest}
 use Rattle.warg_log.specs.Ranges.{Range, leaves_from, range_of, front_part, rest_part, IsAligned}
-use Rattle.warg_witness.specs.Private.Divergence.{IsNodeRange, IsAbove, IsRootOf, side_of}
-use Rattle.warg_witness.specs.Private.Divergence.IsRootOf.{all_leaves, at_front, in_rest}
-use Rattle.warg_log.proofs.ForCallers.{same_range, starts, counts, target_decides, below_pow, front_is_greatest, balanced_full, balanced_parts, over_at, pow_below_pow}
-use Rattle.std.specs.List.{Contains}
+use Rattle.warg_witness.specs.Private.Divergence.{IsNodeRange, IsAbove, side_of}
+use Rattle.warg_log.proofs.ForCallers.{same_range, starts, counts, target_decides, below_pow, front_is_greatest, over_at, pow_below_pow}
 
 -- A digest function, and digests by node, as data holds them.
 abbrev pub Digest : Type 0
@@ -171,14 +169,6 @@ full_or_not n some =
       ))
     ]
 
--- the first part of an aligned range is a node's
-pub front_node : (range : Range) → IsAligned range.start range.count → 1 < range.count
-    → IsNodeRange (front_part range)
-front_node range aligned more = let f = front_is_greatest range.count more in
-    full_node (front_aligned aligned (omega arith)) f.0
-
-pub ruleset root_parts = (all_leaves, at_front, in_rest)
-
 -- what the checks of functions over ranges try
 pub ruleset wholes = (whole_aligned, starts)
 
@@ -193,60 +183,3 @@ pub node_bounds : {range : Range} → IsNodeRange range → range_of (node_over 
 node_bounds {range} node =
     let at = over_at node.height node.place in
     same_range (range_of (node_over range.start range.count)) range (grind arith) (grind arith)
-
--- a balanced root is among those of the range
-pub root_contained : {root range : Range} → IsRootOf root range
-    → Contains (balanced_over range.start range.count) (node_over root.start root.count)
-root_contained {root} (all_leaves is) = rw (balanced_full root.start root.count is) (0, omega arith, refl)
-root_contained (at_front range more not_full is) = rw (balanced_parts range.start range.count more not_full, is)
-    (0, omega arith, refl)
-root_contained (in_rest range more not_full root) = let below = root_contained root in
-    rw (balanced_parts range.start range.count more not_full) (suc below.0, omega arith, below.2)
-
--- The root is a node's range, and one of the recursion over the range.
-pub record Stands (root range : Range) : Type 0 where
-  pub node : IsNodeRange root
-  pub around : IsAround root range
-  pub part : IsPart range.start range.count root.start root.count
-
-pub root_stands : {root range : Range} → IsRootOf root range → IsAligned range.start range.count → Stands root range
-root_stands (all_leaves is) aligned = record { node = full_node aligned is; around = omega arith; part = whole }
-root_stands (at_front range more not_full is) aligned =
-    let f = front_is_greatest range.count more in
-    rw is (record {
-      node = front_node range aligned more;
-      around = omega arith;
-      part = front range.start range.count whole more;
-    })
-root_stands (in_rest range more not_full root) aligned =
-    let f = front_is_greatest range.count more in
-    let below = root_stands root (rest_aligned aligned more) in
-    record {
-      node = below.node;
-      around = omega arith;
-      part = IsPart-trans (rest range.start range.count whole more) below.part;
-    }
-
--- a part around a balanced root has it as a balanced root
-root_in_front : {root range : Range} → IsRootOf root range → IsAligned range.start range.count → 1 < range.count
-    → IsAround root (front_part range) → IsRootOf root (front_part range)
-root_in_front (all_leaves is) aligned more around = let f = front_is_greatest _ more in absurd (omega arith)
-root_in_front (at_front range _ not_full is) aligned more around = let f = front_is_greatest range.count more in
-    rw is (all_leaves f.0)
-root_in_front (in_rest range _ not_full root) aligned more around =
-    let below = root_stands root (rest_aligned aligned more) in let some = node_some below.node in absurd (omega arith)
-
-root_in_rest : {root range : Range} → IsRootOf root range → 1 < range.count → IsAround root (rest_part range)
-    → IsRootOf root (rest_part range)
-root_in_rest (all_leaves is) more around = let f = front_is_greatest _ more in absurd (omega arith)
-root_in_rest (at_front range _ not_full is) more around = let f = front_is_greatest range.count more in
-    absurd (omega (arith, starts is))
-root_in_rest (in_rest range _ not_full root) more around = root
-
-pub root_at_part : {root : Range} {m a n : ℕ} → IsRootOf root (leaves_from 0 m) → IsPart 0 m a n
-    → IsAround root (leaves_from a n) → IsRootOf root (leaves_from a n)
-root_at_part root whole around = root
-root_at_part root (front b k part more) around = let f = front_is_greatest k more in
-    root_in_front (root_at_part root part (omega arith)) (part_in part).1 more around
-root_at_part root (rest b k part more) around = let f = front_is_greatest k more in
-    root_in_rest (root_at_part root part (omega arith)) more around

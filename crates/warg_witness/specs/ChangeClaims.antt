@@ -16,7 +16,7 @@ pub record IsUpdate (key old_value new_value : List ℕ) (old new : Insertions) 
   pub before : IsLastValue key old_value old
   pub after : HaveSameValues (old ++ (key, new_value) ∷ []) new
 
--- Where those of the old value stand, or in the old map with the new value, and the new map.
-abbrev pub IsUpdatePlaced : (List ℕ → List ℕ) → List (Option (List ℕ)) → List ℕ → List ℕ → List ℕ → Insertions × Insertions → List ℕ → List ℕ → Type 0
-IsUpdatePlaced H peers old_value new_value key maps first second =
-    IsKeyPlaced H peers old_value key maps.0 first second ⊎ IsPlacedInMaps H (maps.0 ++ (key, new_value) ∷ []) maps.1 first second
+-- Where those of the old value stand, the first of two, or in the old map with the new value, the second, and the new map.
+abbrev pub IsUpdatePlaced : (List ℕ → List ℕ) → List (Option (List ℕ)) → List ℕ × List ℕ → List ℕ → Insertions × Insertions → List ℕ → List ℕ → Type 0
+IsUpdatePlaced H peers values key maps first second =
+    IsKeyPlaced H peers values.0 key maps.0 first second ⊎ IsPlacedInMaps H (maps.0 ++ (key, values.1) ∷ []) maps.1 first second

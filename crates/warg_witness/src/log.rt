@@ -1,6 +1,6 @@
 //! Witnesses for the log's proofs.
 
-ghost use Rattle.std.specs.Prelude.{◌≡◌, ◌≢◌, ◌+◌, ◌≤◌, ◌∷◌, ◌↔◌, IsTrue, ℕ, List, length, map, None, Ok, Err, IfOk, MatchOption, ⊤};
+ghost use Rattle.std.specs.Prelude.{◌≡◌, ◌≢◌, ◌+◌, ◌≤◌, ◌∷◌, ℕ, List, length, map, None, Ok, Err, IfOk, MatchOption, ⊤};
 ghost use Rattle.warg_crypto.specs.Collisions.{Collides};
 ghost use Rattle.warg_crypto.specs.Tree.{leaf_digest};
 ghost use Rattle.warg_log.specs.Inclusion.{inclusion};
@@ -18,7 +18,7 @@ ghost use Rattle.warg_witness.specs.Private.Meeting.{IsMeeting, IsPlainAt};
 
 mod consistency;
 
-use crate::collision::{Collision, Finding};
+use crate::collision::Finding;
 use crate::divergence::{Divergence, compare_values};
 use crate::plain::{entry_at, plain_digest, plain_tree};
 use crate::ranges::meet_ranges;
@@ -140,7 +140,7 @@ pub fn witness_value<D: SupportedDigest, V: VisitBytes, L: LogData<D, V>, A: All
 }
 
 // What a value shows whose proof leads to the root of the entries.
-#[tactic(auto, using(std::proofs::lemmas::Bool::iff_false))]
+#[tactic(auto, using(std::proofs::lemmas::Bool::iff_false, crate::proofs::RangeLemmas::parts, crate::proofs::CutLemmas::counted))]
 fn find_value<D: SupportedDigest, V: VisitBytes, A: Allocator + Copy>(
     alloc: A,
     value: &V,
@@ -160,55 +160,22 @@ fn find_value<D: SupportedDigest, V: VisitBytes, A: Allocator + Copy>(
         (λ first second. (first, second) ≡ inputs_of met.now.divergence (0 ∷ V.bytes value.now)
         (plain_input D.digest (map V.bytes entries.now) met.now.target.start met.now.target.count))) }
 {
-    if is_entry_at(value, entries, &met.target)? {
+    let target = &met.target;
+    if target.count != 1 {
+        let (front, rest) = target.split();
+        let (left, right) = (
+            plain_digest(&met.tree, &front),
+            plain_digest(&met.tree, &rest),
+        );
+        let plain = Branch(&left, &right);
+        return Ok(Finding::Collision(met.divergence.collide(alloc, &Leaf(value), &plain)?));
+    }
+    let entry = entry_at(entries, target.start);
+    if have_same_bytes(value, entry)? {
         return Ok(Finding::Holds);
     }
-    let pair = collide_value(alloc, value, entries, met)?;
+    let pair = met.divergence.collide(alloc, &Leaf(value), &Leaf(entry))?;
     Ok(Finding::Collision(pair))
-}
-
-// Whether a range is one leaf, and its entry has the value's bytes.
-fn is_entry_at<V: VisitBytes>(
-    value: &V,
-    entries: &[V],
-    range: &LeafRange,
-) -> Result<bool, AllocError>
-    requires { range.now.start + range.now.count ≤ length entries.now }
-    ensures { IfOk result (λ is. IsTrue is ↔ IsAt (V.bytes value.now) (map V.bytes entries.now)
-        range.now.start range.now.count) }
-{
-    if range.count != 1 {
-        return Ok(false);
-    }
-    have_same_bytes(value, entry_at(entries, range.start))
-}
-
-// The collision of a value's leaf with what the tree over the entries hashes at the target, or of the branches above.
-#[tactic(auto, using(crate::proofs::RangeLemmas::parts, crate::proofs::CutLemmas::counted))]
-fn collide_value<D: SupportedDigest, V: VisitBytes, A: Allocator + Copy>(
-    alloc: A,
-    value: &V,
-    entries: &[V],
-    met: &Meeting<D, V, A>,
-) -> Result<Collision<D, A>, AllocError>
-    requires tree { met.now.tree ≡ leaves_of D.digest (map V.bytes entries.now) }
-    requires aligned { IsAligned met.now.target.start met.now.target.count }
-    requires within { met.now.target.start + met.now.target.count ≤ length met.now.tree }
-    requires collides { Collides D.digest (inputs_of met.now.divergence (0 ∷ V.bytes value.now)
-        (plain_input D.digest (map V.bytes entries.now) met.now.target.start met.now.target.count)) }
-    ensures { IfOk result (λ c. c ≡ inputs_of met.now.divergence (0 ∷ V.bytes value.now)
-        (plain_input D.digest (map V.bytes entries.now) met.now.target.start met.now.target.count)) }
-{
-    let target = &met.target;
-    if target.count == 1 {
-        let entry = entry_at(entries, target.start);
-        return met.divergence.collide(alloc, &Leaf(value), &Leaf(entry));
-    }
-    let (front, rest) = target.split();
-    let left = plain_digest(&met.tree, &front);
-    let right = plain_digest(&met.tree, &rest);
-    met.divergence
-        .collide(alloc, &Leaf(value), &Branch(&left, &right))
 }
 
 /// Whether a proof's claim about a hash is true of the entries: the hash is the root of the entries below

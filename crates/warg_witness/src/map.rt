@@ -1,9 +1,7 @@
 //! Witnesses for the map's proofs.
 
-ghost use Rattle.std.specs.Prelude.{◌≡◌, ◌≤◌, [], if◌then◌else◌, length, Ok, IfOk, MatchOption, ⊤};
-ghost use Rattle.warg_crypto.specs.Bytes.{same_bytes};
+ghost use Rattle.std.specs.Prelude.{◌≡◌, ◌≤◌, [], length, Ok, IfOk, MatchOption, ⊤};
 ghost use Rattle.warg_crypto.specs.Collisions.{Collides};
-ghost use Rattle.warg_crypto.specs.Tree.{leaf_input};
 ghost use Rattle.warg_map.specs.Bits.{key_bits};
 ghost use Rattle.warg_map.specs.Last.{last_under};
 ghost use Rattle.warg_map.specs.Sparse.{pair_bytes};
@@ -85,52 +83,6 @@ fn meet_insertions<
     }))
 }
 
-// The collision that a false claim of a key shows: where the evaluation diverges from the plain tree, at the leaf, or
-// the key with another one of its digest.
-fn collide<D: SupportedDigest, K: VisitBytes, V: VisitBytes, W: VisitBytes, A: Allocator + Copy>(
-    alloc: A,
-    met: &KeyMeeting<'_, D, K, V, A>,
-    key: &K,
-    value: &W,
-) -> Result<Collision<D, A>, AllocError>
-    requires { Collides D.digest (key_inputs met.now.divergence
-        (lent_pair K.bytes V.bytes met.now.last) (K.bytes key.now) (W.bytes value.now)) }
-    ensures { IfOk result (λ c. c ≡ key_inputs met.now.divergence
-        (lent_pair K.bytes V.bytes met.now.last) (K.bytes key.now) (W.bytes value.now)) }
-{
-    if let Divergence::Branch(branches) = &met.divergence {
-        return branches.collide(alloc);
-    }
-    match met.last {
-        Some(last) => collide_inserted(alloc, last, key, value),
-        None => Collision::of(alloc, &Leaf(value), &Leaf(&())),
-    }
-}
-
-// The collision of a key and a value with an insertion: of the keys where the values have the same bytes, else of the
-// leaves.
-#[tactic(auto, using(crate::proofs::KeyLemmas::same_values))]
-fn collide_inserted<
-    D: SupportedDigest,
-    K: VisitBytes,
-    V: VisitBytes,
-    W: VisitBytes,
-    A: Allocator + Copy,
->(alloc: A, inserted: &(K, V), key: &K, value: &W) -> Result<Collision<D, A>, AllocError>
-    requires { Collides D.digest (if same_bytes (W.bytes value.now) (V.bytes inserted.now.1)
-        then (K.bytes key.now, K.bytes inserted.now.0)
-        else (leaf_input (W.bytes value.now), leaf_input (V.bytes inserted.now.1))) }
-    ensures { IfOk result (λ c. c ≡ if same_bytes (W.bytes value.now) (V.bytes inserted.now.1)
-        then (K.bytes key.now, K.bytes inserted.now.0)
-        else (leaf_input (W.bytes value.now), leaf_input (V.bytes inserted.now.1))) }
-{
-    let (inserted_key, last) = inserted;
-    if have_same_bytes(value, last)? {
-        return Collision::of(alloc, key, inserted_key);
-    }
-    Collision::of(alloc, &Leaf(value), &Leaf(last))
-}
-
 // What a proof's peers and a value, or no bytes, show of a key.
 fn find<D: SupportedDigest, K: VisitBytes, V: VisitBytes, W: VisitBytes, A: Allocator + Copy>(
     alloc: A,
@@ -155,7 +107,7 @@ fn find<D: SupportedDigest, K: VisitBytes, V: VisitBytes, W: VisitBytes, A: Allo
 }
 
 // What a proof that leads to the plain root shows of a key.
-#[tactic(auto, using(std::proofs::lemmas::Bool::iff_false))]
+#[tactic(auto, using(std::proofs::lemmas::Bool::iff_false, crate::proofs::KeyLemmas::same_values))]
 fn find_key<D: SupportedDigest, K: VisitBytes, V: VisitBytes, W: VisitBytes, A: Allocator + Copy>(
     alloc: A,
     met: &KeyMeeting<'_, D, K, V, A>,
@@ -176,7 +128,18 @@ fn find_key<D: SupportedDigest, K: VisitBytes, V: VisitBytes, W: VisitBytes, A: 
     if is_last_value(key, value, insertions)? {
         return Ok(Finding::Holds);
     }
-    Ok(Finding::Collision(collide(alloc, met, key, value)?))
+    if let Divergence::Branch(branches) = &met.divergence {
+        return Ok(Finding::Collision(branches.collide(alloc)?));
+    }
+    let Some((inserted, last)) = met.last else {
+        let pair = Collision::of(alloc, &Leaf(value), &Leaf(&()))?;
+        return Ok(Finding::Collision(pair));
+    };
+    if have_same_bytes(value, last)? {
+        return Ok(Finding::Collision(Collision::of(alloc, key, inserted)?));
+    }
+    let pair = Collision::of(alloc, &Leaf(value), &Leaf(last))?;
+    Ok(Finding::Collision(pair))
 }
 
 /// Whether a proof's claim about a key's value is true of the insertions: the value inserted last under the key's

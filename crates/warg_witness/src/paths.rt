@@ -20,6 +20,7 @@ use crate::plain::{entry_at, tree_with_root};
 pub use agreement::agree_record;
 use climbing::meet_paths;
 use std::alloc::{AllocError, Allocator};
+pub(crate) use tree::find_difference;
 pub use tree::witness_tree;
 use warg_crypto::{Hash, Leaf, SupportedDigest, VisitBytes, hash_leaf, have_same_bytes};
 use warg_log::{GREATEST_LENGTH, VecLog};

@@ -2,7 +2,7 @@
 -- range diverge, on the way down to a target in both.
 use Rattle.std.specs.Prelude.{◌≡◌, ℕ, ◌*◌, ◌^◌, ◌<◌, Bool, List, Some, if◌then◌else◌}
 use Rattle.warg_log.specs.Ranges.{Range, front_part, rest_part}
-use Rattle.warg_log.specs.Cut.{Evaluation, cut_over, IsFull}
+use Rattle.warg_log.specs.Cut.{Evaluation, cut_over}
 use Rattle.warg_log.specs.Tree.{root_over}
 use Rattle.warg_witness.specs.Ranges.{IsPart, IsAround}
 use Rattle.warg_crypto.specs.Collisions.{Collides}
@@ -28,13 +28,6 @@ pub record IsNodeRange (range : Range) : Type 0 where
 pub record IsAbove (inner outer : Range) : Type 0 where
   pub around : IsAround inner outer
   pub more : inner.count < outer.count
-
--- A balanced root of a range: all of its leaves, where they are a power of two, else its first part, or a balanced root of
--- the rest.
-pub data IsRootOf (root : Range) : Range → Type 0 where
-  all_leaves : IsFull root.count → IsRootOf root root
-  at_front : (range : Range) → 1 < range.count → ¬ IsFull range.count → root ≡ front_part range → IsRootOf root range
-  in_rest : (range : Range) → 1 < range.count → ¬ IsFull range.count → IsRootOf root (rest_part range) → IsRootOf root range
 
 -- The part of a range on the side of a bit, 0 on the left.
 abbrev pub side_of : Bool → Range → Range

@@ -1,15 +1,12 @@
 -- A proof or a path that leads to the roots of given entries, what a witness knows of it, and where its evaluation and the
 -- trees over them diverge. The digests of a path are given from the topmost down.
 use Rattle.std.specs.Prelude.{◌≡◌, ℕ, ◌+◌, ◌^◌, ◌≤◌, List, [], ◌∷◌, length, Option, Some, slice_index_or, ◌<◌, reverse}
-use Rattle.warg_log.specs.Nodes.{node_over}
 use Rattle.warg_log.specs.Tree.{leaves_of, root_of, root_over}
-use Rattle.warg_log.specs.Cut.{Evaluation, with_target, with_own, cut_over}
-use Rattle.warg_log.specs.Consistency.{IsConsistent}
+use Rattle.warg_log.specs.Cut.{with_target, with_own}
 use Rattle.warg_log.specs.Claims.{InclusionClaim}
 use Rattle.warg_log.specs.Ranges.{Range, leaves_from, range_of, IsAligned}
-use Rattle.warg_witness.specs.Private.Divergence.{IsNodeRange, IsRootOf, IsDivergence, Shows, inputs_of, at_bottom, Parts, root_at}
+use Rattle.warg_witness.specs.Private.Divergence.{IsDivergence, Shows, inputs_of, at_bottom, Parts, root_at}
 use Rattle.warg_witness.specs.Claims.{IsMet}
-use Rattle.warg_witness.specs.Placed.{IsConsistencyPlaced}
 use Rattle.warg_witness.specs.declared.divergence.Divergence.{Divergence}
 use Rattle.warg_paths.specs.Paths.{roots_down}
 use Rattle.warg_paths.specs.Ways.{IsOnGrowth}
@@ -33,28 +30,6 @@ pub record IsMeeting {D : _} (H : List ℕ → List ℕ) (F : ℕ → Option (Li
   pub met : IsMet H F proof digest entries
   pub tree_is : tree ≡ leaves_of H entries
   pub diverges : IsDivergence H (with_target F (range_of proof.leaf.0) digest) (with_own H tree (range_of proof.leaf.0)) (leaves_from 0 (length tree)) divergence
-
--- The trees are those over the old and the new entries, which can be numbered, and their roots meet a consistency proof.
-pub record IsConsistencyMeeting (H : List ℕ → List ℕ) (F : ℕ → Option (List ℕ)) (old new old_tree new_tree : List (List ℕ)) : Type 0 where
-  pub old_is : old_tree ≡ leaves_of H old
-  pub new_is : new_tree ≡ leaves_of H new
-  pub fits : length new ≤ 2 ^ 63
-  pub roots : IsConsistent H F (length old_tree) (length new_tree) (root_of H old_tree) (root_of H new_tree)
-
--- Of all entries that differ at the place, over which the trees are, the divergence shows a collision, or both entries do.
-abbrev pub IsConsistencyDivergence : {D : _} → (List ℕ → List ℕ) → (ℕ → Option (List ℕ)) → List (List ℕ) → List (List ℕ) → ℕ → Divergence D → Type 0
-IsConsistencyDivergence H F old_tree new_tree place p = (old new : List (List ℕ)) → old_tree ≡ leaves_of H old → new_tree ≡ leaves_of H new
-    → ¬ (slice_index_or old place [] ≡ slice_index_or new place []) → Shows H (IsConsistencyPlaced H F old new) (inputs_of p (0 ∷ slice_index_or old place []) (0 ∷ slice_index_or new place []))
-
--- The target is a balanced root of the old tree, and its digest is held, and leads to the roots of both trees.
-pub record LeadsToBoth (H : List ℕ → List ℕ) (e : Evaluation) (old_tree new_tree : List (List ℕ)) : Type 0 where
-  pub root : IsRootOf e.target (leaves_from 0 (length old_tree))
-  pub node : IsNodeRange e.target
-  pub in_old : e.target.start + e.target.count ≤ length old_tree
-  pub in_new : e.target.start + e.target.count ≤ length new_tree
-  pub held : e.held (node_over e.target.start e.target.count) ≡ Some e.digest
-  pub to_old : cut_over H e (leaves_from 0 (length old_tree)) ≡ Some (root_of H old_tree)
-  pub to_new : cut_over H e (leaves_from 0 (length new_tree)) ≡ Some (root_of H new_tree)
 
 -- A climb's second digest is that of a tree over the range; where an evaluation comes to it there, both diverge nowhere,
 -- and meet at the bottom as said, or they diverge at branches that collide and stand where P says.

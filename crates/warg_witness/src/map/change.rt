@@ -70,8 +70,7 @@ pub fn witness_change<
         (pair_bytes K.bytes V.bytes new.now))
         (IsUpdate (K.bytes key.now) (W.bytes old_value.now) (V.bytes new_value.now)
         (pair_bytes K.bytes V.bytes old.now) (pair_bytes K.bytes V.bytes new.now))
-        (IsUpdatePlaced D.digest proof.now (W.bytes old_value.now) (V.bytes new_value.now)
-        (K.bytes key.now)
+        (IsUpdatePlaced D.digest proof.now (W.bytes old_value.now, V.bytes new_value.now) (K.bytes key.now)
         (pair_bytes K.bytes V.bytes old.now, pair_bytes K.bytes V.bytes new.now))) }
 {
     let Some(met) = meet_insertions(alloc, proof.peers(), key, old_value, old)? else {

@@ -1,6 +1,6 @@
 //! The witness for consistency paths.
 
-ghost use Rattle.std.specs.Prelude.{◌≡◌, ℕ, ◌<◌, ◌≤◌, ◌↔◌, List, length, map, None, Ok, IfOk, IsTrue, MatchOption, false, ⊤};
+ghost use Rattle.std.specs.Prelude.{◌≡◌, ℕ, ◌<◌, ◌≤◌, ◌↔◌, List, length, map, None, Ok, IfOk, IsTrue, false, ⊤};
 ghost use Rattle.warg_log.specs.Tree.{leaves_of, root_of};
 ghost use Rattle.warg_paths.specs.Paths.{consistency_roots};
 ghost use Rattle.warg_witness.specs.Findings.{Finds};
@@ -12,8 +12,8 @@ ghost use Rattle.warg_witness.specs.Private.Meeting.{IsTreeMeeting};
 use super::MOST_LEAVES;
 use super::growth::growth_divergence;
 use crate::collision::Finding;
-use crate::plain::{entry_at, plain_tree};
-use crate::trees::{Trees, first_difference};
+use crate::plain::entry_at;
+use crate::trees::{Trees, first_difference, plain_trees};
 use std::alloc::{AllocError, Allocator};
 use warg_crypto::{Hash, Leaf, SupportedDigest, VisitBytes};
 use warg_log::LogBuilder;
@@ -27,51 +27,6 @@ fn leads<D: SupportedDigest>(path: &[Hash<D>], old_length: usize, new_length: us
 {
     let any_root = Hash::<D>::from_array([0; 32]);
     roots_of_consistency(old_length, new_length, &any_root, path).is_some()
-}
-
-// The trees over the entries, or None where the path doesn't lead to their roots.
-#[tactic(auto, using(crate::proofs::HashLemmas::meets))]
-fn meet_trees<D: SupportedDigest, V: VisitBytes, A: Allocator + Copy>(
-    alloc: A,
-    path: &[Hash<D>],
-    old: &[V],
-    new: &[V],
-) -> Result<Option<Trees<D, V, A>>, AllocError>
-    ensures leads { consistency_roots D.digest (length old.now) (length new.now)
-        (root_of D.digest (leaves_of D.digest (map V.bytes old.now))) path.now ≡ None
-        → result ≡ Ok None }
-    ensures met { IfOk result (λ met. MatchOption met
-        (IsTreeMet D.digest path.now (map V.bytes old.now) (map V.bytes new.now)
-        → ⊥)
-        (IsTreeMeeting D.digest path.now (map V.bytes old.now) (map V.bytes new.now))) }
-{
-    if !leads(path, old.len(), new.len()) {
-        return Ok(None);
-    }
-    if new.len() > MOST_LEAVES {
-        return Err(AllocError);
-    }
-    let old_tree = plain_tree(alloc, old)?;
-    let old_plain_root = old_tree.root();
-    let Some((old_root, new_root)) = roots_of_consistency(
-        old.len(),
-        new.len(),
-        &old_plain_root,
-        path,
-    ) else {
-        return Ok(None);
-    };
-    if old_root != old_plain_root {
-        return Ok(None);
-    }
-    let new_tree = plain_tree(alloc, new)?;
-    if new_root != new_tree.root() {
-        return Ok(None);
-    }
-    Ok(Some(Trees {
-        old: old_tree,
-        new: new_tree,
-    }))
 }
 
 /// Whether a consistency path's claim is true of the entries: the new entries begin with the old ones, byte by byte.
@@ -103,15 +58,27 @@ pub fn witness_tree<D: SupportedDigest, V: VisitBytes, A: Allocator + Copy>(
         (IsTreePlaced D.digest path.now (map V.bytes old.now)
         (map V.bytes new.now))) }
 {
-    let Some(trees) = meet_trees(alloc, path, old, new)? else {
+    if !leads(path, old.len(), new.len()) {
+        return Ok(Finding::NotMet);
+    }
+    if new.len() > MOST_LEAVES {
+        return Err(AllocError);
+    }
+    let trees = plain_trees(alloc, old, new)?;
+    let plain_root = trees.old.root();
+    let Some((old_root, new_root)) = roots_of_consistency(old.len(), new.len(), &plain_root, path)
+    else {
         return Ok(Finding::NotMet);
     };
+    if old_root != plain_root || new_root != trees.new.root() {
+        return Ok(Finding::NotMet);
+    }
     find_difference(alloc, path, old, new, &trees)
 }
 
-// What the trees over the entries show to whose roots the path leads.
+/// What the trees over the entries show to whose roots the path leads.
 #[tactic(auto, using(crate::proofs::GrowthLemmas::whole_trees))]
-fn find_difference<D: SupportedDigest, V: VisitBytes, A: Allocator + Copy>(
+pub(crate) fn find_difference<D: SupportedDigest, V: VisitBytes, A: Allocator + Copy>(
     alloc: A,
     path: &[Hash<D>],
     old: &[V],
@@ -123,7 +90,7 @@ fn find_difference<D: SupportedDigest, V: VisitBytes, A: Allocator + Copy>(
         (IsTreePlaced D.digest path.now (map V.bytes old.now)
         (map V.bytes new.now))) }
 {
-    let Some(place) = first_difference(trees, old, new)? else {
+    let Some(place) = first_difference(old, new)? else {
         return Ok(Finding::Holds);
     };
     let divergence = growth_divergence(trees, place, path);

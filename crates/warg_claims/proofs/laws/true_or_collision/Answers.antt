@@ -82,7 +82,7 @@ returns c = λ H claim evidence. elim claim as (λ claim. Sound H claim evidence
         | by_bundle bytes place ↦ λ maps gives passed roots untrue.
             let shown = c.update_is_shown.ensures H bytes place key old_value new_value old_root new_root passed in
             let met = shown.old_is ∙ roots.0 in
-            subst (λ peers. SomeCollision H (IsUpdatePlaced H peers old_value new_value key maps))
+            subst (λ peers. SomeCollision H (IsUpdatePlaced H peers (old_value, new_value) key maps))
             (found_peers (λ (b : MapBundle). b.proofs) place _ shown.bundle shown.peers shown.spelled shown.stands)
             (changed H shown.peers key old_value new_value new_root maps
             (c.key_or_collision.ensures H shown.peers key old_value maps.0 gives met)
@@ -97,7 +97,7 @@ returns c = λ H claim evidence. elim claim as (λ claim. Sound H claim evidence
         | by_bundle bytes place ↦ λ maps gives passed roots untrue.
             let shown = c.insertion_is_shown.ensures H bytes place key value old_root new_root passed in
             let met = shown.old_is ∙ roots.0 in
-            subst (λ peers. SomeCollision H (IsUpdatePlaced H peers [] value key maps))
+            subst (λ peers. SomeCollision H (IsUpdatePlaced H peers ([], value) key maps))
             (found_peers (λ (b : MapBundle). b.absences) place _ shown.bundle shown.peers shown.spelled shown.stands)
             (changed H shown.peers key [] value new_root maps
             (c.absence_or_collision.ensures H shown.peers key maps.0 gives met)

@@ -5,8 +5,8 @@ use Rattle.std.proofs.lemmas.List.{take_all, length-append, length-map, length-t
 use Rattle.warg_crypto.specs.Digests.{sha256}
 use Rattle.warg_store.specs.Growing.{Has}
 use Rattle.warg_store.specs.Log.{LogOf, AreShort}
-use Rattle.warg_store.specs.Opening.{IsBeside}
-use Rattle.warg_store.proofs.ForCallers.{read_is, read_leaves}
+use Rattle.warg_folder.specs.Commits.{IsBeside}
+use Rattle.warg_folder.proofs.ForCallers.{read_is, read_leaves}
 use Rattle.warg_registry.specs.Folder.{with_entries}
 use Rattle.warg_registry.proofs.RegistryGrowth.{pushed_more, no_entries_more}
 use Rattle.warg_registry.proofs.FolderMoments.{beside_then}

@@ -1,8 +1,8 @@
 use Rattle.std.proofs.Common.{map, take}
 use Rattle.warg_store.specs.Growing.{IsReady, Has}
 use Rattle.warg_store.specs.Log.{LogOf}
-use Rattle.warg_store.specs.Moments.{LeavesOnly}
-use Rattle.warg_store.specs.Opening.{IsBeside}
+use Rattle.warg_folder.specs.Moments.{LeavesOnly}
+use Rattle.warg_folder.specs.Commits.{IsBeside}
 use Rattle.warg_registry.specs.Folder.{with_entries}
 use Rattle.warg_registry.proofs.folder.push_all.Given as goal
 

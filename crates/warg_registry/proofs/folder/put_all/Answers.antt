@@ -3,8 +3,8 @@ use Rattle.std.proofs.lemmas.List.{take_all}
 use Rattle.warg_pages.specs.ChangedPages.{ChangedPageAt}
 use Rattle.warg_store.specs.Growing.{Has}
 use Rattle.warg_store.specs.Log.{LogOf}
-use Rattle.warg_store.specs.Opening.{IsBeside}
-use Rattle.warg_store.proofs.ForCallers.{read_is, read_leaves}
+use Rattle.warg_folder.specs.Commits.{IsBeside}
+use Rattle.warg_folder.proofs.ForCallers.{read_is, read_leaves}
 use Rattle.warg_registry.specs.Folder.{with_pages, files_of}
 use Rattle.warg_registry.proofs.RegistryGrowth.{put_more, put_fresh}
 use Rattle.warg_registry.proofs.FolderMoments.{beside_then}

@@ -1,6 +1,6 @@
 use Rattle.std.proofs.Common.{◌≡◌, ◌≤◌}
 use Rattle.warg_store.specs.Audited.{HasEntries}
-use Rattle.warg_store.specs.Opening.{IsStaging}
+use Rattle.warg_folder.specs.Commits.{IsStaging}
 use Rattle.warg_store.specs.declared.auditing.Use.TheVariants.{Stage}
 use Rattle.warg_store.proofs.auditing.replayed.Given as goal
 

@@ -11,7 +11,7 @@ use Rattle.warg_tiles.specs.TileLog.{partial_tiles, tiles_fault}
 use Rattle.warg_tiles.specs.declared.stored.StoredTile.{StoredTile}
 use Rattle.warg_store.proofs.ListLemmas.{all_made}
 use Rattle.warg_store.proofs.WholeLemmas.{tiles_none, places_of, only_memory, same_checkpoint}
-use Rattle.warg_store.proofs.NameLemmas.{apart}
+use Rattle.warg_folder.proofs.ForCallers.{apart}
 use Rattle.warg_store.proofs.edge.open_edge.Goals as goal
 
 pub returns-clause-stands : goal.returns-clause-stands

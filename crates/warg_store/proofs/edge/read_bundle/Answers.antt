@@ -3,8 +3,7 @@ use Rattle.std.specs.Prelude.{option_map}
 use Rattle.warg_tiles.specs.TilePaths.{entries_path}
 use Rattle.warg_store.specs.Log.{bundle_bytes}
 use Rattle.warg_store.proofs.OpenLemmas.{bundle_read}
-use Rattle.warg_store.proofs.ReadLemmas.{read_none}
-use Rattle.warg_store.proofs.MomentLemmas.{begins}
+use Rattle.warg_folder.proofs.ForCallers.{read_none, begins}
 use Rattle.warg_store.proofs.edge.read_bundle.Goals as goal
 
 pub returns-in-Some-clause-read : goal.returns-in-Some-clause-read

@@ -8,10 +8,10 @@ use Rattle.warg_tiles.specs.Tiles.{TileAt}
 use Rattle.warg_tiles.specs.TileLog.{last_tile, tile_digests}
 use Rattle.warg_tiles.specs.declared.stored.StoredTile.{StoredTile}
 use Rattle.warg_store.specs.Log.{HasFiles}
-use Rattle.warg_store.specs.Opening.{IsStaging}
+use Rattle.warg_folder.specs.Commits.{IsStaging}
 use Rattle.warg_store.specs.Refusals.{IsNoFault}
-use Rattle.warg_store.specs.Moments.{LeavesOnly}
-use Rattle.warg_store.proofs.MomentLemmas.{stays, then_reads}
+use Rattle.warg_folder.specs.Moments.{LeavesOnly}
+use Rattle.warg_folder.proofs.ForCallers.{leaves_none, then_reads}
 use Rattle.warg_store.proofs.OpenLemmas.{ArePartsTo, part_none, part_some, level_there}
 use Rattle.warg_store.proofs.WholeLemmas.{err_same}
 use Rattle.warg_store.proofs.edge.read_edge.Goals.{then-count-ne0+in_ok-read_tile+in_ok-push, else-count-ne0}
@@ -21,7 +21,7 @@ pub levels-init : goal.levels-init
 levels-init g c = record {
   faults = omega arith;
   ready = λ faithful was. was;
-  run = λ faithful. stays _ _ _ _ (g.met.F.Folder.only_now c.args.folder.now);
+  run = λ faithful. leaves_none _ _ _ _ (g.met.F.Folder.only_now c.args.folder.now);
   seen = λ faithful. refl;
   edge = λ faithful log size has. subst (λ (l : List (StoredTile Sha256 Global)). ArePartsTo log 0
       (map (λ (t : StoredTile Sha256 Global). (t.tile, t.digests.items)) l)) (sym c.new-edge.ensures.items)

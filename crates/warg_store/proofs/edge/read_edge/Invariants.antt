@@ -3,8 +3,8 @@ use Rattle.std.specs.declared.alloc.Global.{Global}
 use Rattle.warg_crypto.specs.declared.hash.Sha256.{Sha256}
 use Rattle.warg_tiles.specs.declared.stored.StoredTile.{StoredTile}
 use Rattle.warg_store.specs.Log.{LogOf, HasFiles}
-use Rattle.warg_store.specs.Moments.{LeavesOnly}
-use Rattle.warg_store.specs.Opening.{IsStaging}
+use Rattle.warg_folder.specs.Moments.{LeavesOnly}
+use Rattle.warg_folder.specs.Commits.{IsStaging}
 use Rattle.warg_store.proofs.OpenLemmas.{ArePartsTo}
 use Rattle.warg_store.proofs.edge.read_edge.Given as goal
 

@@ -16,7 +16,7 @@ use Rattle.warg_store.proofs.LeadLemmas.{width_at_most}
 use Rattle.warg_store.proofs.WholeLemmas.{err_same}
 use Rattle.warg_store.proofs.OpenLemmas.{part_of, last_bundle_is, no_last_bundle, front_is, bundles_full}
 use Rattle.warg_store.proofs.edge.read_last_bundle.Goals.{in_default-via-in-Some+else-level-eq0, in_default-via-in_default}
-use Rattle.warg_store.proofs.MomentLemmas.{stays}
+use Rattle.warg_folder.proofs.ForCallers.{leaves_none}
 use Rattle.warg_store.proofs.edge.read_last_bundle.Goals as goal
 
 pub returns-in_ok-check_entries-in-Some-clause-bundle : goal.returns-in_ok-check_entries-in-Some-clause-bundle
@@ -92,7 +92,7 @@ returns-in_err-check_entries-in-Some-clause-whole g c = λ faithful log can has 
     (own_digests log c.args.edge.now front.0 stored front.1 can are))
 
 pub returns-in_default-clause-any_moment : goal.returns-in_default-clause-any_moment
-returns-in_default-clause-any_moment g c = λ faithful. stays _ _ _ _ (g.met.F.Folder.only_now c.args.folder.now)
+returns-in_default-clause-any_moment g c = λ faithful. leaves_none _ _ _ _ (g.met.F.Folder.only_now c.args.folder.now)
 
 pub returns-in_ok-check_entries-in-Some-clause-any_moment : goal.returns-in_ok-check_entries-in-Some-clause-any_moment
 returns-in_ok-check_entries-in-Some-clause-any_moment g c = λ faithful. c.in_ok-bytes-in-Some.ensures.any_moment

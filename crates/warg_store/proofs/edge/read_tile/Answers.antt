@@ -6,7 +6,7 @@ use Rattle.warg_paths.specs.Pieces.{hashes_of}
 use Rattle.warg_tiles.specs.TileLog.{tile_digests}
 use Rattle.warg_tiles.specs.TilePaths.{tile_path}
 use Rattle.warg_store.proofs.OpenLemmas.{tile_read, tile_hashed}
-use Rattle.warg_store.proofs.MomentLemmas.{begins}
+use Rattle.warg_folder.proofs.ForCallers.{begins}
 use Rattle.warg_store.proofs.edge.read_tile.Goals as goal
 
 pub returns-clause-read : goal.returns-clause-read

@@ -3,7 +3,7 @@ use Rattle.std.specs.Prelude.{◌^◌}
 use Rattle.std.specs.List.{AllByRecursion}
 use Rattle.warg_tiles.specs.Between.{IsTileOf}
 use Rattle.warg_store.specs.Log.{LogOf, HasFiles}
-use Rattle.warg_store.specs.Moments.{Within}
+use Rattle.warg_folder.specs.Moments.{Within}
 use Rattle.warg_store.specs.Private.Fetched.{AreOwn, GivesMore}
 use Rattle.warg_store.proofs.fetched.fetch.Given as goal
 

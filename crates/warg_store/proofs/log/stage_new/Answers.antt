@@ -1,7 +1,6 @@
 use Rattle.std.proofs.Common.{sym, ◌∙◌}
 use Rattle.std.proofs.lemmas.Result.{on_ok_weaker}
-use Rattle.warg_store.proofs.NameLemmas.{apart}
-use Rattle.warg_store.proofs.MomentLemmas.{stays}
+use Rattle.warg_folder.proofs.ForCallers.{apart, leaves_none}
 use Rattle.warg_store.proofs.StagedLemmas.{old_tile, new_tile}
 use Rattle.warg_store.proofs.log.stage_new.Goals as goal
 
@@ -12,7 +11,7 @@ returns-then-exists_at_length-clause-staged g c = λ faithful.
 
 pub returns-then-exists_at_length-clause-any_moment : goal.returns-then-exists_at_length-clause-any_moment
 returns-then-exists_at_length-clause-any_moment g c = λ faithful.
-    stays _ _ _ _ (λ e left. c.requires.staging faithful e (g.met.F.Folder.only_now c.args.folder.now e left))
+    leaves_none _ _ _ _ (λ e left. c.requires.staging faithful e (g.met.F.Folder.only_now c.args.folder.now e left))
 
 pub returns-clause-staged : goal.returns-clause-staged
 returns-clause-staged g c = λ faithful.

@@ -1,6 +1,6 @@
 use Rattle.std.proofs.Common.{◌≡◌, ◌≤◌, map, take}
-use Rattle.warg_store.specs.Moments.{LeavesOnly}
-use Rattle.warg_store.specs.Opening.{IsBeside, IsStaging}
+use Rattle.warg_folder.specs.Moments.{LeavesOnly}
+use Rattle.warg_folder.specs.Commits.{IsBeside, IsStaging}
 use Rattle.warg_store.specs.Staged.{staged_all, new_files}
 use Rattle.warg_store.proofs.log.stage_tiles.Given as goal
 

@@ -4,7 +4,7 @@ use Rattle.std.specs.List.{All}
 use Rattle.std.proofs.lemmas.List.Elements.{All-more}
 use Rattle.std.specs.declared.string.String.{String}
 use Rattle.std.specs.declared.alloc.Global.{Global}
-use Rattle.warg_store.specs.Names.{is_of_log}
+use Rattle.warg_folder.specs.Names.{is_of_log}
 use Rattle.warg_store.proofs.opening.are_others.Goals as goal
 
 pub names-preserved : goal.names-preserved

@@ -1,9 +1,9 @@
-use Rattle.std.proofs.Common.{◌≡◌, ◌≢◌, List, ℕ, IsSome, true, false, true≢false, refl, sym, ap, subst, ◌∙◌, string_bytes}
+use Rattle.std.proofs.Common.{◌≡◌, ◌≢◌, IsSome, true, false, true≢false, refl, sym, ap, subst, ◌∙◌, string_bytes}
 use Rattle.std.specs.List.{All, Any}
 use Rattle.std.proofs.lemmas.List.Elements.{All-weaker}
 use Rattle.std.specs.declared.string.String.{String}
 use Rattle.std.specs.declared.alloc.Global.{Global}
-use Rattle.warg_store.specs.Names.{is_of_log}
+use Rattle.warg_folder.specs.Names.{is_of_log}
 use Rattle.warg_store.proofs.CreateLemmas.{absent}
 use Rattle.warg_store.proofs.opening.check_fresh.Goals as goal
 

@@ -1,15 +1,15 @@
-use Rattle.std.proofs.Common.{◌≡◌, ◌⊎◌, inl, ⊎_elim, Option, Some, None, sym, ap, subst, ◌∙◌}
+use Rattle.std.proofs.Common.{◌≡◌, ◌⊎◌, inl, ⊎_elim, None, sym, ap, subst, ◌∙◌}
 use Rattle.std.proofs.lemmas.Result.{IfOk-weaker, on_ok_weaker}
 use Rattle.warg_tiles.specs.CheckpointText.{Said}
-use Rattle.warg_store.specs.Files.{Files}
-use Rattle.warg_store.specs.Moments.{Within}
-use Rattle.warg_store.specs.Names.{checkpoint, state}
+use Rattle.warg_folder.specs.Files.{Files}
+use Rattle.warg_folder.specs.Moments.{Within}
+use Rattle.warg_folder.specs.Names.{checkpoint, state}
 use Rattle.warg_store.specs.Opening.{AgreesWith, IsTakenOver}
 use Rattle.warg_store.specs.Log.{LogOf, Serves, Keeps, HasLog, said_of}
 use Rattle.warg_store.specs.Refusals.{IsNoFault}
 use Rattle.warg_store.proofs.OptionLemmas.{one_value, no_value}
 use Rattle.warg_store.proofs.WholeLemmas.{err_same}
-use Rattle.warg_store.proofs.MomentLemmas.{begins, then, then_reads, read_twice, weaker}
+use Rattle.warg_folder.proofs.ForCallers.{begins, leaves_then, then_reads, read_twice, leaves_weaker}
 use Rattle.warg_store.proofs.OpenLemmas.{kept_said}
 use Rattle.warg_store.proofs.opening.kept_text.Goals as goal
 
@@ -71,7 +71,7 @@ returns-clause-any_moment g c = λ faithful only.
     (g.met.F.Folder.only_now c.args.folder.now)
     (c.read_text.ensures.time faithful) (c.read_served.ensures.time faithful) first
     (c.read_served.ensures.crash faithful) only in
-    weaker moment since c.args.folder.now c.compare.new.folder Same _
+    leaves_weaker moment since c.args.folder.now c.compare.new.folder Same _
     (then_reads moment since may g.met.F.Folder.counts_now c.args.folder.now c.read_served.new.folder
     c.compare.new.folder Same served.0 (c.in_ok-compare.ensures.any_moment faithful))
     (λ f same. inl same)
@@ -87,8 +87,8 @@ returns-in_default-clause-any_moment g c = λ faithful only.
     let left_same : (f : Files) → may c.read_text.new.folder f → f ≡ first = λ f left. only f
     (c.read_text.ensures.crash faithful f left) in
     on_ok_weaker c.take_over.result
-    (λ run. then moment since c.args.folder.now c.read_text.new.folder c.take_over.new.folder (λ f. f ≡ first) _ P
-    (begins moment since may c.args.folder.now c.read_text.new.folder (λ f. f ≡ first)
+    (λ run. leaves_then moment since c.args.folder.now c.read_text.new.folder c.take_over.new.folder (λ f. f ≡ first) _
+    P (begins moment since may c.args.folder.now c.read_text.new.folder (λ f. f ≡ first)
     (g.met.F.Folder.only_now c.args.folder.now) (c.read_text.ensures.time faithful) only left_same)
     run (λ f same. inl same) (λ f. subst (λ (s : Files). (f ≡ s) ⊎ IsTakenOver s f → P f) (sym seen) (λ p. p)))
     (c.take_over.ensures.any_moment faithful (λ f left. left_same f left ∙ sym seen)

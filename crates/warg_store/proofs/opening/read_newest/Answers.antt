@@ -1,7 +1,9 @@
-use Rattle.std.proofs.Common.{⊎_elim, None, sym, ap, subst, ◌∙◌}
+use Rattle.std.proofs.Common.{◌≤◌, ⊎_elim, None, sym, ap, subst, ◌∙◌}
 use Rattle.std.proofs.lemmas.Result.{IfOk-weaker}
-use Rattle.warg_store.specs.Files.{Files}
-use Rattle.warg_store.specs.Names.{checkpoint}
+use Rattle.warg_folder.specs.Files.{Files}
+use Rattle.warg_folder.specs.Names.{checkpoint, mark}
+use Rattle.warg_folder.specs.Commits.{is_signed}
+use Rattle.warg_tiles.specs.CheckpointText.{Said}
 use Rattle.warg_store.specs.Log.{Serves, Keeps, said_of}
 use Rattle.warg_store.specs.Refusals.{IsNoFault}
 use Rattle.warg_store.proofs.OptionLemmas.{one_value, no_value}
@@ -86,3 +88,15 @@ returns-in-Some-state-2-clause-meanwhile g c = λ faithful served old next one.
     (λ log has. let said = c.in_ok-state.ensures.text faithful (said_of log) None (kept_said log has.can) has.text in
     one_value _ _ _ c.in-Some-state-2.is said) in
     c.newest_of.ensures.whole faithful is.0 is.1 is.2 is.3
+
+pub returns-in-Some-state-2-clause-newest : goal.returns-in-Some-state-2-clause-newest
+returns-in-Some-state-2-clause-newest g c = λ faithful kept rest.
+    let same = c.read_text-2.ensures.seen faithful ∙ c.read_text.ensures.seen faithful in
+    let is = one_value _ _ _ c.in-Some-state-2.is (c.in_ok-state.ensures.text faithful kept None rest.can rest.says) in
+    IfOk-weaker c.newest_of.result _ _ (λ text least. subst (λ (s : Said). s.length ≤ text.length) is least)
+    (c.newest_of.ensures.newest faithful (ap (λ (f : Files). f mark) same ∙ rest.no_mark)
+    (ap (λ (f : Files). is_signed (f checkpoint)) same ∙ rest.unsigned))
+
+pub returns-in-None-state-clause-newest : goal.returns-in-None-state-clause-newest
+returns-in-None-state-clause-newest g c = λ faithful kept rest.
+    absurd (no_value _ _ c.in-None-state.is (c.in_ok-state.ensures.text faithful kept None rest.can rest.says))

@@ -1,5 +1,3 @@
-use Rattle.std.proofs.Common.{◌≡◌, Option, Some, sym, ◌∙◌}
-use Rattle.warg_tiles.specs.CheckpointText.{Said}
 use Rattle.warg_store.specs.Log.{said_of}
 use Rattle.warg_store.proofs.OptionLemmas.{one_value, no_value}
 use Rattle.warg_store.proofs.OpenLemmas.{kept_said}

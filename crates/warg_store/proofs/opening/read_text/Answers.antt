@@ -1,7 +1,7 @@
 use Rattle.std.proofs.Common.{◌≡◌, ◌+◌, ℕ, List, take, Vec, Global, Option, Some, None, refl, sym, ap, ◌∙◌}
 use Rattle.std.specs.Prelude.{option_map}
 use Rattle.warg_tiles.specs.CheckpointText.{Said}
-use Rattle.warg_store.proofs.ReadLemmas.{read_none}
+use Rattle.warg_folder.proofs.ForCallers.{read_none}
 use Rattle.warg_store.proofs.OpenLemmas.{text_read}
 use Rattle.warg_store.specs.Refusals.{IsNoFault}
 use Rattle.warg_store.proofs.WholeLemmas.{err_same}

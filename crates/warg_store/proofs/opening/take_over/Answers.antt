@@ -1,7 +1,7 @@
 use Rattle.std.proofs.Common.{◌≡◌, ◌⊎◌, inl, inr, ⊎_elim, ℕ, List, length, Option, Some, sym, ap, subst, ◌∙◌}
 use Rattle.warg_tiles.specs.CheckpointText.{Said, text_of, text_before}
-use Rattle.warg_store.specs.Files.{Files, put}
-use Rattle.warg_store.specs.Names.{checkpoint, state}
+use Rattle.warg_folder.specs.Files.{Files, put}
+use Rattle.warg_folder.specs.Names.{checkpoint, state}
 use Rattle.warg_store.specs.Log.{HasFiles, Keeps, said_of, checkpoint_of}
 use Rattle.warg_store.proofs.OptionLemmas.{one_value, no_value}
 use Rattle.warg_store.proofs.OpenLemmas.{kept_said, agrees_self, taken_over}
@@ -9,16 +9,16 @@ use Rattle.warg_store.specs.Growing.{ArePartsOf}
 use Rattle.warg_store.specs.Refusals.{IsNoFault}
 use Rattle.warg_store.proofs.WholeLemmas.{err_same, same_said}
 use Rattle.warg_store.specs.Opening.{AgreesWith, CanBeServed, IsTakenOver}
-use Rattle.warg_store.proofs.MomentLemmas.{begins, goes_on, weaker, then_reads, in_end}
-use Rattle.warg_store.proofs.FileLemmas.{put_apart}
+use Rattle.warg_folder.proofs.ForCallers.{begins, goes_on, leaves_weaker, then_reads, in_end, put_apart}
 use Rattle.warg_store.proofs.ReadyRuns.{state_staging}
 use Rattle.warg_store.proofs.opening.take_over.Goals as goal
 
 pub returns-clause-text : goal.returns-clause-text
 returns-clause-text g c = λ faithful log serves.
     let seen = g.F.Folder.seen in
-    let said = one_value _ c.in-Some.served (said_of log) c.in-Some.is (c.in_ok-served.ensures.text faithful (said_of log)
-    serves.checkpoint.0 (kept_said log serves.can) serves.checkpoint.1) in
+    let said = one_value _ c.in-Some.served (said_of log) c.in-Some.is
+    (c.in_ok-served.ensures.text faithful (said_of log) serves.checkpoint.0 (kept_said log serves.can)
+    serves.checkpoint.1) in
     let same = c.read_edge.ensures.seen faithful ∙ c.read_text.ensures.seen faithful in
     let bytes : c.as_slice-2.result.now ≡ checkpoint_of log = c.as_slice-2.ensures.value ∙ c.in_ok-bytes.ensures
     ∙ ap text_of said in (
@@ -32,8 +32,9 @@ returns-clause-text g c = λ faithful log serves.
 
 pub returns-in_err-edge-clause-whole : goal.returns-in_err-edge-clause-whole
 returns-in_err-edge-clause-whole g c = λ faithful log serves.
-    let said = one_value _ c.in-Some.served (said_of log) c.in-Some.is (c.in_ok-served.ensures.text faithful (said_of log)
-    serves.checkpoint.0 (kept_said log serves.can) serves.checkpoint.1) in
+    let said = one_value _ c.in-Some.served (said_of log) c.in-Some.is
+    (c.in_ok-served.ensures.text faithful (said_of log) serves.checkpoint.0 (kept_said log serves.can)
+    serves.checkpoint.1) in
     let size : c.length.result ≡ length log.entries = c.length.ensures ∙ c.checkpoint-checkpoint.ensures.length
     ∙ ap (λ (s : Said). s.length) said in
     err_same (IsNoFault ⊥) c.in_err-edge.field-0.0 c.from_residual-in_err-edge.result
@@ -43,8 +44,9 @@ returns-in_err-edge-clause-whole g c = λ faithful log serves.
 
 pub returns-in_err-open_edge-clause-whole : goal.returns-in_err-open_edge-clause-whole
 returns-in_err-open_edge-clause-whole g c = λ faithful log serves.
-    let said = one_value _ c.in-Some.served (said_of log) c.in-Some.is (c.in_ok-served.ensures.text faithful (said_of log)
-    serves.checkpoint.0 (kept_said log serves.can) serves.checkpoint.1) in
+    let said = one_value _ c.in-Some.served (said_of log) c.in-Some.is
+    (c.in_ok-served.ensures.text faithful (said_of log) serves.checkpoint.0 (kept_said log serves.can)
+    serves.checkpoint.1) in
     let size : c.length.result ≡ length log.entries = c.length.ensures ∙ c.checkpoint-checkpoint.ensures.length
     ∙ ap (λ (s : Said). s.length) said in
     let parts = c.in_ok-edge.ensures.edge faithful log size
@@ -92,7 +94,7 @@ returns-clause-any_moment g c = λ faithful only none.
     (c.read_text.ensures.time faithful) only (λ f left. only f (c.read_text.ensures.crash faithful f left)))
     (c.in_ok-edge.ensures.any_moment faithful) in
     goes_on moment since may c.args.folder.now c.read_edge.new.folder c.replace.new.self P
-    (weaker moment since c.args.folder.now c.read_edge.new.folder Same P edge (λ f same. inl same))
+    (leaves_weaker moment since c.args.folder.now c.read_edge.new.folder Same P edge (λ f same. inl same))
     (c.replace.ensures.time faithful)
     (λ f left.
     let from = c.replace.ensures.crash faithful f left in

@@ -1,4 +1,4 @@
-use Rattle.warg_store.proofs.MomentLemmas.{goes_on}
+use Rattle.warg_folder.proofs.ForCallers.{goes_on}
 use Rattle.warg_store.proofs.pages.remove_all.Goals as goal
 
 pub returns-clause-any_moment : goal.returns-clause-any_moment

@@ -3,10 +3,10 @@ use Rattle.std.specs.List.{All}
 use Rattle.std.proofs.lemmas.List.{take_all}
 use Rattle.std.proofs.lemmas.List.Elements.{All-more, All-weaker}
 use Rattle.std.specs.declared.string.String.{String}
-use Rattle.warg_store.specs.Files.{Files}
+use Rattle.warg_folder.specs.Files.{Files}
 use Rattle.std.specs.declared.alloc.Global.{Global}
-use Rattle.warg_store.specs.Names.{is_page}
-use Rattle.warg_store.proofs.MomentLemmas.{stays, goes_on}
+use Rattle.warg_folder.specs.Names.{is_page}
+use Rattle.warg_folder.proofs.ForCallers.{leaves_none, goes_on}
 use Rattle.warg_store.proofs.RemoveLemmas.{all_pages, one_gone, follows_one, still_gone, named_in}
 use Rattle.warg_store.proofs.pages.remove_each.Goals as goal
 
@@ -20,7 +20,7 @@ names-init g c = record {
   only = λ faithful. all_pages _ (g.F.Folder.seen c.args.folder.now);
   crash = λ faithful e left. (e, left, all_pages _ e);
   faults = omega arith;
-  time = λ faithful. stays g.F.Folder.moment g.F.Folder.left_since c.args.folder.now _
+  time = λ faithful. leaves_none g.F.Folder.moment g.F.Folder.left_since c.args.folder.now _
       (λ e left. (e, g.met.F.Folder.only_now c.args.folder.now e left, all_pages _ e));
 }
 

@@ -1,8 +1,8 @@
 use Rattle.std.proofs.Common.{◌≡◌, ◌≤◌, map, true, None, take, string_bytes}
 use Rattle.std.specs.List.{All}
-use Rattle.warg_store.specs.Files.{Files}
-use Rattle.warg_store.specs.Moments.{Follows, LeavesOnly}
-use Rattle.warg_store.specs.Names.{is_page}
+use Rattle.warg_folder.specs.Files.{Files}
+use Rattle.warg_folder.specs.Moments.{Follows, LeavesOnly}
+use Rattle.warg_folder.specs.Names.{is_page}
 use Rattle.warg_store.specs.Pruned.{IsWithoutPages}
 use Rattle.warg_store.proofs.pages.remove_each.Given as goal
 

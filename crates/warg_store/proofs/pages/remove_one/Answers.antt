@@ -1,6 +1,6 @@
 use Rattle.std.proofs.Common.{inl, inr, ⊎_elim, refl, sym, ◌∙◌}
 use Rattle.std.proofs.lemmas.Result.{on_ok_weaker}
-use Rattle.warg_store.proofs.MomentLemmas.{elapses_none}
+use Rattle.warg_folder.proofs.ForCallers.{elapses_none}
 use Rattle.warg_store.proofs.RemoveLemmas.{gone_here}
 use Rattle.warg_store.proofs.pages.remove_one.Goals as goal
 

@@ -1,8 +1,8 @@
 use Rattle.std.proofs.Common.{◌≡◌, length, ap, subst, ◌∙◌}
 use Rattle.warg_tiles.specs.CheckpointText.{Said}
-use Rattle.warg_store.specs.Moments.{LeavesOnly}
+use Rattle.warg_folder.specs.Moments.{LeavesOnly}
 use Rattle.warg_store.specs.Private.Steps.{IsPruning}
-use Rattle.warg_store.proofs.MomentLemmas.{begins, goes_on, read_twice, then}
+use Rattle.warg_folder.proofs.ForCallers.{begins, goes_on, read_twice, leaves_then}
 use Rattle.warg_store.proofs.PruneLemmas.{begun}
 use Rattle.warg_store.proofs.pruning.prune_all.Goals as goal
 
@@ -29,8 +29,8 @@ returns-in_err-removed-clause-any_moment g c = λ faithful served log keeps stag
     (g.met.F.Folder.only_now c.args.folder.now) (c.read_served.ensures.time faithful) (c.list.ensures.time faithful)
     (c.read_served.ensures.crash faithful) (c.list.ensures.crash faithful)
     (λ d left. begun c.args.kept c.length-served.result s d (staging d left)) in
-    let each = then g.F.Folder.moment g.F.Folder.left_since c.args.folder.now c.list.new.self c.prune_each.new.folder P
-    P P read.0 (c.prune_each.ensures.any_moment faithful s read.1) (λ e p. p) (λ e p. p) in
+    let each = leaves_then g.F.Folder.moment g.F.Folder.left_since c.args.folder.now c.list.new.self
+    c.prune_each.new.folder P P P read.0 (c.prune_each.ensures.any_moment faithful s read.1) (λ e p. p) (λ e p. p) in
     subst (λ n. LeavesOnly g.F.Folder.moment g.F.Folder.left_since c.args.folder.now c.prune_each.new.folder
     (IsPruning c.args.kept n s)) size each
 
@@ -44,8 +44,8 @@ returns-in_err-sync-clause-any_moment g c = λ faithful served log keeps staging
     (g.met.F.Folder.only_now c.args.folder.now) (c.read_served.ensures.time faithful) (c.list.ensures.time faithful)
     (c.read_served.ensures.crash faithful) (c.list.ensures.crash faithful)
     (λ d left. begun c.args.kept c.length-served.result s d (staging d left)) in
-    let each = then g.F.Folder.moment g.F.Folder.left_since c.args.folder.now c.list.new.self c.prune_each.new.folder P
-    P P read.0 (c.prune_each.ensures.any_moment faithful s read.1) (λ e p. p) (λ e p. p) in
+    let each = leaves_then g.F.Folder.moment g.F.Folder.left_since c.args.folder.now c.list.new.self
+    c.prune_each.new.folder P P P read.0 (c.prune_each.ensures.any_moment faithful s read.1) (λ e p. p) (λ e p. p) in
     let sync = goes_on _ _ _ c.args.folder.now c.prune_each.new.folder c.sync.new.self P each
     (c.sync.ensures.time faithful)
     (λ e left. c.prune_each.ensures.crash faithful s e read.1 (c.sync.ensures.crash faithful e left)) in
@@ -62,8 +62,8 @@ returns-clause-any_moment g c = λ faithful served log keeps staging.
     (g.met.F.Folder.only_now c.args.folder.now) (c.read_served.ensures.time faithful) (c.list.ensures.time faithful)
     (c.read_served.ensures.crash faithful) (c.list.ensures.crash faithful)
     (λ d left. begun c.args.kept c.length-served.result s d (staging d left)) in
-    let each = then g.F.Folder.moment g.F.Folder.left_since c.args.folder.now c.list.new.self c.prune_each.new.folder P
-    P P read.0 (c.prune_each.ensures.any_moment faithful s read.1) (λ e p. p) (λ e p. p) in
+    let each = leaves_then g.F.Folder.moment g.F.Folder.left_since c.args.folder.now c.list.new.self
+    c.prune_each.new.folder P P P read.0 (c.prune_each.ensures.any_moment faithful s read.1) (λ e p. p) (λ e p. p) in
     let sync = goes_on _ _ _ c.args.folder.now c.prune_each.new.folder c.sync.new.self P each
     (c.sync.ensures.time faithful)
     (λ e left. c.prune_each.ensures.crash faithful s e read.1 (c.sync.ensures.crash faithful e left)) in

@@ -1,7 +1,7 @@
 use Rattle.std.proofs.Common.{◌≡◌, ◌≤◌, ℕ, List, true}
-use Rattle.warg_store.specs.Files.{Files}
-use Rattle.warg_store.specs.Moments.{LeavesOnly}
-use Rattle.warg_store.specs.Names.{is_staged}
+use Rattle.warg_folder.specs.Files.{Files}
+use Rattle.warg_folder.specs.Moments.{LeavesOnly}
+use Rattle.warg_folder.specs.Names.{is_staged}
 use Rattle.warg_store.specs.Private.Steps.{IsPruning}
 use Rattle.warg_store.proofs.pruning.prune_each.Given as goal
 

@@ -3,7 +3,7 @@ use Rattle.std.specs.Prelude.{option_map, IfSome}
 use Rattle.warg_store.specs.declared.pruning.Named.{Named}
 use Rattle.warg_store.specs.Pruned.{HasFull}
 use Rattle.warg_store.specs.Private.Steps.{IsPruning}
-use Rattle.warg_store.proofs.MomentLemmas.{goes_on, begins, stays}
+use Rattle.warg_folder.proofs.ForCallers.{goes_on, begins, leaves_none}
 use Rattle.warg_store.proofs.PruneLemmas.{gone_one, some_read}
 use Rattle.warg_store.proofs.pruning.prune_one.Goals as goal
 
@@ -57,17 +57,17 @@ returns-clause-any_moment g c = λ faithful s all.
 
 pub returns-in_err-named-clause-any_moment : goal.returns-in_err-named-clause-any_moment
 returns-in_err-named-clause-any_moment g c = λ faithful s all.
-    stays _ _ c.args.folder.now (IsPruning c.args.kept c.args.served s)
+    leaves_none _ _ c.args.folder.now (IsPruning c.args.kept c.args.served s)
     (λ e left. all e (g.met.F.Folder.only_now c.args.folder.now e left))
 
 pub returns-in_default-clause-any_moment : goal.returns-in_default-clause-any_moment
 returns-in_default-clause-any_moment g c = λ faithful s all.
-    stays _ _ c.args.folder.now (IsPruning c.args.kept c.args.served s)
+    leaves_none _ _ c.args.folder.now (IsPruning c.args.kept c.args.served s)
     (λ e left. all e (g.met.F.Folder.only_now c.args.folder.now e left))
 
 pub returns-then-not-is_spare-clause-any_moment : goal.returns-then-not-is_spare-clause-any_moment
 returns-then-not-is_spare-clause-any_moment g c = λ faithful s all.
-    stays _ _ c.args.folder.now (IsPruning c.args.kept c.args.served s)
+    leaves_none _ _ c.args.folder.now (IsPruning c.args.kept c.args.served s)
     (λ e left. all e (g.met.F.Folder.only_now c.args.folder.now e left))
 
 pub returns-in_err-read-clause-any_moment : goal.returns-in_err-read-clause-any_moment

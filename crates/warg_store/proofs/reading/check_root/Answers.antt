@@ -4,7 +4,7 @@ use Rattle.warg_crypto.specs.Digests.{sha256}
 use Rattle.warg_log.specs.Claims.{RootAndLength}
 use Rattle.warg_log.specs.Tree.{root_of, leaves_of}
 use Rattle.warg_store.proofs.EnoughLemmas.{whole_root}
-use Rattle.warg_store.proofs.NameLemmas.{apart}
+use Rattle.warg_folder.proofs.ForCallers.{apart}
 use Rattle.warg_store.proofs.WholeLemmas.{same_checkpoint}
 use Rattle.warg_store.proofs.reading.check_root.Goals as goal
 

@@ -1,38 +1,54 @@
-use Rattle.std.proofs.Common.{◌≡◌, ℕ, List, Some, refl, sym, ap, ◌∙◌}
+use Rattle.std.proofs.Common.{◌≡◌, ℕ, List, Option, Some, refl, sym, ap, ◌∙◌}
 use Rattle.std.specs.Prelude.{◌&&◌, nat_eq, true}
 use Rattle.std.specs.Cmp.Lexicographic.{pointwise, bytes_decides}
 use Rattle.warg_crypto.specs.Digests.{sha256}
+use Rattle.warg_log.specs.Ranges.{leaves_from}
+use Rattle.warg_log.specs.Cut.{old_over}
 use Rattle.warg_paths.specs.Paths.{consistency_roots}
-use Rattle.warg_store.proofs.NameLemmas.{apart}
+use Rattle.warg_tiles.specs.TileData.{digest_by}
+use Rattle.warg_folder.proofs.ForCallers.{apart}
+use Rattle.warg_store.proofs.OptionLemmas.{one_value, no_value}
 use Rattle.warg_store.proofs.reading.new_root.Goals as goal
+
+-- the root that was given is the one, and so are both roots by way of it
+given_once : {R : Type 0} (at : R → Option (List ℕ)) (r s : R) (a b : List ℕ) → Some a ≡ at r → r ≡ s → at s ≡ Some b
+    → a ≡ b
+given_once at r s a b first same second = one_value (at s) a b (sym (first ∙ ap at same)) second
+
+both_roots : (given : Option (List ℕ × List ℕ)) (old new : ℕ) (path : List (List ℕ)) (a b : List ℕ)
+    (to : List ℕ × List ℕ) → given ≡ consistency_roots sha256 old new a path → a ≡ b
+    → consistency_roots sha256 old new b path ≡ Some to → given ≡ Some to
+both_roots given old new path a b to is same leads =
+    is ∙ ap (λ (x : List ℕ). consistency_roots sha256 old new x path) same ∙ leads
 
 pub returns-in_err-old_root-clause-whole : goal.returns-in_err-old_root-clause-whole
 returns-in_err-old_root-clause-whole c = λ from to old leads.
-    let same : c.in_ok-from.from ≡ from = cc (c.in_ok-from.ensures.root, c.new.ensures, old) in
-    let roots : c.roots_of_consistency.result ≡ Some (from, to) = c.roots_of_consistency.ensures
-    ∙ ap (λ (x : List ℕ). consistency_roots sha256 c.args.old c.args.new x c.args.path.now) same ∙ leads in
-    absurd (cc (roots, c.in_err-old_root.was))
+    let same : c.in_ok-from.from ≡ from = given_once (old_over sha256 (digest_by sha256 c.args.tiles.now))
+    c.new.result (leaves_from 0 c.args.old) c.in_ok-from.from from c.in_ok-from.ensures.root c.new.ensures old in
+    absurd (no_value c.roots_of_consistency.result (from, to) c.in_err-old_root.was
+    (both_roots c.roots_of_consistency.result c.args.old c.args.new c.args.path.now c.in_ok-from.from from (from, to)
+    c.roots_of_consistency.ensures same leads))
 
 pub returns-then-eq-clause-whole : goal.returns-then-eq-clause-whole
 returns-then-eq-clause-whole c = λ from to old leads.
-    let same : c.in_ok-from.from ≡ from = cc (c.in_ok-from.ensures.root, c.new.ensures, old) in
-    let roots : c.roots_of_consistency.result ≡ Some (from, to) = c.roots_of_consistency.ensures
-    ∙ ap (λ (x : List ℕ). consistency_roots sha256 c.args.old c.args.new x c.args.path.now) same ∙ leads in
-    let both : Some (c.in_ok-old_root.old_root, c.in_ok-old_root.new_root) ≡ Some (from, to) = sym c.in_ok-old_root.was
-    ∙ roots in
+    let same : c.in_ok-from.from ≡ from = given_once (old_over sha256 (digest_by sha256 c.args.tiles.now))
+    c.new.result (leaves_from 0 c.args.old) c.in_ok-from.from from c.in_ok-from.ensures.root c.new.ensures old in
     let pair : ◌≡◌ {A = List ℕ × List ℕ} (c.in_ok-old_root.old_root, c.in_ok-old_root.new_root) (from, to) =
-    cc (both) in
+    one_value c.roots_of_consistency.result (c.in_ok-old_root.old_root, c.in_ok-old_root.new_root) (from, to)
+    c.in_ok-old_root.was
+    (both_roots c.roots_of_consistency.result c.args.old c.args.new c.args.path.now c.in_ok-from.from from (from, to)
+    c.roots_of_consistency.ensures same leads) in
     ap (λ (p : List ℕ × List ℕ). Some p.1) pair
 
 pub returns-clause-whole : goal.returns-clause-whole
 returns-clause-whole c = λ from to old leads.
-    let same : c.in_ok-from.from ≡ from = cc (c.in_ok-from.ensures.root, c.new.ensures, old) in
-    let roots : c.roots_of_consistency.result ≡ Some (from, to) = c.roots_of_consistency.ensures
-    ∙ ap (λ (x : List ℕ). consistency_roots sha256 c.args.old c.args.new x c.args.path.now) same ∙ leads in
-    let both : Some (c.in_ok-old_root.old_root, c.in_ok-old_root.new_root) ≡ Some (from, to) = sym c.in_ok-old_root.was
-    ∙ roots in
+    let same : c.in_ok-from.from ≡ from = given_once (old_over sha256 (digest_by sha256 c.args.tiles.now))
+    c.new.result (leaves_from 0 c.args.old) c.in_ok-from.from from c.in_ok-from.ensures.root c.new.ensures old in
     let pair : ◌≡◌ {A = List ℕ × List ℕ} (c.in_ok-old_root.old_root, c.in_ok-old_root.new_root) (from, to) =
-    cc (both) in
+    one_value c.roots_of_consistency.result (c.in_ok-old_root.old_root, c.in_ok-old_root.new_root) (from, to)
+    c.in_ok-old_root.was
+    (both_roots c.roots_of_consistency.result c.args.old c.args.new c.args.path.now c.in_ok-from.from from (from, to)
+    c.roots_of_consistency.ensures same leads) in
     let first : c.in_ok-old_root.old_root ≡ c.in_ok-from.from = ap (λ (p : List ℕ × List ℕ). p.0) pair ∙ sym same in
     let equal : (pointwise nat_eq c.in_ok-old_root.old_root c.in_ok-from.from && true) ≡ true =
     rw ((bytes_decides c.in_ok-old_root.old_root c.in_ok-from.from).1 first) refl in

@@ -2,7 +2,7 @@ use Rattle.std.proofs.Common.{◌≡◌, List, ℕ, Bor, map, sym, ap, ◌∙◌
 use Rattle.warg_tiles.specs.Tiles.{TileAt}
 use Rattle.warg_tiles.specs.EntryBundles.{bundle_of}
 use Rattle.warg_store.specs.Log.{bundle_bytes}
-use Rattle.warg_store.proofs.MomentLemmas.{read_by}
+use Rattle.warg_folder.proofs.ForCallers.{read_by}
 use Rattle.warg_store.proofs.FetchedLemmas.{bundle_tile, own_bundle}
 use Rattle.warg_store.proofs.reading.read_entries.Goals as goal
 

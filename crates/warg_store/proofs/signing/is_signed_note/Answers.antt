@@ -1,6 +1,6 @@
 use Rattle.std.proofs.Common.{List, ℕ, get_or, sym, ap, ◌∙◌}
 use Rattle.std.proofs.lemmas.Bool.{false≢true, eqb-true, eq-eqb}
-use Rattle.warg_store.proofs.NameLemmas.{apart}
+use Rattle.warg_folder.proofs.ForCallers.{apart}
 use Rattle.warg_store.proofs.SignLemmas.{note_from, note_back}
 use Rattle.warg_store.proofs.signing.is_signed_note.Goals as goal
 

@@ -1,4 +1,4 @@
-use Rattle.warg_witness.proofs.ConsistencyLawLemmas.{consistency_collides}
+use Rattle.warg_witness.proofs.HeldLemmas.{consistency_collides}
 use Rattle.warg_witness.proofs.laws.consistency_or_collision.Goals as goal
 
 pub returns : goal.returns

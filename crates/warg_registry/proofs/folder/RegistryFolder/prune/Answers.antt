@@ -3,8 +3,8 @@ use Rattle.std.specs.List.{All}
 use Rattle.std.specs.declared.alloc.Global.{Global}
 use Rattle.std.specs.declared.string.String.{String}
 use Rattle.warg_store.specs.Log.{IsOneOf}
-use Rattle.warg_store.specs.Moments.{LeavesOnly}
-use Rattle.warg_store.specs.Names.{is_page}
+use Rattle.warg_folder.specs.Moments.{LeavesOnly}
+use Rattle.warg_folder.specs.Names.{is_page}
 use Rattle.warg_store.specs.Pruned.{ArePagesNotOf, IsWithoutPages}
 use Rattle.warg_registry.specs.Folder.{registry_of, RegistryIn, HasRegistry}
 use Rattle.warg_registry.specs.Pruning.{bytes_of}

@@ -8,7 +8,7 @@ use Rattle.warg_crypto.specs.Digests.{sha256}
 use Rattle.warg_map.specs.Sparse.{pair_bytes}
 use Rattle.warg_pages.specs.ChangedPages.{AreChangedPages}
 use Rattle.warg_store.specs.Log.{AreShort, CanBeKept}
-use Rattle.warg_store.proofs.ForCallers.{read_is}
+use Rattle.warg_folder.proofs.ForCallers.{read_is}
 use Rattle.warg_registry.specs.Insertions.{entries_of}
 use Rattle.warg_registry.specs.Publishing.{IsRefusedFor}
 use Rattle.warg_registry.proofs.Refused.{told_as, refused_for}

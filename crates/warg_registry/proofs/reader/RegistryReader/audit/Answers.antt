@@ -1,5 +1,5 @@
 use Rattle.std.proofs.Common.{ℕ, sym, ap, subst}
-use Rattle.warg_store.specs.Files.{Files}
+use Rattle.warg_folder.specs.Files.{Files}
 use Rattle.warg_tiles.specs.CheckpointText.{Said}
 use Rattle.warg_registry.specs.Auditing.{AreAllInFiles}
 use Rattle.warg_registry.proofs.Replaying.{same_checkpoints, of_entries, of_insertions}

@@ -1,8 +1,8 @@
 use Rattle.std.proofs.Common.{◌≡◌, true, false, true≢false, ℕ, [], refl, sym, ap, subst, ◌∙◌}
 use Rattle.warg_log.specs.Claims.{RootAndLength}
-use Rattle.warg_store.specs.Moments.{IsRead}
+use Rattle.warg_folder.specs.Moments.{IsRead}
 use Rattle.warg_store.specs.Reading.{ServedIn}
-use Rattle.warg_store.proofs.ForCallers.{read_is}
+use Rattle.warg_folder.proofs.ForCallers.{read_is}
 use Rattle.warg_registry.specs.Auditing.{AreAllInFiles}
 use Rattle.warg_registry.specs.Reading.{RegistryRead}
 use Rattle.warg_registry.proofs.reader.RegistryReader.count_keys.Goals.{in-Ok, in-Err}

@@ -1,7 +1,8 @@
 use Rattle.std.proofs.Common.{true, false, true≢false, refl, sym, ap, subst, ◌∙◌}
 use Rattle.warg_log.specs.Claims.{RootAndLength}
 use Rattle.warg_store.specs.Reading.{ServedIn}
-use Rattle.warg_store.proofs.ForCallers.{read_is, reads_read}
+use Rattle.warg_folder.proofs.ForCallers.{read_is}
+use Rattle.warg_store.proofs.ForCallers.{reads_read}
 use Rattle.warg_registry.specs.Folder.{registry_of}
 use Rattle.warg_registry.specs.Reading.{RegistryRead, ReadsRegistry}
 use Rattle.warg_registry.proofs.Refused.{not_of_pages}

@@ -1,5 +1,5 @@
 use Rattle.std.proofs.Common.{◌≡◌, refl, sym, ap, ◌∙◌, arith}
-use Rattle.warg_store.proofs.ForCallers.{read_is, read_then}
+use Rattle.warg_folder.proofs.ForCallers.{read_is, read_then}
 use Rattle.warg_tiles.specs.CheckpointText.{Said}
 use Rattle.warg_registry.proofs.Replaying.{none_replayed, replayed_at}
 use Rattle.warg_registry.proofs.reader.RegistryReader.replay.Goals as goal

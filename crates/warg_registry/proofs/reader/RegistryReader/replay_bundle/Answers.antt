@@ -1,5 +1,5 @@
 use Rattle.std.proofs.Common.{◌≡◌, sym, ap, ◌∙◌}
-use Rattle.warg_store.proofs.ForCallers.{read_then}
+use Rattle.warg_folder.proofs.ForCallers.{read_then}
 use Rattle.warg_tiles.specs.CheckpointText.{Said}
 use Rattle.warg_registry.proofs.Replaying.{replayed_at}
 use Rattle.warg_registry.proofs.reader.RegistryReader.replay_bundle.Goals as goal

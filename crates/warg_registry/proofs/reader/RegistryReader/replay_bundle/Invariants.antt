@@ -1,5 +1,5 @@
 use Rattle.std.proofs.Common.{◌≡◌, ◌≤◌}
-use Rattle.warg_store.specs.Moments.{IsRead}
+use Rattle.warg_folder.specs.Moments.{IsRead}
 use Rattle.warg_registry.specs.Auditing.{IsReplayed}
 use Rattle.warg_registry.proofs.reader.RegistryReader.replay_bundle.Given as goal
 

@@ -4,7 +4,7 @@ use Rattle.warg_map.specs.Sparse.{map_of, sparse_root}
 use Rattle.warg_tiles.specs.CheckpointText.{Said}
 use Rattle.warg_store.specs.Refusals.{IsNoFault}
 use Rattle.warg_store.specs.Log.{Serves}
-use Rattle.warg_store.specs.Files.{Files}
+use Rattle.warg_folder.specs.Files.{Files}
 use Rattle.warg_registry.specs.Folder.{registry_of, IsNoFault as NoFault}
 use Rattle.warg_registry.proofs.FolderMoments.{log_read_then}
 use Rattle.warg_registry.proofs.MapLines.{map_digest}

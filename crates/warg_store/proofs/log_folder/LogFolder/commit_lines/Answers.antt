@@ -1,7 +1,7 @@
 use Rattle.std.proofs.Common.{◌≡◌, ◌≢◌, ◌<◌, ℕ, sym, ap, subst, ◌∙◌, arith}
-use Rattle.warg_store.specs.Files.{Files}
-use Rattle.warg_store.specs.Moments.{LeavesOnly}
-use Rattle.warg_store.specs.Opening.{IsStaging}
+use Rattle.warg_folder.specs.Files.{Files}
+use Rattle.warg_folder.specs.Moments.{LeavesOnly}
+use Rattle.warg_folder.specs.Commits.{IsStaging}
 use Rattle.warg_store.specs.Log.{LogOf, IsCommitting, said_of}
 use Rattle.warg_store.specs.Growing.{LogIn, Has}
 use Rattle.warg_store.proofs.GrowingLemmas.{idle, noted}

@@ -1,12 +1,11 @@
-use Rattle.std.proofs.Common.{◌≡◌, ℕ, List, length, map, true, true≢false, None, IfErr, IsSome, Vec, Global, sym, ap, subst, refl, ◌∙◌, arith}
+use Rattle.std.proofs.Common.{◌≡◌, ℕ, List, length, map, true, IfErr, Vec, Global, sym, ap, subst, refl, ◌∙◌, arith}
 use Rattle.warg_tiles.specs.CheckpointText.{Said, text_of}
 use Rattle.warg_tiles.specs.TileLog.{RightEdge}
-use Rattle.warg_store.specs.Files.{Files}
-use Rattle.warg_store.specs.Names.{checkpoint, mark}
-use Rattle.warg_store.specs.Opening.{committed, HasNoLogFile, HasLogFile}
+use Rattle.warg_folder.specs.Names.{checkpoint}
+use Rattle.warg_folder.specs.Commits.{committed}
+use Rattle.warg_store.specs.Opening.{HasLogFile}
 use Rattle.warg_store.specs.Log.{Keeps, CanBeKept, said_of, checkpoint_of, no_entries_with}
 use Rattle.warg_store.specs.Growing.{LogIn, IsReady, Has}
-use Rattle.warg_store.proofs.StepLemmas.{idle_opened, without_at}
 use Rattle.warg_store.specs.declared.opening.CreateError.{CreateError}
 use Rattle.warg_store.specs.declared.opening.CreateError.TheVariants.{Exists}
 use Rattle.warg_store.proofs.CreateLemmas.{created, has_none}
@@ -19,12 +18,7 @@ returns-clause-has g c = λ faithful.
     let lines = map (λ (l : Vec ℕ Global). l.items) c.args.lines.now in
     let none = no_entries_with c.args.origin.now lines in
     let said : c.in_ok-text.text ≡ said_of none = c.in_ok-text.ensures.said in
-    let before = seen c.check_fresh.new.folder in
-    let fresh : HasNoLogFile before =
-    subst HasNoLogFile (sym (c.check_fresh.ensures.seen faithful)) (c.in_ok-check_fresh.ensures.fresh faithful) in
-    let prepared : seen c.prepare.new.folder checkpoint ≡ None =
-    ap (λ (f : Files). f checkpoint) (c.in_ok-prepare.ensures.opened faithful ∙ idle_opened before (fresh mark refl))
-    ∙ without_at before checkpoint refl ∙ fresh checkpoint refl in
+    let before = seen c.args.folder in
     let text : c.as_slice.result.now ≡ checkpoint_of none = c.as_slice.ensures.value ∙ c.in_ok-bytes.ensures
     ∙ ap text_of said in
     let named : CanBeKept none = record {
@@ -34,13 +28,13 @@ returns-clause-has g c = λ faithful.
       short = tt;
       text = omega (arith, ap length (c.in_ok-bytes.ensures ∙ ap text_of said));
     } in
-    let keeps : Keeps none none (seen c.commit.new.folder) =
-    subst (Keeps none none) (sym (c.in_ok-commit.ensures.committed faithful
-    ∙ ap (λ (b : List ℕ). committed b (seen c.prepare.new.folder)) text))
-    (created c.args.origin.now lines named (seen c.prepare.new.folder) prepared) in
+    let keeps : Keeps none none (seen c.put_first.new.folder) =
+    subst (Keeps none none) (sym (c.in_ok-put_first.ensures.committed faithful
+    ∙ ap (λ (b : List ℕ). committed b before) text))
+    (created c.args.origin.now lines named before (c.in_ok-put_first.ensures.fresh faithful checkpoint refl)) in
     subst (Has seen g.F.Folder.may_leave none none none) (sym c.with.ensures)
     (subst (λ (t : Said). Has seen g.F.Folder.may_leave none none none (record {
-      folder = c.commit.new.folder;
+      folder = c.put_first.new.folder;
       text = t;
       is_open = true;
       edge = c.new.result;
@@ -48,21 +42,21 @@ returns-clause-has g c = λ faithful.
       held = 0;
     })) (sym said)
     (subst (λ (b : List ℕ). Has seen g.F.Folder.may_leave none none none (record {
-      folder = c.commit.new.folder;
+      folder = c.put_first.new.folder;
       text = said_of none;
       is_open = true;
       edge = c.new.result;
       bundle = b;
       held = 0;
     })) (sym c.new-2.ensures.items)
-    (has_none seen g.F.Folder.may_leave c.args.origin.now lines c.commit.new.folder c.new.result c.new.ensures.value
-    c.new.ensures.stands keeps
-    (c.in_ok-commit.ensures.empty faithful) (c.in_ok-commit.ensures.ready faithful))))
+    (has_none seen g.F.Folder.may_leave c.args.origin.now lines c.put_first.new.folder c.new.result
+    c.new.ensures.value c.new.ensures.stands keeps
+    (c.in_ok-put_first.ensures.empty faithful) (c.in_ok-put_first.ensures.ready faithful))))
 
 pub returns-clause-ready : goal.returns-clause-ready
 returns-clause-ready g c = λ faithful.
     subst (IsReady g.F.Folder.seen g.F.Folder.may_leave) (sym c.with.ensures)
-    (λ is. c.in_ok-commit.ensures.ready faithful)
+    (λ is. c.in_ok-put_first.ensures.ready faithful)
 
 pub returns-clause-empty : goal.returns-clause-empty
 returns-clause-empty g c = (
@@ -76,14 +70,3 @@ returns-in_err-text-clause-exists g c = λ faithful exists.
     let P : CreateError → Type 0 = λ e. e ≡ Exists → HasLogFile (g.F.Folder.seen c.args.folder) in
     subst (λ r. IfErr r P) exists (err_same P c.in_err-text.field-0.0 c.from_residual.result
     c.from_residual.ensures.1 (λ e. absurd (c.in_err-text.ensures.not_there e))) refl
-
-pub returns-in_err-prepare-clause-exists : goal.returns-in_err-prepare-clause-exists
-returns-in_err-prepare-clause-exists g c = λ faithful exists.
-    let before = g.F.Folder.seen c.check_fresh.new.folder in
-    let fresh : HasNoLogFile before =
-    subst HasNoLogFile (sym (c.check_fresh.ensures.seen faithful)) (c.in_ok-check_fresh.ensures.fresh faithful) in
-    let P : CreateError → Type 0 = λ e. e ≡ Exists → HasLogFile (g.F.Folder.seen c.args.folder) in
-    let none : P c.in_err-prepare.field-0.0 = λ e.
-    absurd (true≢false (sym (subst (λ o. IsSome o) (fresh mark refl) (c.in_err-prepare.ensures.marked faithful e)))) in
-    subst (λ r. IfErr r P) exists (err_same P c.in_err-prepare.field-0.0 c.from_residual-in_err-prepare.result
-    c.from_residual-in_err-prepare.ensures.1 none) refl

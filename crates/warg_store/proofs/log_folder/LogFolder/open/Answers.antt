@@ -3,13 +3,14 @@ use Rattle.std.specs.declared.alloc.Global.{Global}
 use Rattle.warg_crypto.specs.declared.hash.Sha256.{Sha256}
 use Rattle.warg_tiles.specs.CheckpointText.{Said}
 use Rattle.warg_tiles.specs.declared.stored.StoredTile.{StoredTile}
-use Rattle.warg_store.specs.Files.{Files}
-use Rattle.warg_store.specs.Moments.{LeavesOnly}
-use Rattle.warg_store.specs.Names.{checkpoint}
-use Rattle.warg_store.specs.Opening.{AgreesWith, NothingStaged, IsOpening, IsTakenOver}
+use Rattle.warg_folder.specs.Files.{Files}
+use Rattle.warg_folder.specs.Moments.{LeavesOnly}
+use Rattle.warg_folder.specs.Names.{checkpoint}
+use Rattle.warg_store.specs.Opening.{AgreesWith, IsOpening, IsTakenOver}
+use Rattle.warg_folder.specs.Commits.{NothingStaged}
 use Rattle.warg_store.specs.Log.{Keeps, HasLog, HasFiles}
 use Rattle.warg_store.specs.Growing.{LogIn, IsReady, Has, ArePartsOf}
-use Rattle.warg_store.proofs.MomentLemmas.{weaker, then, then_reads}
+use Rattle.warg_folder.proofs.ForCallers.{leaves_weaker, leaves_then, then_reads}
 use Rattle.warg_store.proofs.OpenLemmas.{opened_has, beside_state}
 use Rattle.warg_store.proofs.WholeLemmas.{mark_fits}
 use Rattle.warg_store.proofs.log_folder.LogFolder.open.Goals as goal
@@ -58,11 +59,11 @@ returns-clause-any_moment g c = λ faithful.
     let counts = g.met.F.Folder.counts_now in
     let settled = g.F.Folder.seen c.recover.new.folder in
     let R : Files → Type 0 = λ f. may c.args.folder f ⊎ IsOpening (g.F.Folder.seen c.args.folder) f in
-    let recovered = weaker moment since c.args.folder c.recover.new.folder _ R (c.recover.ensures.any_moment faithful)
-    (λ f. ⊎_elim (λ was. inl was) (λ between. inr (inl between))) in
+    let recovered = leaves_weaker moment since c.args.folder c.recover.new.folder _ R
+    (c.recover.ensures.any_moment faithful) (λ f. ⊎_elim (λ was. inl was) (λ between. inr (inl between))) in
     let here : R settled = recovered.each settled (counts c.recover.new.folder (moment c.args.folder) settled
     recovered.later (g.met.F.Folder.seen_may_stay c.recover.new.folder)) in
-    let kept = then moment since c.args.folder c.recover.new.folder c.kept_text.new.folder R _ R recovered
+    let kept = leaves_then moment since c.args.folder c.recover.new.folder c.kept_text.new.folder R _ R recovered
     (c.in_ok-text.ensures.any_moment faithful (c.in_default.ensures.durable faithful)) (λ f was. was)
     (λ f. ⊎_elim (λ same. subst R (sym same) here)
     (λ taken. inr (inr (subst (λ (s : Files). IsTakenOver s f) (c.in_default.ensures.opened faithful) taken)))) in

@@ -1,12 +1,12 @@
 use Rattle.std.proofs.Common.{◌≡◌, length, sym, ap, subst, ◌∙◌}
 use Rattle.std.proofs.lemmas.Result.{on_ok_weaker}
 use Rattle.warg_tiles.specs.CheckpointText.{Said}
-use Rattle.warg_store.specs.Moments.{LeavesOnly}
+use Rattle.warg_folder.specs.Moments.{LeavesOnly}
 use Rattle.warg_store.specs.Log.{IsOneOf}
 use Rattle.warg_store.specs.Growing.{LogIn, Has}
 use Rattle.warg_store.specs.Pruned.{IsPruned}
 use Rattle.warg_store.specs.Private.Steps.{IsPruning}
-use Rattle.warg_store.proofs.MomentLemmas.{weaker}
+use Rattle.warg_folder.proofs.ForCallers.{leaves_weaker}
 use Rattle.warg_store.proofs.PruneLemmas.{pruned_moment, served_pruned, prune_has}
 use Rattle.warg_store.proofs.log_folder.LogFolder.prune.Goals as goal
 
@@ -44,7 +44,7 @@ returns-clause-any_moment g c = λ faithful served old next has.
     (c.prune_all.ensures.any_moment faithful served old inside.keeps inside.staging) in
     subst (λ (l : LogIn g.row.F.Denot). LeavesOnly g.F.Folder.moment g.F.Folder.left_since l.folder
     c.prune_all.new.folder (IsOneOf served old old)) c.self.view_is
-    (weaker g.F.Folder.moment g.F.Folder.left_since c.self.inside.folder c.prune_all.new.folder
+    (leaves_weaker g.F.Folder.moment g.F.Folder.left_since c.self.inside.folder c.prune_all.new.folder
     (IsPruning (length old.entries) (length served.entries) (g.F.Folder.seen c.self.inside.folder))
     (IsOneOf served old old) run
     (λ e was. pruned_moment served old (g.F.Folder.seen c.self.inside.folder) inside.keeps e was))

@@ -2,12 +2,12 @@ use Rattle.std.proofs.Common.{◌≡◌, ◌≤◌, ℕ, List, sym, ap, subst, �
 use Rattle.std.specs.declared.alloc.Global.{Global}
 use Rattle.warg_crypto.specs.declared.hash.Sha256.{Sha256}
 use Rattle.warg_tiles.specs.declared.stored.StoredTile.{StoredTile}
-use Rattle.warg_store.specs.Files.{Files}
-use Rattle.warg_store.specs.Opening.{IsBeside}
-use Rattle.warg_store.specs.Moments.{LeavesOnly}
+use Rattle.warg_folder.specs.Files.{Files}
+use Rattle.warg_folder.specs.Commits.{IsBeside}
+use Rattle.warg_folder.specs.Moments.{LeavesOnly}
 use Rattle.warg_store.specs.Log.{LogOf, Keeps, IsCommitting}
 use Rattle.warg_store.specs.Growing.{LogIn, HasAll, ArePartsOf}
-use Rattle.warg_store.proofs.MomentLemmas.{then, weaker}
+use Rattle.warg_folder.proofs.ForCallers.{leaves_then, leaves_weaker}
 use Rattle.warg_store.proofs.GrowingLemmas.{beside_committing, committing_then, all_kept}
 use Rattle.warg_store.proofs.log_folder.LogFolder.put.Goals as goal
 
@@ -32,7 +32,7 @@ module _ {F : Type 0} (moment : F → ℕ) (left_since : F → ℕ → Files →
       let staged = subst (λ (f : F). LeavesOnly moment left_since first f (IsBeside (seen first)))
       (sym (ap (λ (x : LogIn F). x.folder) same)) staging in
       let beside = staged.each (seen mid) (counts mid (moment first) (seen mid) staged.later (stays mid)) in
-      then moment left_since first mid last (IsBeside (seen first)) (IsCommitting served old next (seen mid))
+      leaves_then moment left_since first mid last (IsBeside (seen first)) (IsCommitting served old next (seen mid))
       (IsCommitting served old next (seen first)) staged
       (committing (subst (HasAll seen may_leave served old next) (sym same) all))
       (λ f now. beside_committing served old next (seen first) f keeps now)
@@ -42,7 +42,7 @@ pub returns-in_err-stage_edge-clause-any_moment : goal.returns-in_err-stage_edge
 returns-in_err-stage_edge-clause-any_moment g c = λ faithful served old next has more end.
     let first = c.args.self.now.folder in
     let files = g.F.Folder.seen first in
-    weaker g.F.Folder.moment g.F.Folder.left_since first c.stage_edge.new.self.folder (IsBeside files)
+    leaves_weaker g.F.Folder.moment g.F.Folder.left_since first c.stage_edge.new.self.folder (IsBeside files)
     (IsCommitting served old next files) (c.stage_edge.ensures.any_moment faithful)
     (λ f beside. beside_committing served old next files f has.keeps beside)
 

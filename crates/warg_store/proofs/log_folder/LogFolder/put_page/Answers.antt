@@ -1,6 +1,6 @@
 use Rattle.std.proofs.Common.{ap, ◌∙◌}
-use Rattle.warg_store.specs.Files.{put}
-use Rattle.warg_store.specs.Names.{staged, page_name}
+use Rattle.warg_folder.specs.Files.{put}
+use Rattle.warg_folder.specs.Names.{staged, page_name}
 use Rattle.warg_store.specs.Growing.{LogIn}
 use Rattle.warg_store.proofs.PageLemmas.{page_has}
 use Rattle.warg_store.proofs.log_folder.LogFolder.put_page.Goals as goal

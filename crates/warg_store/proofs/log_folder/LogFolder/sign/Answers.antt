@@ -1,18 +1,18 @@
 use Rattle.std.proofs.Common.{◌≡◌, ℕ, List, true, sym, ap, subst, ◌∙◌}
 use Rattle.warg_tiles.specs.CheckpointText.{Said, text_of}
-use Rattle.warg_store.specs.Files.{Files}
-use Rattle.warg_store.specs.Moments.{LeavesOnly}
-use Rattle.warg_store.specs.Opening.{IsStaging}
+use Rattle.warg_folder.specs.Files.{Files}
+use Rattle.warg_folder.specs.Moments.{LeavesOnly}
+use Rattle.warg_folder.specs.Commits.{IsStaging}
 use Rattle.warg_store.specs.Log.{LogOf, IsOneOf, IsNoteOf, said_of, checkpoint_of}
 use Rattle.warg_store.specs.Growing.{LogIn, Has}
-use Rattle.warg_store.proofs.MomentLemmas.{begins}
+use Rattle.warg_folder.proofs.ForCallers.{begins}
 use Rattle.warg_store.proofs.GrowingLemmas.{beside_one_of}
 use Rattle.warg_store.proofs.SignLemmas.{unsigned, sign_staging, sign_moment, sign_has}
 use Rattle.warg_store.proofs.log_folder.LogFolder.sign.Goals as goal
 
 -- a note over the text that was written is one over what is kept
-judged : (old : LogOf) (said : Said) (bytes text note : List ℕ) → bytes ≡ text → text ≡ text_of said → said ≡ said_of old
-    → IsNoteOf bytes note → IsNoteOf (checkpoint_of old) note
+judged : (old : LogOf) (said : Said) (bytes text note : List ℕ) → bytes ≡ text → text ≡ text_of said
+    → said ≡ said_of old → IsNoteOf bytes note → IsNoteOf (checkpoint_of old) note
 judged old said bytes text note is was says over =
     subst (λ (b : List ℕ). IsNoteOf b note) (is ∙ was ∙ ap text_of says) over
 

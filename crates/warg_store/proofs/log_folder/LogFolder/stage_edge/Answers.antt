@@ -8,10 +8,10 @@ use Rattle.warg_tiles.specs.TilePaths.{entries_path}
 use Rattle.warg_tiles.specs.CheckpointText.{Said}
 use Rattle.warg_tiles.specs.TileLog.{RightEdge}
 use Rattle.warg_tiles.specs.declared.stored.StoredTile.{StoredTile}
-use Rattle.warg_store.specs.Files.{Files, put}
-use Rattle.warg_store.specs.Names.{staged}
-use Rattle.warg_store.specs.Moments.{LeavesOnly}
-use Rattle.warg_store.specs.Opening.{IsBeside}
+use Rattle.warg_folder.specs.Files.{Files, put}
+use Rattle.warg_folder.specs.Names.{staged}
+use Rattle.warg_folder.specs.Moments.{LeavesOnly}
+use Rattle.warg_folder.specs.Commits.{IsBeside}
 use Rattle.warg_store.specs.Staged.{staged_all, new_files}
 use Rattle.warg_store.specs.Growing.{LogIn}
 use Rattle.warg_store.proofs.GrowingLemmas.{has_all, last_bundle, same_tile}

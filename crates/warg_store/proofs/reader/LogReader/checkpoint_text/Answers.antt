@@ -1,6 +1,6 @@
 use Rattle.std.proofs.Common.{◌≡◌, sym, ap, subst, ◌∙◌}
 use Rattle.warg_tiles.specs.CheckpointText.{Said}
-use Rattle.warg_store.specs.Files.{Files}
+use Rattle.warg_folder.specs.Files.{Files}
 use Rattle.warg_store.specs.Log.{LogOf, HasFiles}
 use Rattle.warg_store.specs.Reading.{ServedIn, Reads}
 use Rattle.warg_store.proofs.reader.LogReader.checkpoint_text.Goals as goal

@@ -1,7 +1,7 @@
 use Rattle.std.proofs.Common.{◌≡◌, inl, inr, ⊎_elim, ℕ, List, Option, Some, sym, subst, ◌∙◌}
 use Rattle.warg_tiles.specs.CheckpointText.{Said, text_before}
-use Rattle.warg_store.specs.Files.{Files}
-use Rattle.warg_store.specs.Names.{checkpoint}
+use Rattle.warg_folder.specs.Files.{Files}
+use Rattle.warg_folder.specs.Names.{checkpoint}
 use Rattle.warg_store.specs.Opening.{CanBeServed}
 use Rattle.warg_store.specs.Log.{LogOf, HasFiles, Serves, said_of}
 use Rattle.warg_store.specs.Reading.{Reads}
@@ -13,8 +13,8 @@ use Rattle.warg_store.proofs.reader.LogReader.open_served.Goals as goal
 
 -- whoever has the text that a folder serves reads its log
 served_read : {F : Type 0} (seen : F → Files) (old new : F) (text : Said) (log : LogOf) → seen new ≡ seen old
-    → ((said : Said) (behind : Option (List ℕ)) → CanBeServed said → seen old checkpoint ≡ Some (text_before said behind)
-    → ◌≡◌ {A = Option Said} (Some text) (Some said))
+    → ((said : Said) (behind : Option (List ℕ)) → CanBeServed said
+    → seen old checkpoint ≡ Some (text_before said behind) → ◌≡◌ {A = Option Said} (Some text) (Some said))
     → Serves log (seen old) → Reads seen log (record { folder = new; text = text })
 served_read seen old new text log same says serves =
     let both = says (said_of log) serves.checkpoint.0 (kept_said log serves.can) serves.checkpoint.1 in record {
@@ -25,7 +25,8 @@ served_read seen old new text log same says serves =
 
 pub returns-in-Some-clause-reads : goal.returns-in-Some-clause-reads
 returns-in-Some-clause-reads g c = λ faithful log serves.
-    served_read g.F.Folder.seen c.args.folder c.read_text.new.folder c.in-Some.text log (c.read_text.ensures.seen faithful)
+    served_read g.F.Folder.seen c.args.folder c.read_text.new.folder c.in-Some.text log
+    (c.read_text.ensures.seen faithful)
     (λ said behind can there. sym c.in-Some.is ∙ c.in_ok-text.ensures.text faithful said behind can there) serves
 
 pub returns-in_err-text-clause-opens : goal.returns-in_err-text-clause-opens
@@ -51,7 +52,8 @@ returns-in_err-text-clause-none g c = λ faithful absent.
 pub returns-in-Some-clause-meanwhile : goal.returns-in-Some-clause-meanwhile
 returns-in-Some-clause-meanwhile g c = λ faithful served old next one.
     let reads = λ (log : LogOf).
-    served_read g.F.Folder.seen c.args.folder c.read_text.new.folder c.in-Some.text log (c.read_text.ensures.seen faithful)
+    served_read g.F.Folder.seen c.args.folder c.read_text.new.folder c.in-Some.text log
+    (c.read_text.ensures.seen faithful)
     (λ said behind can there. sym c.in-Some.is ∙ c.in_ok-text.ensures.text faithful said behind can there) in
     ⊎_elim (λ is. inl (reads served is.serves)) (λ is. inr (reads next is.serves)) one.read
 

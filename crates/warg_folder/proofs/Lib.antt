@@ -1,0 +1,8 @@
+mod ListLemmas
+mod ListedRuns
+mod StepLemmas
+mod ReadLemmas
+mod MemoryLemmas
+mod ListedLemmas
+mod ReadyLemmas
+pub mod ForCallers

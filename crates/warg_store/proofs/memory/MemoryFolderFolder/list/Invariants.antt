@@ -1,8 +1,0 @@
-use Rattle.warg_store.proofs.ListedLemmas.{AreThere, AreAll}
-use Rattle.warg_store.proofs.memory.MemoryFolderFolder.list.Given as goal
-
-abbrev pub invariant-each : goal.invariant-each
-invariant-each l = record {
-  there : AreThere l.calls l.prefix l.names.items;
-  all : AreAll l.calls l.prefix l.call-index l.names.items;
-}
