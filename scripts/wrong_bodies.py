@@ -2,16 +2,16 @@
 """Shows that the prover refuses each crate's wrong bodies, crates/NAME/wrong-bodies/*.edit and must-fail/*.edit.
 
 An edit is a line 'file: src/lib.rt' and then pairs of lines 'old: TEXT' and 'new: TEXT', each old text standing
-there once; 'old line: TEXT' stands for a whole line. One check of a copy of the crate carries a round of edits, one a
-proof at most, and looks at the functions that they change and those below them: a function's proof rests on its callees'
-contracts and not on their bodies, and the check names each function with an open goal of its own. An edit is refused
-exactly if the check names such a goal, or an error in its proof files, of the function that it changes, or of one in a
-cycle of calls with it, as these have one proof. What waits for a callee, lacks a name or was cut off goes to the next
-round. An edit that changes more than one function's body goes alone, over the whole crate, and so does each that no
-round has judged. What is still let through fails.
+there once; 'old line: TEXT' stands for a whole line, and behind a line 'behind: TEXT' the first one after that text is meant.
+One check of a copy of the crate carries a round of edits, one a
+proof at most, and proves the functions that they change alone: a function's proof rests on its callees' contracts and not
+on their proofs, so a hole stands for that of each other function. An edit is refused exactly if the check names an open
+goal, or an error in the proof files, of the function that it changes, or of one in a cycle of calls with it, as these have
+one proof. What waits for a callee, lacks a name or was cut off goes to the next round. An edit that changes more than one
+function's body goes alone, over the whole crate and with no hole, and so does each that no round has judged. What is still
+let through fails.
 
-The checks of a crate keep their work in one folder, which begins with what rt check has left in out/, if that is there.
-The libraries below are those that rt ci or rt check has left.
+The checks of a crate keep their work in one folder. The libraries below are those that rt ci or rt check has left.
 
 The edits in wrong-bodies/planted change no meaning, and show that this script can fail: each must come out as let
 through, and one named waits_* must wait, in its first round, for the broken function that it calls.
@@ -36,6 +36,9 @@ import kit
 
 RENAMED = "its goals have other names"
 WAITS = re.compile(r"which (is|are) not proved")
+# What a check says of a function whose own proof has no open goal; the second and the third, of one beside holes.
+PROVED = ("proved", "no holes", "depends on a hole in")
+HOLE = "use {0}.Statement.{{statement}}\n\npub {1}_spec : {{M : Type 1}} → statement M\n{1}_spec = ?\n"
 CYCLE = re.compile(r"#\[cycle\((\w+)\)\]\s*(?:#\[[^\n]*\]\s*|//[^\n]*\n\s*)*(?:pub(?:\(\w+\))? )?\Z")
 LACKS_A_GOAL = re.compile(r"^(?:\./)?proofs/(\S+)/\w+\.antt:\d+:\d+: error: `[^`]+`: `goal\.([^`]+)`: module", re.M)
 ASKS = re.compile(r"^help: `Goals` has no `([^`]+)`; rattle asks for ([^;]*)", re.M)
@@ -44,8 +47,9 @@ LACKS_A_NAME = re.compile(r"has no field|is not in scope|has no `|was not admitt
 
 @dataclasses.dataclass(eq=False)
 class Edit:
-    """A wrong body: its pairs of texts by file, the functions that have one proof with the one that it changes, if it is one,
-    itself first, the words of its goals' names that it changes, by the folder of the answers, and what its rounds told."""
+    """A wrong body: its pairs of texts by file, the names of the functions that have one proof with the one that it changes, if
+    it is one, itself first, the words of its goals' names that it changes, by the folder of the answers, and what its rounds
+    told."""
 
     path: pathlib.Path
     pairs: list
@@ -56,21 +60,6 @@ class Edit:
     @property
     def is_planted(self):
         return self.path.parent.name == "planted"
-
-    @property
-    def module(self):
-        """The path of the module of the file that it changes."""
-        return self.pairs[0][0].removeprefix("src/").removesuffix(".rt").replace("/", "::")
-
-    def names(self, known):
-        """Returns the whole names of its functions: by their ends, and by the edit's file where several end so."""
-        whole = []
-        for function in self.functions:
-            found = [it for it in known if f"::{it}".endswith(f"::{function}")]
-            if len(found) > 1:
-                found = [it for it in found if it.partition("::")[2].startswith(f"{self.module}::")]
-            whole += found if len(found) == 1 else []
-        return whole
 
     def fault(self):
         """Returns what is wrong with what its rounds told, or nothing."""
@@ -84,28 +73,39 @@ class Edit:
 
 def read(path):
     """Returns the edit in a file."""
-    file, old, around, pairs = "", None, "", []
+    file, behind, old, around, pairs = "", "", None, "", []
     for line in path.read_text().splitlines():
         key, _, text = line.partition(":")
         text = text.removeprefix(" ")
         if key == "file":
-            file = text.strip()
+            file, behind = text.strip(), ""
+        elif key == "behind":
+            behind = text
         elif key in ("old", "old line"):
             old, around = text, "\n" if key == "old line" else ""
         elif key == "new" and file and old:
-            pairs.append((file, around + old + around, around + text + around))
+            pairs.append((file, behind, around + old + around, around + text + around))
             old = None
     return Edit(path, pairs)
 
 
+def place(text, behind, old):
+    """Returns where an old text stands in a file's: the first time behind the other text, if there is one; -1 where one of them
+    stands there not at all, or what has to stand there once does so more often."""
+    if text.count(behind or old) != 1:
+        return -1
+    return text.find(old, text.find(behind) if behind else 0)
+
+
 def applied(edit, texts):
-    """Returns the texts with the edit, or None unless each of its old texts stands exactly once in them, as the pairs before
-    leave them."""
+    """Returns the texts with the edit, or None unless each of its old texts stands there, as the pairs before leave them."""
     changed = dict(texts)
-    for file, old, new in edit.pairs:
-        if changed.get(file, "").count(old) != 1:
+    for file, behind, old, new in edit.pairs:
+        text = changed.get(file, "")
+        at = place(text, behind, old)
+        if at < 0:
             return None
-        changed[file] = changed[file].replace(old, new)
+        changed[file] = text[:at] + new + text[at + len(old) :]
     return changed if edit.pairs else None
 
 
@@ -138,7 +138,7 @@ class Check:
     def is_broken(self, name):
         """Whether a function has an open goal of its own, or an error in its own proof that is no lack of a name."""
         said = self.lines.get(name, "proved")
-        return "did not prove" in said or not said.startswith("proved") and "/".join(name.split("::")[1:]) in self.faults
+        return "did not prove" in said or not said.startswith(PROVED) and "/".join(name.split("::")[1:]) in self.faults
 
     def renamed(self, name):
         """Returns the words of the names that a function's answers lack, and for each the one that stands there now."""
@@ -152,13 +152,13 @@ class Check:
 
     def answer(self, edit):
         """Returns what it says of one of its edits: refused, proved, or a word why it says nothing yet."""
-        names = edit.names(self.lines)
+        names = [it for it in edit.functions if it in self.lines]
         said = self.lines[names[0]] if names else ""
         if not self.is_read:
             return "unread: " + next((it for it in self.said.splitlines() if "error" in it), "")[:200]
         if any(map(self.is_broken, names)):
             return "refused"
-        if said.startswith("proved"):
+        if said.startswith(PROVED):
             return "proved"
         if names and self.renamed(names[0]) - edit.renamed:
             edit.renamed |= self.renamed(names[0])
@@ -179,11 +179,12 @@ class Crate:
         self.name, self.folder, self.kept = name, kit.ROOT / "crates" / name, None
         self.seconds, self.checks = 0.0, 0
         self.texts = {str(it.relative_to(self.folder)): it.read_text() for it in sorted(self.folder.glob("src/**/*.rt"))}
+        self.modules = {file: pathlib.Path(file).with_suffix("").parts[1:] for file in self.texts}
+        self.modules = {file: () if it in (("lib",), ("main",)) else it for file, it in self.modules.items()}
         self.functions, cycles = {}, collections.defaultdict(list)
         for file, text in self.texts.items():
-            module = pathlib.Path(file).stem
-            found = items.functions(text, name if module in ("lib", "main") else module)
-            self.functions[file] = [(it, f"{it.owner}::{it.name}") for it in found if it.body < it.end]
+            found = items.functions(text, (name, *self.modules[file])[-1])
+            self.functions[file] = [(it, self.name_of(file, it)) for it in found if it.body < it.end]
             for it, named in self.functions[file]:
                 for cycle in CYCLE.findall(text[: it.start]):
                     cycles[cycle].append(named)
@@ -195,23 +196,44 @@ class Crate:
             own = self.function_of(edit)
             edit.functions = [own, *(it for cycle in cycles.values() if own in cycle for it in cycle if it != own)] if own else []
 
+    def name_of(self, file, function):
+        """Returns the name by which a check knows a function of a file: a type's own stand where the type does."""
+        module, owner = self.modules[file], function.owner
+        if owner == (self.name, *module)[-1]:
+            return "::".join((self.name, *module, function.name))
+        declared = re.compile(rf"^\s*(?:pub(?:\(\w+\))? )?(?:struct|enum) {owner}\b", re.M)
+        homes = [self.modules[it] for it, text in self.texts.items() if declared.search(text)]
+        home = max(homes, key=lambda it: len(os.path.commonprefix([it, module])), default=module)
+        return "::".join((self.name, *home, owner, function.name))
+
     def function_of(self, edit):
-        """Returns the end of the name of the one function that holds all of the edit's old texts outside its clauses, or none."""
+        """Returns the name of the one function that holds all of the edit's old texts outside its clauses, or none."""
         found = set()
-        for file, old, _ in edit.pairs:
-            at = self.texts[file].find(old)
+        for file, behind, old, _ in edit.pairs:
+            at = place(self.texts[file], behind, old)
             end = at + len(old)
             around = [name for it, name in self.functions[file]
                       if it.start <= at and end <= it.end and (end <= it.clauses or it.body <= at)]
             found.add(around[-1] if around else "")
         return found.pop() if len(found) == 1 else ""
 
+    def leave_out(self, proofs, edits):
+        """Puts a hole in place of each proof, in a copy's folder of them, but those of the functions that the edits change."""
+        changed = {it for edit in edits for it in edit.functions}
+        for it, name in (it for found in self.functions.values() for it in found):
+            parts = name.split("::")[1:]
+            folder = proofs.joinpath(*parts)
+            if name not in changed and not it.is_of_trait and not folder.with_name(f"+{it.name}").exists():
+                shutil.rmtree(folder, ignore_errors=True)
+                folder.mkdir(parents=True)
+                folder.joinpath("Proof.antt").write_text(HOLE.format(".".join(("Rattle", self.name, "proofs", *parts)), it.name))
+
     def check(self, edits, is_whole):
-        """Checks a copy of the crate with these edits: the whole crate, or the functions that they change and those below them."""
+        """Checks a copy of the crate with these edits: the whole crate, or the functions that they change alone."""
         texts = self.texts
         for edit in edits:
             texts = applied(edit, texts)
-        scope = [] if is_whole else [word for it in edits for word in ("--only", it.functions[0])]
+        scope = [] if is_whole else ["--allow-holes", *(word for it in edits for word in ("--only", it.functions[0]))]
         with tempfile.TemporaryDirectory(prefix="wrong-bodies-") as room:
             for part in filter(lambda it: (self.folder / it).is_dir(), kit.PARTS):
                 shutil.copytree(self.folder / part, f"{room}/{part}")
@@ -219,6 +241,8 @@ class Crate:
                 pathlib.Path(room, file).write_text(text)
             for folder, *words in {it for edit in edits for it in edit.renamed}:
                 rename(f"{room}/proofs/{folder}", *words)
+            if not is_whole:
+                self.leave_out(pathlib.Path(room, "proofs"), edits)
             words = [kit.RATTLE, "check", *kit.words(self.name), *scope, "--jobs", "1", "--incremental", self.kept]
             _, said, seconds = kit.call([*words, "--stage-times", f"{room}/stages"], room)
             stages = pathlib.Path(room, "stages")
@@ -245,7 +269,7 @@ class Crate:
         """Returns as many of the edits as fit into one round, one a function at most. What two rounds left goes alone."""
         taken, seen, texts = [], set(), self.texts
         for edit in edits:
-            proof, changed = (edit.module, frozenset(edit.functions)), applied(edit, texts)
+            proof, changed = frozenset(edit.functions), applied(edit, texts)
             if edit.functions and len(edit.told) < 2 and proof not in seen and changed:
                 texts = changed
                 seen.add(proof)
@@ -255,8 +279,6 @@ class Crate:
     def try_all(self, room):
         """Tries the edits in rounds, until each is judged. Returns the crate's faults."""
         self.kept = pathlib.Path(room, self.name)
-        if (self.folder / "out/incremental").is_dir():
-            shutil.copytree(self.folder / "out/incremental", self.kept, copy_function=os.link)
         left = [*self.edits]
         while left:
             taken = self.fitting(left)
@@ -264,7 +286,7 @@ class Crate:
             ended = [it for it in taken if it.told[-1] == "refused" or it.is_planted and it.told[-1] == "proved"]
             ended += taken if len(taken) == 1 and taken[0].told[-1] != RENAMED else []
             left = [it for it in left if it not in ended]
-        faults = [f"{it.path.stem}: an old text doesn't stand exactly once in its file" for it in self.found if it not in self.edits]
+        faults = [f"{it.path.stem}: an old text doesn't stand in its file as it has to" for it in self.found if it not in self.edits]
         faults += [f"{it.path.stem}: {it.fault()}" for it in self.edits if it.fault()]
         wrong = [it for it in self.edits if not it.is_planted]
         print(f"{self.name}: {self.refused()} of {len(wrong)} wrong bodies refused, {len(self.edits) - len(wrong)} planted,"
