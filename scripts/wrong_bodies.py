@@ -2,19 +2,15 @@
 """Shows that the prover refuses each crate's wrong bodies, crates/NAME/wrong-bodies/*.edit and must-fail/*.edit.
 
 An edit is a line 'file: src/lib.rt' and then pairs of lines 'old: TEXT' and 'new: TEXT', each old text standing
-there once; 'old line: TEXT' stands for a whole line, and behind a line 'behind: TEXT' the first one after that text is meant.
-One check of a copy of the crate carries a round of edits, one a
-proof at most, and proves the functions that they change alone: a function's proof rests on its callees' contracts and not
-on their proofs, so a hole stands for that of each other function. An edit is refused exactly if the check names an open
-goal, or an error in the proof files, of the function that it changes, or of one in a cycle of calls with it, as these have
-one proof. What waits for a callee, lacks a name or was cut off goes to the next round. An edit that changes more than one
-function's body goes alone, over the whole crate and with no hole, and so does each that no round has judged. What is still
-let through fails.
-
-The checks of a crate keep their work in one folder. The libraries below are those that rt ci or rt check has left.
-
-The edits in wrong-bodies/planted change no meaning, and show that this script can fail: each must come out as let
-through, and one named waits_* must wait, in its first round, for the broken function that it calls.
+there once; 'old line: TEXT' stands for a whole line, and after a line 'behind: TEXT' the first one behind that text is
+meant. One check of a copy of the crate carries a round of edits, one a proof at most, and proves the functions that they
+change alone: a function's proof rests on its callees' contracts and not on their proofs, so a hole stands for that of each
+other function. An edit is refused exactly if the check names an open goal, or an error in the proof files, of the function
+that it changes, or of one in a cycle of calls with it, as these have one proof. What waits for a callee, lacks a name or
+was cut off goes to the next round. An edit that changes more than one function's body goes alone, over the whole crate and
+with no hole, and so does each that no round has judged. What is still let through fails. The libraries below are those that
+rt ci or rt check has left. The edits in wrong-bodies/planted change no meaning, and show that this script can fail: each
+must come out as let through, and one named waits_* must wait, in its first round, for the broken function that it calls.
 
 Usage: wrong_bodies.py [--crate NAME] [--only WORD]
 """
@@ -179,22 +175,26 @@ class Crate:
         self.name, self.folder, self.kept = name, kit.ROOT / "crates" / name, None
         self.seconds, self.checks = 0.0, 0
         self.texts = {str(it.relative_to(self.folder)): it.read_text() for it in sorted(self.folder.glob("src/**/*.rt"))}
-        self.modules = {file: pathlib.Path(file).with_suffix("").parts[1:] for file in self.texts}
-        self.modules = {file: () if it in (("lib",), ("main",)) else it for file, it in self.modules.items()}
-        self.functions, cycles = {}, collections.defaultdict(list)
+        roots = ("lib", "main")
+        self.modules = {it: tuple(part for part in pathlib.Path(it).with_suffix("").parts[1:] if part not in roots) for it in self.texts}
+        self.functions, self.cycles = {}, collections.defaultdict(list)
         for file, text in self.texts.items():
             found = items.functions(text, (name, *self.modules[file])[-1])
             self.functions[file] = [(it, self.name_of(file, it)) for it in found if it.body < it.end]
             for it, named in self.functions[file]:
                 for cycle in CYCLE.findall(text[: it.start]):
-                    cycles[cycle].append(named)
+                    self.cycles[cycle].append(named)
         found = [read(it) for it in sorted([*self.folder.glob("wrong-bodies/**/*.edit"), *self.folder.glob("must-fail/*.edit")])]
         # Those that are planted come first, into the round of what they wait for.
         self.found = sorted((it for it in found if only in it.path.stem), key=lambda it: not it.is_planted)
         self.edits = [it for it in self.found if applied(it, self.texts)]
         for edit in self.edits:
             own = self.function_of(edit)
-            edit.functions = [own, *(it for cycle in cycles.values() if own in cycle for it in cycle if it != own)] if own else []
+            edit.functions = [own, *self.beside(own)] if own else []
+
+    def beside(self, name):
+        """Returns the functions in a cycle of calls with one, besides itself."""
+        return [it for cycle in self.cycles.values() if name in cycle for it in cycle if it != name]
 
     def name_of(self, file, function):
         """Returns the name by which a check knows a function of a file: a type's own stand where the type does."""
@@ -218,12 +218,14 @@ class Crate:
         return found.pop() if len(found) == 1 else ""
 
     def leave_out(self, proofs, edits):
-        """Puts a hole in place of each proof, in a copy's folder of them, but those of the functions that the edits change."""
+        """Puts a hole in place of each proof, in a copy's folder of them, but those of recursive functions and of those that the
+        edits change."""
         changed = {it for edit in edits for it in edit.functions}
         for it, name in (it for found in self.functions.values() for it in found):
             parts = name.split("::")[1:]
             folder = proofs.joinpath(*parts)
-            if name not in changed and not it.is_of_trait and not folder.with_name(f"+{it.name}").exists():
+            is_recursive = self.beside(name) or folder.with_name(f"+{it.name}").exists()
+            if not is_recursive and not it.is_of_trait and name not in changed:
                 shutil.rmtree(folder, ignore_errors=True)
                 folder.mkdir(parents=True)
                 folder.joinpath("Proof.antt").write_text(HOLE.format(".".join(("Rattle", self.name, "proofs", *parts)), it.name))
