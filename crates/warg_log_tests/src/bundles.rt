@@ -1,9 +1,9 @@
 //! Bundles of a log's proofs: their parts, and refusals that come before allocating.
 
-use crate::digests::{all, bytes_of, hash_of};
+use crate::digests::{Z, all, bytes_of, hash_of};
 use refusing::Refusing;
-use std::alloc::{AllocError, Allocator, Global};
-use std::test::Fail;
+use std::alloc::{Allocator, Global};
+use std::process::Abort;
 use warg_bundle::{BundleError, LogProofBundle};
 use warg_crypto::{Hash, Sha256};
 use warg_log::{
@@ -23,8 +23,9 @@ fn nothing(alloc: Global) -> Data {
     SparseLogData::from(Vec::new(alloc))
 }
 
-fn lent<A: Allocator + Copy>(alloc: Global, memory: A) -> Result<Bundle<A>, Fail> {
-    Ok(LogProofBundle::decode(memory, &bytes_of(alloc, BOTH)?)?)
+// The bundle of these words.
+fn lent<A: Allocator + Copy>(rt: &(impl AllocGlobal + Abort), memory: A, words: &str) -> Bundle<A> {
+    LogProofBundle::decode(memory, &bytes_of(rt, words)).expect(rt, "a bundle")
 }
 
 // Whether the bundle answers these inclusion proofs and no others.
@@ -55,22 +56,16 @@ fn has_digests<A: Allocator>(bundle: &Bundle<A>, second: &Hash<Sha256>) -> bool 
 }
 
 #[test]
-fn readers_without_memory(rt: HostRuntime) -> Result<(), Fail> {
+fn readers_without_memory(rt: HostRuntime) {
     let memory = Refusing::after(rt.alloc(), 99);
-    let bundle = lent(rt.alloc(), &memory)?;
-    let second = hash_of(rt.alloc(), "U2")?;
+    let bundle = lent(&rt, &memory, BOTH);
+    let second = hash_of(&rt, "U2");
     memory.exhaust();
     let none = nothing(rt.alloc());
-    assert!(rt;
-        all(&[
-            has_inclusions(&bundle, &none),
-            has_consistency(&bundle, &none)
-        ])
-    );
+    assert!(rt; has_inclusions(&bundle, &none) && has_consistency(&bundle, &none));
     assert!(rt; has_digests(&bundle, &second));
     assert!(rt; none.prove_consistency(2, 3).evaluate(&none).is_err());
     assert!(rt; all(&[memory.left() == 0, !memory.has_refused()]));
-    Ok(())
 }
 
 // Whether these are the proofs of the bundle, in order.
@@ -90,35 +85,29 @@ fn are_parts<A: Allocator>(
 }
 
 #[test]
-fn parts_in_order(rt: HostRuntime) -> Result<(), Fail> {
+fn parts_in_order(rt: HostRuntime) {
     let memory = Refusing::after(rt.alloc(), 99);
-    let bundle = lent(rt.alloc(), &memory)?;
-    let (hashes, consistencies, inclusions) = bundle.unbundle(&memory)?;
+    let bundle = lent(&rt, &memory, BOTH);
+    let (hashes, consistencies, inclusions) = bundle.unbundle(&memory).expect(&rt, "memory");
     assert!(rt; are_parts(&hashes, consistencies.as_slice(), inclusions.as_slice()));
-    Ok(())
 }
 
 // The bundle of the first entry's proof, which comes in one allocator, in another one.
-fn bundled<A: Allocator + Copy>(memory: A, lists: A, data: &Data) -> Result<Bundle<A>, Fail> {
-    let proofs = vec![in lists; data.prove_inclusion(Node(0), 3)]?;
-    Ok(LogProofBundle::bundle(memory, Vec::new(lists), proofs, data)?)
+fn bundled<A: Allocator + Copy>(rt: &impl Abort, memory: A, lists: A, data: &Data) -> Bundle<A> {
+    let proofs = vec![in lists; data.prove_inclusion(Node(0), 3)].expect(rt, "memory");
+    LogProofBundle::bundle(memory, Vec::new(lists), proofs, data).expect(rt, "a bundle")
 }
 
 // All parts of a bundle lie in the allocator that is handed over, whichever one the proofs came in.
 #[test]
-fn a_bundle_lies_in_one_allocator(rt: HostRuntime) -> Result<(), Fail> {
+fn a_bundle_lies_in_one_allocator(rt: HostRuntime) {
     let memory = Refusing::after(rt.alloc(), 99);
     let lists = Refusing::after(rt.alloc(), 1);
-    let data = read(rt.alloc(), BOTH)?;
-    let bundle = bundled(&memory, &lists, data.hashes())?;
+    let data = lent(&rt, rt.alloc(), BOTH);
+    let bundle = bundled(&rt, &memory, &lists, data.hashes());
     assert!(rt; all(&[memory.left() < 99, lists.left() == 0, !lists.has_refused()]));
-    assert!(rt; all(&[bundle.unbundle(&memory).is_ok(), !lists.has_refused()]));
-    assert!(rt; all(&[bundle.unbundle(&lists).is_err(), lists.has_refused()]));
-    Ok(())
-}
-
-fn read(alloc: Global, words: &str) -> Result<LogProofBundle<Sha256, ()>, Fail> {
-    Ok(LogProofBundle::decode(alloc, &bytes_of(alloc, words)?)?)
+    assert!(rt; bundle.unbundle(&memory).is_ok() && !lists.has_refused());
+    assert!(rt; bundle.unbundle(&lists).is_err() && lists.has_refused());
 }
 
 // Bundles with another length, old length, node or digest.
@@ -133,36 +122,27 @@ static OTHERS: [&str; 6] = [
 
 // Bundles are equal exactly if their lengths, old lengths, nodes and digests are.
 #[test]
-fn equal_bundles(rt: HostRuntime) -> Result<(), Fail> {
-    let bundle = read(rt.alloc(), BOTH)?;
-    assert!(rt; bundle == read(rt.alloc(), BOTH)?);
+fn equal_bundles(rt: HostRuntime) {
+    let bundle = lent(&rt, rt.alloc(), BOTH);
+    assert!(rt; bundle == lent(&rt, rt.alloc(), BOTH));
     for other in &OTHERS {
-        assert!(rt; bundle != read(rt.alloc(), other)?);
+        assert!(rt; bundle != lent(&rt, rt.alloc(), other));
     }
-    Ok(())
-}
-
-// What bundling these proofs over no data is refused for, where every growth is.
-fn refusal(
-    alloc: Global,
-    consistencies: &[ConsistencyProof<Sha256, ()>],
-    inclusions: &[InclusionProof<Sha256, ()>],
-) -> Result<Option<BundleError>, AllocError> {
-    let memory = Refusing::after(alloc, 2);
-    let consistencies = Vec::from_slice(&memory, consistencies)?;
-    let inclusions = Vec::from_slice(&memory, inclusions)?;
-    memory.exhaust();
-    Ok(LogProofBundle::bundle(&memory, consistencies, inclusions, &nothing(alloc)).err())
 }
 
 // Whether bundling these proofs over no data is refused for this fault, where every growth is.
 fn is_refused(
-    rt: &HostRuntime,
+    rt: &(impl AllocGlobal + Abort),
     consistencies: &[ConsistencyProof<Sha256, ()>],
     inclusions: &[InclusionProof<Sha256, ()>],
     want: BundleError,
 ) -> bool {
-    refusal(rt.alloc(), consistencies, inclusions) == Ok(Some(want))
+    let memory = Refusing::after(rt.alloc(), 2);
+    let consistencies = Vec::from_slice(&memory, consistencies).expect(rt, "memory");
+    let inclusions = Vec::from_slice(&memory, inclusions).expect(rt, "memory");
+    memory.exhaust();
+    let none = nothing(rt.alloc());
+    LogProofBundle::bundle(&memory, consistencies, inclusions, &none).err() == Some(want)
 }
 
 #[test]
@@ -185,11 +165,6 @@ fn early_refusals_of_inclusion_proofs(rt: HostRuntime) {
     assert!(rt; is_refused(&rt, &[], &late, fault));
     let known = [data.prove_inclusion(Node(0), 2)];
     assert!(rt; is_refused(&rt, &[], &known, BundleError::Memory));
-}
-
-#[test]
-fn early_refusals_of_all_proofs(rt: HostRuntime) {
-    let data = nothing(rt.alloc());
     let old = [data.prove_consistency(0, 5)];
     let new = [data.prove_inclusion(Node(8), 4)];
     assert!(rt; is_refused(&rt, &old, &new, BundleError::DifferentRoots));
@@ -197,11 +172,12 @@ fn early_refusals_of_all_proofs(rt: HostRuntime) {
 }
 
 // The bundle of a node whose number is above 32 bits.
-fn too_large<A: Allocator + Copy>(alloc: Global, memory: A) -> Result<Bundle<A>, Fail> {
-    let held = vec![in alloc; (Node((1 << 31) - 1), hash_of(alloc, "Z")?)]?;
+fn too_large<A: Allocator + Copy>(rt: &(impl AllocGlobal + Abort), memory: A) -> Bundle<A> {
+    let held = vec![in rt.alloc(); (Node((1 << 31) - 1), hash_of(rt, Z))].expect(rt, "memory");
     let data: Data = SparseLogData::from(held);
-    let proofs = vec![in memory; data.prove_inclusion(Node(1 << 32), (1 << 31) + 1)]?;
-    Ok(LogProofBundle::bundle(memory, Vec::new(memory), proofs, &data)?)
+    let proofs = vec![in memory; data.prove_inclusion(Node(1 << 32), (1 << 31) + 1)];
+    let proofs = proofs.expect(rt, "memory");
+    LogProofBundle::bundle(memory, Vec::new(memory), proofs, &data).expect(rt, "a bundle")
 }
 
 // Whether that bundle isn't written.
@@ -213,17 +189,12 @@ fn is_not_written<A: Allocator + Copy>(bundle: &Bundle<A>, memory: A) -> bool {
 }
 
 #[test]
-fn too_large_to_write_without_memory(rt: HostRuntime) -> Result<(), Fail> {
+fn too_large_to_write_without_memory(rt: HostRuntime) {
     let memory = Refusing::after(rt.alloc(), 99);
-    let bundle = too_large(rt.alloc(), &memory)?;
+    let bundle = too_large(&rt, &memory);
     memory.exhaust();
     assert!(rt; is_not_written(&bundle, &memory));
     let proof = nothing(rt.alloc()).prove_inclusion(Node(1 << 32), (1 << 31) + 1);
-    assert!(rt;
-        all(&[
-            bundle.inclusion_proof(0) == Some(proof),
-            !memory.has_refused()
-        ])
-    );
-    Ok(())
+    assert!(rt; bundle.inclusion_proof(0) == Some(proof));
+    assert!(rt; !memory.has_refused());
 }

@@ -4,12 +4,13 @@ ghost use Rattle.std.specs.Prelude.{◌≡◌, ◌↔◌, IsTrue};
 ghost use Rattle.std.specs.Ordering.{nat_cmp};
 ghost use Rattle.std.specs.Cmp.Lexicographic.{slice_cmp};
 
+use crate::digests;
 use crate::digests::{L0, L1, L2, U2, U3, Z, all, hash_ending_in};
 use refusing::Refusing;
-use std::alloc::{AllocError, Allocator, Global};
+use std::alloc::Allocator;
 use std::cmp::Ordering;
 use std::hash::{DefaultHasher, Hasher};
-use std::test::Fail;
+use std::process::Abort;
 use warg_crypto::weak::{Flat, Own32, Sum};
 use warg_crypto::{
     Framed, Hash, HashLength, Sha256, Side, VisitBytes, bytes_of, empty_tree_hash, hash_branch,
@@ -37,13 +38,12 @@ fn is_spelled<D>(hash: &Hash<D>, digits: &str) -> bool {
 }
 
 // The hash of bytes in three pieces, each given by its digits.
-fn hash_of_pieces(alloc: Global, pieces: &[&str; 3]) -> Result<Hash<Sha256>, Fail> {
-    let mark = hex::decode(alloc, pieces[0])?;
+fn hash_of_pieces(rt: &(impl AllocGlobal + Abort), pieces: &[&str; 3]) -> Hash<Sha256> {
     let pair = (
-        hex::decode(alloc, pieces[1])?,
-        hex::decode(alloc, pieces[2])?,
+        digests::bytes_of(rt, pieces[1]),
+        digests::bytes_of(rt, pieces[2]),
     );
-    Ok(Hash::of(&(mark, pair)))
+    Hash::of(&(digests::bytes_of(rt, pieces[0]), pair))
 }
 
 static HASHES_OF_PIECES: [([&str; 3], &str); 6] = [
@@ -56,21 +56,25 @@ static HASHES_OF_PIECES: [([&str; 3], &str); 6] = [
 ];
 
 #[test]
-fn sha256_of_bytes_in_pieces(rt: HostRuntime) -> Result<(), Fail> {
+fn sha256_of_bytes_in_pieces(rt: HostRuntime) {
     for (pieces, want) in &HASHES_OF_PIECES {
-        assert!(rt; is_spelled(&hash_of_pieces(rt.alloc(), pieces)?, want));
+        assert!(rt; is_spelled(&hash_of_pieces(&rt, pieces), want));
     }
-    Ok(())
 }
 
-static OTHER_TEXTS: [(&str, &str); 3] = [("foo", "foo1"), ("foo1", "foo"), ("foo", "bar")];
+type Pair = (&'static str, &'static str);
+
+static PAIRS: [(Pair, Pair, bool); 4] = [
+    (("foo1", "0"), ("foo", "10"), true),
+    (("foo", ""), ("foo1", ""), false),
+    (("foo1", ""), ("foo", ""), false),
+    (("foo", ""), ("bar", ""), false),
+];
 
 #[test]
 fn values_are_compared_by_their_bytes(rt: HostRuntime) {
-    let cut_elsewhere = have_same_bytes(&("foo1", "0"), &("foo", "10"));
-    assert!(rt; cut_elsewhere == Ok(true));
-    for (first, second) in &OTHER_TEXTS {
-        assert!(rt; have_same_bytes(first, second) == Ok(false));
+    for (first, second, are_same) in &PAIRS {
+        assert!(rt; have_same_bytes(first, second) == Ok(*are_same));
     }
 }
 
@@ -107,12 +111,9 @@ fn values_as_bytes(rt: HostRuntime) {
 }
 
 #[test]
-fn lists_and_texts_as_bytes(rt: HostRuntime) -> Result<(), Fail> {
-    let list = b"abc".to_vec(rt.alloc())?;
-    assert!(rt; is_abc(&list));
-    let text = String::from_str(rt.alloc(), "abc")?;
-    assert!(rt; is_abc(&text));
-    Ok(())
+fn lists_and_texts_as_bytes(rt: HostRuntime) {
+    assert!(rt; is_abc(&b"abc".to_vec(rt.alloc()).expect(&rt, "memory")));
+    assert!(rt; is_abc(&String::from_str(rt.alloc(), "abc").expect(&rt, "memory")));
 }
 
 #[test]
@@ -134,34 +135,33 @@ fn numbers_as_bytes(rt: HostRuntime) {
     assert!(rt; *array == <[u8; 32]>::from(hash.copied()));
 }
 
-// Whether so many bytes make a hash of them exactly if they are 32.
-fn is_hash_of_32(alloc: Global, length: usize) -> Result<bool, AllocError> {
-    let bytes = vec![in alloc; 7u8; length]?;
+// Whether bytes make a hash of them exactly if they are 32.
+fn is_hash_of_32(bytes: Vec<u8>) -> bool {
+    let length = bytes.len();
     match Hash::<Sha256>::try_from(bytes) {
-        Ok(hash) => Ok(length == 32 && hash.bytes() == [7; 32].as_slice()),
-        Err(HashLength) => Ok(length != 32),
+        Ok(hash) => length == 32 && hash.bytes() == [7; 32].as_slice(),
+        Err(HashLength) => length != 32,
     }
 }
 
 #[test]
-fn hashes_of_32_bytes(rt: HostRuntime) -> Result<(), Fail> {
+fn hashes_of_32_bytes(rt: HostRuntime) {
     for length in 0..40usize {
-        assert!(rt; is_hash_of_32(rt.alloc(), length)?, "{length}");
+        let bytes = vec![in rt.alloc(); 7u8; length].expect(&rt, "memory");
+        assert!(rt; is_hash_of_32(bytes));
     }
     let hash = hash_ending_in::<Sum>(5);
-    assert!(rt; all(&[hash.len() == 32, hash.bit_len() == 256]));
-    Ok(())
+    assert!(rt; [hash.len(), hash.bit_len()] == [32, 256]);
 }
 
 #[test]
-fn hashes_compared(rt: HostRuntime) -> Result<(), Fail> {
-    let low = hash_ending_in::<Sum>(5);
-    let high = hash_ending_in::<Sum>(7);
+fn hashes_compared(rt: HostRuntime) {
+    let (low, high) = (hash_ending_in::<Sum>(5), hash_ending_in::<Sum>(7));
     assert!(rt; compared(&low, &high) == (false, Ordering::Less));
     assert!(rt; compared(&high, &low.copied()) == (false, Ordering::Greater));
-    assert!(rt; compared(&low, &low.clone()?) == (true, Ordering::Equal));
-    assert!(rt; all(&[low < high, hashed(&low) == hashed(&low.copied())]));
-    Ok(())
+    let clone = low.clone().expect(&rt, "a hash");
+    assert!(rt; compared(&low, &clone) == (true, Ordering::Equal));
+    assert!(rt; low < high && hashed(&low) == hashed(&low.copied()));
 }
 
 static EMPTY_TREES: [(usize, &str); 4] = [
@@ -189,14 +189,13 @@ fn empty_trees(rt: HostRuntime) {
     }
 }
 
+// The last bytes of the empty trees of the first heights by sums.
+static EMPTY_SUMS: [u8; 11] = [0, 1, 3, 7, 15, 31, 63, 127, 255, 255, 255];
+
 #[test]
 fn empty_trees_of_weak_digests(rt: HostRuntime) {
-    let sums = [0, 1, 3, 7, 15, 31, 63, 127, 255, 255, 255];
-    for (height, sum) in sums.iter().enumerate() {
-        assert!(rt;
-            empty_tree_hash::<Sum>(height) == hash_ending_in(*sum),
-            "{height}"
-        );
+    for (height, sum) in EMPTY_SUMS.iter().enumerate() {
+        assert!(rt; empty_tree_hash::<Sum>(height) == hash_ending_in(*sum));
     }
     assert!(rt; empty_tree_hash::<Sum>(256) == hash_ending_in(255));
     assert!(rt; empty_tree_hash::<Flat>(9) == hash_ending_in(0));
@@ -219,27 +218,22 @@ fn are_listed<A: Allocator>(alloc: A) -> bool {
 fn bytes_with_each_growth_refused(rt: HostRuntime) {
     for (growths, listed) in [(0, false), (1, false), (9, true)] {
         let memory = Refusing::after(rt.alloc(), growths);
-        assert!(rt; are_listed(&memory) == listed, "{growths}");
-        assert!(rt; memory.has_refused() != listed, "{growths}");
+        assert!(rt; are_listed(&memory) == listed && memory.has_refused() != listed);
         memory.grant(9);
-        assert!(rt; are_listed(&memory), "{growths}");
+        assert!(rt; are_listed(&memory));
     }
 }
 
 // Whether a list is hashed, becomes a hash, and a hash is cloned.
-fn are_hashed<A: Allocator>(list: Vec<u8, A>) -> Result<bool, Fail> {
+fn are_hashed<A: Allocator>(list: Vec<u8, A>) -> bool {
     let hash = Hash::<Sha256>::of(&list);
-    Ok(all(&[
-        hash.clone()? == hash,
-        Hash::<Sha256>::try_from(list).is_ok(),
-    ]))
+    let clone: Result<_, _> = hash.clone();
+    clone == Ok(hash) && Hash::<Sha256>::try_from(list).is_ok()
 }
 
 #[test]
-fn hashes_without_memory(rt: HostRuntime) -> Result<(), Fail> {
+fn hashes_without_memory(rt: HostRuntime) {
     let memory = Refusing::after(rt.alloc(), 1);
-    let list = vec![in &memory; 7u8; 32]?;
-    assert!(rt; are_hashed(list)?);
-    assert!(rt; all(&[memory.left() == 0, !memory.has_refused()]));
-    Ok(())
+    assert!(rt; are_hashed(vec![in &memory; 7u8; 32].expect(&rt, "one growth")));
+    assert!(rt; memory.left() == 0 && !memory.has_refused());
 }

@@ -1,7 +1,6 @@
 //! Digests and bytes that several subjects speak of. Those of SHA-256 are computed by Python's hashlib.
 
-use std::alloc::Global;
-use std::test::Fail;
+use std::process::Abort;
 use warg_crypto::{Hash, Sha256};
 
 /// The digest of no bytes: the root of no entries.
@@ -22,30 +21,33 @@ pub(crate) const U2: &str = "fac54203e7cc696cf0dfcb42c92a1d9dbaf70ad9e621f4bd8d9
 /// The root of the entries of no bytes, `00` and `10`.
 pub(crate) const U3: &str = "aeb6bcfe274b70a14fb067a5e5578264db0fa9b51af5e0ba159158f329e06e77";
 
-/// The bytes of hexadecimal words, one after the other; a digest goes by its name.
-pub(crate) fn bytes_of(alloc: Global, words: &str) -> Result<Vec<u8>, Fail> {
-    let mut bytes = Vec::new(alloc);
-    for word in words.split(' ') {
-        bytes.extend_from_slice(&hex::decode(alloc, digits_of(word))?)?;
+static NAMES: [(&str, &str); 4] = [("L0", L0), ("L1", L1), ("L2", L2), ("U2", U2)];
+
+// The digits that a word names, or the word.
+fn digits_of(word: &str) -> &str {
+    for (name, digits) in &NAMES {
+        if word == *name {
+            return digits;
+        }
     }
-    Ok(bytes)
+    word
 }
 
-fn digits_of(word: &str) -> &str {
-    match word {
-        "Z" => Z,
-        "L0" => L0,
-        "L1" => L1,
-        "L2" => L2,
-        "U2" => U2,
-        "U3" => U3,
-        _ => word,
+/// The bytes of hexadecimal words, one after the other; a digest goes by its name.
+pub(crate) fn bytes_of(rt: &(impl AllocGlobal + Abort), words: &str) -> Vec<u8> {
+    let mut bytes = Vec::new(rt.alloc());
+    for word in words.split(' ') {
+        let more = hex::decode(rt.alloc(), digits_of(word)).expect(rt, "digits");
+        bytes
+            .extend_from_slice(more.as_slice())
+            .expect(rt, "memory");
     }
+    bytes
 }
 
 /// The hash of these hexadecimal digits, or of this name.
-pub(crate) fn hash_of(alloc: Global, digits: &str) -> Result<Hash<Sha256>, Fail> {
-    Ok(Hash::try_from(bytes_of(alloc, digits)?)?)
+pub(crate) fn hash_of(rt: &(impl AllocGlobal + Abort), digits: &str) -> Hash<Sha256> {
+    Hash::try_from(bytes_of(rt, digits)).expect(rt, "32 bytes")
 }
 
 /// The hash of 31 zero bytes and this one.

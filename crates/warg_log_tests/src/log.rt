@@ -1,11 +1,11 @@
 //! The log: its own proofs at all lengths, what it holds, clones, comparison, and calls without memory.
 
-use crate::digests::{all, hash_ending_in, hash_of};
+use crate::digests::{U2, U3, all, hash_ending_in, hash_of};
 use refusing::Refusing;
 use std::alloc::{Allocator, Global};
-use std::test::Fail;
+use std::process::Abort;
 use warg_crypto::weak::Sum;
-use warg_crypto::{Hash, Sha256};
+use warg_crypto::{Hash, Sha256, SupportedDigest, VisitBytes};
 use warg_log::{
     AppendError, Checkpoint, ConsistencyProof, ConsistencyProofError, InclusionProof,
     InclusionProofError, InclusionProofWalk, LogBuilder, LogData, Node, SparseLogData, StackLog,
@@ -50,56 +50,41 @@ static ROOTS: [&str; 25] = [
     "ee6921c0459174f5b3a56994d5ee1bc98e4718ee665815520c25aa0f7c3482dd",
 ];
 
-fn texts(alloc: Global) -> Result<TextLog, Fail> {
+// The log of these entries, appended one by one.
+fn log_of<D: SupportedDigest, V: VisitBytes, A: Allocator>(
+    rt: &impl Abort,
+    alloc: A,
+    entries: &[V],
+) -> VecLog<D, V, A> {
     let mut log = VecLog::default(alloc);
-    push_all(&mut log, &TEXTS)?;
-    Ok(log)
-}
-
-fn roots(alloc: Global) -> Result<Vec<Hash<Sha256>>, Fail> {
-    let mut roots = Vec::new(alloc);
-    for root in &ROOTS {
-        roots.push(hash_of(alloc, root)?)?;
+    for entry in entries {
+        log.append(entry).expect(rt, "memory");
     }
-    Ok(roots)
+    log
 }
 
-// Whether the proof of a text leads to the root of the length, or is refused where the text came later.
-fn is_included(log: &TextLog, place: usize, length: usize, root: &Hash<Sha256>) -> bool {
-    if place >= 25 || length > 25 {
+fn texts(rt: &(impl AllocGlobal + Abort)) -> TextLog {
+    log_of(rt, rt.alloc(), &TEXTS)
+}
+
+fn roots(rt: &(impl AllocGlobal + Abort)) -> Vec<Hash<Sha256>> {
+    let mut roots = Vec::new(rt.alloc());
+    for root in &ROOTS {
+        roots.push(hash_of(rt, root)).expect(rt, "memory");
+    }
+    roots
+}
+
+// Whether the proof of a text leads to the root up to another one, or is refused where the text came later.
+fn is_included(log: &TextLog, roots: &[Hash<Sha256>], place: usize, last: usize) -> bool {
+    if place >= 25 || last >= 25 {
         return false;
     }
-    let proof = log.prove_inclusion(Node(2 * place), length);
+    let proof = log.prove_inclusion(Node(2 * place), last + 1);
     match proof.evaluate_value(log, &TEXTS[place]) {
-        Ok(found) => place < length && found == *root,
-        Err(fault) => place >= length && fault == InclusionProofError::LeafTooNew,
+        Ok(found) => place <= last && roots.get(last) == Some(&found),
+        Err(fault) => place > last && fault == InclusionProofError::LeafTooNew,
     }
-}
-
-// Whether the proof of a text leads to the root of each length that has the text, and is refused at the others.
-fn is_included_at_each(log: &TextLog, place: usize, roots: &[Hash<Sha256>]) -> bool {
-    let mut length = 0usize;
-    for root in roots {
-        length = length.saturating_add(1);
-        if !is_included(log, place, length, root) {
-            return false;
-        }
-    }
-    length == 25
-}
-
-#[test]
-fn own_inclusion_proofs(rt: HostRuntime) -> Result<(), Fail> {
-    let log = texts(rt.alloc())?;
-    let roots = roots(rt.alloc())?;
-    assert!(rt; all(&[log.length() == 25, log.checkpoint().length() == 25]));
-    for place in 0..25 {
-        assert!(rt;
-            is_included_at_each(&log, place, roots.as_slice()),
-            "{place}"
-        );
-    }
-    Ok(())
 }
 
 // Whether the proof between two lengths leads to their roots, or is refused where the old one is above the new one.
@@ -117,18 +102,48 @@ fn is_consistent(log: &TextLog, roots: &[Hash<Sha256>], old: usize, new: usize) 
 }
 
 #[test]
-fn own_consistency_proofs(rt: HostRuntime) -> Result<(), Fail> {
-    let log = texts(rt.alloc())?;
-    let roots = roots(rt.alloc())?;
+fn own_proofs(rt: HostRuntime) {
+    let (log, roots) = (texts(&rt), roots(&rt));
+    assert!(rt; log.length() == 25);
     for old in 0..25 {
         for new in 0..25 {
-            assert!(rt;
-                is_consistent(&log, roots.as_slice(), old, new),
-                "{old} and {new}"
-            );
+            assert!(rt; is_included(&log, roots.as_slice(), old, new));
+            assert!(rt; is_consistent(&log, roots.as_slice(), old, new));
         }
     }
-    Ok(())
+}
+
+// An entry is appended to a log and to a stack alike.
+#[test]
+fn entries_appended(rt: HostRuntime) {
+    let mut log = TextLog::default(rt.alloc());
+    let mut stack = TextStack::default(rt.alloc());
+    for text in &TEXTS {
+        assert!(rt; log.append(text) == stack.append(text));
+    }
+    let root = hash_of(&rt, ROOTS[24]);
+    assert!(rt; log.root() == root);
+    assert!(rt; is_at(&log, &root, 25));
+    assert!(rt; is_at(&stack, &root, 25));
+}
+
+// Whether a log has this root at this length.
+fn is_at<B: LogBuilder<Sha256, &'static str>>(log: &B, root: &Hash<Sha256>, length: usize) -> bool {
+    let checkpoint = log.checkpoint();
+    checkpoint.root() == *root && checkpoint.length() == length
+}
+
+#[test]
+fn clones_grow_apart(rt: HostRuntime) {
+    let mut log = TextLog::default(rt.alloc());
+    let mut stack = TextStack::default(rt.alloc());
+    assert!(rt; push_all(&mut log, &["", "\0"]) == push_all(&mut stack, &["", "\0"]));
+    let mut longer = log.clone().expect(&rt, "memory");
+    let mut higher = stack.clone().expect(&rt, "memory");
+    assert!(rt; longer.append(&"\x10") == higher.append(&"\x10"));
+    let (two, three) = (hash_of(&rt, U2), hash_of(&rt, U3));
+    assert!(rt; all(&[is_at(&log, &two, 2), is_at(&stack, &two, 2)]));
+    assert!(rt; all(&[is_at(&longer, &three, 3), is_at(&higher, &three, 3)]));
 }
 
 type ByteLog<A = Global> = VecLog<Sum, u8, A>;
@@ -136,159 +151,87 @@ type ByteLog<A = Global> = VecLog<Sum, u8, A>;
 // Whether the log holds the node's digest where the node exists, and else none.
 fn holds_what_exists(log: &ByteLog, number: usize) -> bool {
     let node = Node(number);
-    let exists = node.exists_at_length(log.length());
     let held = log.hash_for(node);
-    let wanted = if exists {
-        log.as_ref().get(number)
-    } else {
-        None
-    };
-    all(&[
-        log.has_hash(node) == exists,
-        held.is_some() == exists,
-        held.as_ref() == wanted,
-    ])
+    if node.exists_at_length(log.length()) {
+        return log.has_hash(node) && held.is_some() && held.as_ref() == log.as_ref().get(number);
+    }
+    !log.has_hash(node) && held.is_none()
 }
 
 #[test]
-fn digests_of_nodes_that_exist(rt: HostRuntime) -> Result<(), Fail> {
-    let mut log: ByteLog = VecLog::default(rt.alloc());
-    push_all(&mut log, &[100, 102, 104, 106, 108, 110, 112])?;
+fn digests_of_nodes_that_exist(rt: HostRuntime) {
+    let log = log_of(&rt, rt.alloc(), &[100, 102, 104, 106, 108, 110, 112]);
     for number in 0..20 {
-        assert!(rt; holds_what_exists(&log, number), "at {number}");
+        assert!(rt; holds_what_exists(&log, number));
     }
-    assert!(rt;
-        all(&[
-            !log.has_hash(Node(usize::MAX)),
-            log.hash_for(Node(usize::MAX)).is_none()
-        ])
-    );
-    Ok(())
-}
-
-// The log of no bytes and `00`.
-fn log_of_two(alloc: Global) -> Result<TextLog, Fail> {
-    let mut log = TextLog::default(alloc);
-    push_all(&mut log, &["", "\0"])?;
-    Ok(log)
-}
-
-// The same as a stack.
-fn stack_of_two(alloc: Global) -> Result<TextStack, Fail> {
-    let mut stack = TextStack::default(alloc);
-    push_all(&mut stack, &["", "\0"])?;
-    Ok(stack)
-}
-
-// Whether a log and a stack of no bytes and `00` have one root, and this one.
-fn are_of_two(log: &TextLog, stack: &TextStack, root: &Hash<Sha256>) -> bool {
-    let checkpoint = log.checkpoint();
-    all(&[
-        checkpoint.root() == *root,
-        stack.checkpoint() == checkpoint,
-        log.length() == 2,
-    ])
-}
-
-// Whether one entry more in both gives one leaf, and this root.
-fn grow_alike(log: &mut TextLog, stack: &mut TextStack, root: &Hash<Sha256>) -> Result<bool, Fail> {
-    if log.length() != 2 || stack.length() != 2 {
-        return Ok(false);
-    }
-    let leaf = push_all(log, &["\x10"])?;
-    let same = leaf == push_all(stack, &["\x10"])?;
-    Ok(all(&[same, log.checkpoint().root() == *root, log.length() == 3]))
-}
-
-// Whether clones of both grow alike, to this root.
-fn clones_grow_alike(log: &TextLog, stack: &TextStack, root: &Hash<Sha256>) -> Result<bool, Fail> {
-    grow_alike(&mut log.clone()?, &mut stack.clone()?, root)
-}
-
-#[test]
-fn clones_grow_apart(rt: HostRuntime) -> Result<(), Fail> {
-    let alloc = rt.alloc();
-    let (log, stack) = (log_of_two(alloc)?, stack_of_two(alloc)?);
-    assert!(rt; clones_grow_alike(&log, &stack, &hash_of(alloc, "U3")?)?);
-    assert!(rt; are_of_two(&log, &stack, &hash_of(alloc, "U2")?));
-    Ok(())
-}
-
-// The log of these entries.
-fn sums(alloc: Global, entries: &[u8]) -> Result<ByteLog, Fail> {
-    let mut log = VecLog::default(alloc);
-    if entries.len() < 9 {
-        push_all(&mut log, entries)?;
-    }
-    Ok(log)
-}
-
-// The checkpoint of the log of these entries.
-fn checkpoint_of(alloc: Global, entries: &[u8]) -> Result<Checkpoint<Sum>, Fail> {
-    Ok(sums(alloc, entries)?.checkpoint())
+    assert!(rt; holds_what_exists(&log, usize::MAX));
 }
 
 // Whether the first is below the second, which has the root of the third and is below that.
-fn are_ordered(
-    low: &Checkpoint<Sum>,
-    high: &Checkpoint<Sum>,
-    longer: &Checkpoint<Sum>,
-) -> Result<bool, Fail> {
-    let is_clone = low.clone()? == *low;
+fn are_ordered(low: &Checkpoint<Sum>, high: &Checkpoint<Sum>, longer: &Checkpoint<Sum>) -> bool {
+    let clone: Result<_, _> = low.clone();
     let is_root = longer.root() == high.root();
-    Ok(all(&[low < high, is_root, is_clone, high < longer, high != longer]))
+    all(&[
+        low < high,
+        is_root,
+        clone.as_ref() == Ok(low),
+        high < longer,
+        high != longer,
+    ])
 }
 
 #[test]
-fn checkpoints_are_ordered_by_root_then_length(rt: HostRuntime) -> Result<(), Fail> {
-    let alloc = rt.alloc();
-    let low = checkpoint_of(alloc, &[1])?;
-    let high = checkpoint_of(alloc, &[9])?;
-    let longer = checkpoint_of(alloc, &[4, 4])?;
-    assert!(rt; are_ordered(&low, &high, &longer)?);
-    Ok(())
+fn checkpoints_are_ordered_by_root_then_length(rt: HostRuntime) {
+    let low = log_of::<Sum, u8, _>(&rt, rt.alloc(), &[1]).checkpoint();
+    let high = log_of::<Sum, u8, _>(&rt, rt.alloc(), &[9]).checkpoint();
+    let longer = log_of::<Sum, u8, _>(&rt, rt.alloc(), &[4, 4]).checkpoint();
+    assert!(rt; are_ordered(&low, &high, &longer));
 }
 
 // Whether an inclusion proof is its clone, has its parts, and isn't another one.
-fn is_told_apart(log: &ByteLog, proof: &InclusionProof<Sum, u8>) -> Result<bool, Fail> {
-    Ok(all(&[
-        *proof == proof.clone()?,
+fn is_told_apart(log: &ByteLog, proof: &InclusionProof<Sum, u8>) -> bool {
+    let clone: Result<_, _> = proof.clone();
+    all(&[
+        clone.as_ref() == Ok(proof),
         proof.leaf() == Node(2),
         proof.log_length() == 3,
         *proof != log.prove_inclusion(Node(2), 4),
         *proof != log.prove_inclusion(Node(0), 3),
-    ]))
+    ])
 }
 
 // The same of a consistency proof.
-fn is_told_apart_too(log: &ByteLog, proof: &ConsistencyProof<Sum, u8>) -> Result<bool, Fail> {
-    Ok(all(&[
-        *proof == proof.clone()?,
+fn is_told_apart_too(log: &ByteLog, proof: &ConsistencyProof<Sum, u8>) -> bool {
+    let clone: Result<_, _> = proof.clone();
+    all(&[
+        clone.as_ref() == Ok(proof),
         [proof.old_length(), proof.new_length()] == [2, 3],
         *proof != log.prove_consistency(3, 3),
         *proof != log.prove_consistency(2, 2),
-    ]))
+    ])
+}
+
+// Whether the walk of an entry is that of the same one, and not of another one.
+fn is_walk_apart(log: &ByteLog, walk: &InclusionProofWalk, alloc: Global) -> bool {
+    let same = log.prove_inclusion(Node(2), 3).walk(alloc);
+    let other = log.prove_inclusion(Node(0), 3).walk(alloc);
+    all(&[
+        same.as_ref() == Ok(walk),
+        other.is_ok(),
+        other.as_ref() != Ok(walk),
+    ])
 }
 
 #[test]
-fn proofs_compared(rt: HostRuntime) -> Result<(), Fail> {
-    let log = sums(rt.alloc(), &[1, 2, 3])?;
-    assert!(rt; is_told_apart(&log, &log.prove_inclusion(Node(2), 3))?);
-    assert!(rt; is_told_apart_too(&log, &log.prove_consistency(2, 3))?);
-    Ok(())
-}
-
-fn walk_of(alloc: Global, leaf: Node) -> Result<InclusionProofWalk, Fail> {
-    let log = sums(alloc, &[1, 2, 3])?;
-    Ok(log.prove_inclusion(leaf, 3).walk(alloc)?)
-}
-
-#[test]
-fn walks_compared(rt: HostRuntime) -> Result<(), Fail> {
-    let walk = walk_of(rt.alloc(), Node(2))?;
-    assert!(rt; walk == walk_of(rt.alloc(), Node(2))?);
-    assert!(rt; walk != walk_of(rt.alloc(), Node(0))?);
-    Ok(())
+fn proofs_compared(rt: HostRuntime) {
+    let log = log_of(&rt, rt.alloc(), &[1, 2, 3]);
+    assert!(rt; is_told_apart(&log, &log.prove_inclusion(Node(2), 3)));
+    assert!(rt; is_told_apart_too(&log, &log.prove_consistency(2, 3)));
+    let walk = log
+        .prove_inclusion(Node(2), 3)
+        .walk(rt.alloc())
+        .expect(&rt, "memory");
+    assert!(rt; is_walk_apart(&log, &walk, rt.alloc()));
 }
 
 // Whether a log of three entries answers as it should, by calls that do not allocate.
@@ -318,51 +261,36 @@ fn grows_alone<A: Allocator>(log: &ByteLog<A>) -> bool {
 
 // Whether the walk of the second entry of three has its parts.
 fn is_walk_of_second<A: Allocator>(walk: &InclusionProofWalk<A>) -> bool {
-    all(&[
-        [walk.initial_walk_len(), walk.lower_broots()] == [1, 1],
-        walk.upper_broots() == 0,
-        walk.nodes() == [Node(0), Node(4)].as_slice(),
-    ])
+    [
+        walk.initial_walk_len(),
+        walk.lower_broots(),
+        walk.upper_broots(),
+    ] == [1, 1, 0]
+        && walk.nodes() == [Node(0), Node(4)].as_slice()
 }
 
 // Whether new logs are empty.
 fn are_empty<A: Allocator + Copy>(alloc: A) -> bool {
     let log: ByteLog<A> = VecLog::default(alloc);
     let stack: StackLog<Sum, u8, A> = StackLog::default(alloc);
-    all(&[log.length() == 0, stack.is_empty()])
-}
-
-// The log of three entries.
-fn three<A: Allocator>(alloc: A) -> Result<ByteLog<A>, Fail> {
-    let mut log = VecLog::default(alloc);
-    push_all(&mut log, &[1, 2, 3])?;
-    Ok(log)
+    log.length() == 0 && stack.is_empty()
 }
 
 #[test]
-fn a_log_s_calls_without_memory(rt: HostRuntime) -> Result<(), Fail> {
+fn a_log_s_calls_without_memory(rt: HostRuntime) {
     let memory = Refusing::after(rt.alloc(), 99);
-    let log = three(&memory)?;
-    let walk = log.prove_inclusion(Node(2), 3).walk(&memory)?;
+    let log = log_of(&rt, &memory, &[1, 2, 3]);
+    let walk = log
+        .prove_inclusion(Node(2), 3)
+        .walk(&memory)
+        .expect(&rt, "memory");
     memory.exhaust();
     assert!(rt; all(&[answers_alone(&log), proves_alone(&log), grows_alone(&log)]));
     assert!(rt; all(&[is_walk_of_second(&walk), are_empty(&memory)]));
     assert!(rt; all(&[memory.left() == 0, !memory.has_refused()]));
-    Ok(())
 }
 
 type Given<A> = SparseLogData<Sum, u8, A>;
-
-// Whether the digests of nodes 1 and 4 are held, and those of nodes 0, 3 and 5 aren't.
-fn holds_what_was_given<A: Allocator>(data: &Given<A>) -> bool {
-    all(&[
-        data.hash_for(Node(1)) == Some(hash_ending_in(5)),
-        data.has_hash(Node(4)),
-        !data.has_hash(Node(0)),
-        !data.has_hash(Node(3)),
-        !data.has_hash(Node(5)),
-    ])
-}
 
 // Whether proofs over these digests lead to the sums.
 fn leads_to_sums<A: Allocator>(data: &Given<A>) -> bool {
@@ -375,18 +303,20 @@ fn leads_to_sums<A: Allocator>(data: &Given<A>) -> bool {
 }
 
 #[test]
-fn given_digests_without_memory(rt: HostRuntime) -> Result<(), Fail> {
+fn given_digests_without_memory(rt: HostRuntime) {
     let memory = Refusing::after(rt.alloc(), 99);
-    let pairs = vec![in &memory; (Node(1), hash_ending_in(5)), (Node(4), hash_ending_in(7))]?;
+    let pairs = vec![in &memory; (Node(1), hash_ending_in(5)), (Node(4), hash_ending_in(7))];
+    let data = Given::from(pairs.expect(&rt, "memory"));
     memory.exhaust();
-    let data = Given::from(pairs);
-    assert!(rt; holds_what_was_given(&data));
+    for (number, is_held) in [(1, true), (4, true), (0, false), (3, false), (5, false)] {
+        assert!(rt; data.has_hash(Node(number)) == is_held);
+    }
+    assert!(rt; data.hash_for(Node(1)) == Some(hash_ending_in(5)));
     assert!(rt; leads_to_sums(&data));
     assert!(rt; all(&[memory.left() == 0, !memory.has_refused()]));
-    Ok(())
 }
 
-// Whether the tested call gives the proof of a text that leads to the root of five texts.
+// Whether the tested call gives the proof of a text that leads to this root of five texts.
 fn gives_proof(log: &TextLog, root: &Hash<Sha256>) -> bool {
     match log.proof_at(3, 5) {
         Ok(proof) => proof.evaluate_value(log, &"37").as_ref() == Ok(root),
@@ -394,77 +324,33 @@ fn gives_proof(log: &TextLog, root: &Hash<Sha256>) -> bool {
     }
 }
 
-// Whether it gives the proof between four texts and nine that leads to their roots.
-fn gives_growth(alloc: Global, log: &TextLog) -> Result<bool, Fail> {
-    let roots = (hash_of(alloc, ROOTS[3])?, hash_of(alloc, ROOTS[8])?);
+// Whether it gives the proof between four texts and nine that leads to these roots.
+fn gives_growth(log: &TextLog, old: Hash<Sha256>, new: Hash<Sha256>) -> bool {
     match log.growth_between(4, 9) {
-        Ok(proof) => Ok(proof.evaluate(log) == Ok(roots)),
-        Err(_) => Ok(false),
+        Ok(proof) => proof.evaluate(log) == Ok((old, new)),
+        Err(_) => false,
     }
-}
-
-// Whether indices and lengths out of range are refused.
-fn refuses_others(log: &TextLog) -> bool {
-    all(&[
-        log.proof_at(5, 5).is_err(),
-        log.proof_at(0, 26).is_err(),
-        log.growth_between(0, 9).is_err(),
-        log.growth_between(10, 9).is_err(),
-        log.growth_between(9, 26).is_err(),
-    ])
 }
 
 // Calls that test what others require: what is in range is the proof, and what isn't is refused.
 #[test]
-fn ranges_tested(rt: HostRuntime) -> Result<(), Fail> {
-    let log = texts(rt.alloc())?;
-    assert!(rt; gives_proof(&log, &hash_of(rt.alloc(), ROOTS[4])?));
-    assert!(rt; gives_growth(rt.alloc(), &log)?);
-    assert!(rt; refuses_others(&log));
-    Ok(())
-}
-
-// Whether both logs append a text as the same leaf.
-fn append_alike(
-    log: &mut TextLog,
-    stack: &mut TextStack,
-    text: &&'static str,
-) -> Result<bool, Fail> {
-    Ok(log.append(text)? == stack.append(text)?)
-}
-
-// Whether the texts are appended to both logs as the same leaves, up to this root.
-fn appends_alike(
-    log: &mut TextLog,
-    stack: &mut TextStack,
-    root: &Hash<Sha256>,
-) -> Result<bool, Fail> {
-    for text in &TEXTS {
-        if !append_alike(log, stack, text)? {
-            return Ok(false);
-        }
+fn ranges_tested(rt: HostRuntime) {
+    let log = texts(&rt);
+    assert!(rt; gives_proof(&log, &hash_of(&rt, ROOTS[4])));
+    assert!(rt; gives_growth(&log, hash_of(&rt, ROOTS[3]), hash_of(&rt, ROOTS[8])));
+    for (index, length) in [(5, 5), (0, 26)] {
+        assert!(rt; log.proof_at(index, length).is_err());
     }
-    Ok(all(&[
-        log.root() == *root,
-        log.checkpoint().root() == *root,
-        stack.checkpoint().root() == *root,
-    ]))
-}
-
-// An entry is appended as it is pushed.
-#[test]
-fn entries_appended(rt: HostRuntime) -> Result<(), Fail> {
-    let root = hash_of(rt.alloc(), ROOTS[24])?;
-    let mut log = TextLog::default(rt.alloc());
-    assert!(rt; appends_alike(&mut log, &mut TextStack::default(rt.alloc()), &root)?);
-    Ok(())
+    for (old, new) in [(0, 9), (10, 9), (9, 26)] {
+        assert!(rt; log.growth_between(old, new).is_err());
+    }
 }
 
 // Whether an entry is refused for want of memory, and the log is left as it was.
 fn is_left_empty<A: Allocator>(alloc: A) -> bool {
     let mut log: VecLog<Sum, &str, A> = VecLog::default(alloc);
     let refused = log.append(&"a") == Err(AppendError::Memory);
-    all(&[refused, log.length() == 0])
+    refused && log.length() == 0
 }
 
 #[test]

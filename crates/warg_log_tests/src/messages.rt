@@ -7,7 +7,6 @@ ghost use Rattle.warg_protobuf.specs.LogProofBundle.{log_view};
 use crate::digests::{L0, all, bytes_of};
 use refusing::Refusing;
 use std::alloc::Allocator;
-use std::test::Fail;
 use warg_protobuf::{
     DigestBytes, HashEntry, LogProofBundle, MapInclusionProof, MapProofBundle, StackLog, VecLog,
     WireError,
@@ -48,20 +47,23 @@ fn has_fields(bundle: &LogProofBundle) -> bool {
 }
 
 #[test]
-fn fields_of_a_log_bundle(rt: HostRuntime) -> Result<(), Fail> {
-    let bytes = bytes_of(rt.alloc(), "08ac02 12020102 1a0305ac02 2225 08ac02 1220 L0")?;
-    let bundle = LogProofBundle::decode(rt.alloc(), &bytes)?;
+fn fields_of_a_log_bundle(rt: HostRuntime) {
+    let bytes = bytes_of(&rt, "08ac02 12020102 1a0305ac02 2225 08ac02 1220 L0");
+    let bundle = LogProofBundle::decode(rt.alloc(), &bytes).expect(&rt, "a bundle");
     assert!(rt; has_fields(&bundle));
-    assert!(rt; written_and_read(rt.alloc(), &bundle)? == bundle);
-    assert!(rt; bundle != LogProofBundle::decode(rt.alloc(), &[8, 5])?);
-    Ok(())
+    let same = written_and_read(rt.alloc(), &bundle).expect(&rt, "the bundle");
+    let other = LogProofBundle::decode(rt.alloc(), &[8, 5]).expect(&rt, "another bundle");
+    assert!(rt; bundle == same && bundle != other);
 }
 
 // How many peers a proof has, and how many of them are there.
 fn counted(proof: Option<&MapInclusionProof>) -> Option<(usize, usize)> {
     let proof = proof?;
-    let held = proof.hashes.iter().filter(|peer| peer.hash.is_some());
-    Some((proof.hashes.len(), held.count()))
+    let mut held = 0usize;
+    for peer in &proof.hashes {
+        held = held.saturating_add(peer.hash.is_some() as usize);
+    }
+    Some((proof.hashes.len(), held))
 }
 
 fn has_peers(bundle: &MapProofBundle) -> bool {
@@ -74,39 +76,28 @@ fn has_peers(bundle: &MapProofBundle) -> bool {
 }
 
 #[test]
-fn fields_of_a_map_bundle(rt: HostRuntime) -> Result<(), Fail> {
-    let bytes = bytes_of(rt.alloc(), "0a26 0a00 0a22 0a20 L0 0a00 1204 0a020a00")?;
-    let bundle = MapProofBundle::decode(rt.alloc(), &bytes)?;
+fn fields_of_a_map_bundle(rt: HostRuntime) {
+    let bytes = bytes_of(&rt, "0a26 0a00 0a22 0a20 L0 0a00 1204 0a020a00");
+    let bundle = MapProofBundle::decode(rt.alloc(), &bytes).expect(&rt, "a bundle");
     assert!(rt; has_peers(&bundle));
-    assert!(rt; bundle == MapProofBundle::decode(rt.alloc(), &bytes)?);
-    assert!(rt; bundle != MapProofBundle::decode(rt.alloc(), &[10, 0])?);
-    Ok(())
+    let same = MapProofBundle::decode(rt.alloc(), &bytes).expect(&rt, "the bundle");
+    let other = MapProofBundle::decode(rt.alloc(), &[10, 0]).expect(&rt, "another bundle");
+    assert!(rt; bundle == same && bundle != other);
 }
 
 #[test]
-fn fields_of_a_stack_log(rt: HostRuntime) -> Result<(), Fail> {
-    let bytes = bytes_of(rt.alloc(), "0805 1224 0807 1220 L0 1200")?;
-    let log = StackLog::decode(rt.alloc(), &bytes)?;
-    assert!(rt;
-        all(&[
-            log.length == 5,
-            log.stack.len() == 2,
-            is_entry(log.stack.first(), 7)
-        ])
-    );
-    assert!(rt; log == StackLog::decode(rt.alloc(), &bytes)?);
-    Ok(())
-}
-
-#[test]
-fn fields_of_a_vec_log(rt: HostRuntime) -> Result<(), Fail> {
-    let bytes = bytes_of(rt.alloc(), "0803 12020102 1200")?;
-    let log = VecLog::decode(rt.alloc(), &bytes)?;
-    assert!(rt; all(&[log.length == 3, log.tree.len() == 2]));
-    let first = log.tree.first().map(|digest| digest.as_slice());
-    assert!(rt; first == Some([1, 2].as_slice()));
-    assert!(rt; log == VecLog::decode(rt.alloc(), &bytes)?);
-    Ok(())
+fn fields_of_logs(rt: HostRuntime) {
+    let bytes = bytes_of(&rt, "0805 1224 0807 1220 L0 1200");
+    let stack = StackLog::decode(rt.alloc(), &bytes).expect(&rt, "a log");
+    assert!(rt; stack.length == 5 && stack.stack.len() == 2);
+    assert!(rt; is_entry(stack.stack.first(), 7));
+    assert!(rt; StackLog::decode(rt.alloc(), &bytes) == Ok(stack));
+    let bytes = bytes_of(&rt, "0803 12020102 1200");
+    let log = VecLog::decode(rt.alloc(), &bytes).expect(&rt, "a log");
+    assert!(rt; log.length == 3 && log.tree.len() == 2);
+    let first = log.tree.first().expect(&rt, "a digest");
+    assert!(rt; first.as_slice() == [1, 2].as_slice());
+    assert!(rt; VecLog::decode(rt.alloc(), &bytes) == Ok(log));
 }
 
 // Whether 32 sevens are the digest of themselves, and of no other bytes.
@@ -144,11 +135,6 @@ fn are_truncated<A: Allocator + Copy>(alloc: A) -> bool {
 #[test]
 fn nothing_is_reserved_by_an_announced_length(rt: HostRuntime) {
     let none = Refusing::after(rt.alloc(), 0);
-    assert!(rt;
-        all(&[
-            is_announced(&none),
-            are_truncated(&none),
-            !none.has_refused()
-        ])
-    );
+    assert!(rt; is_announced(&none) && are_truncated(&none));
+    assert!(rt; !none.has_refused());
 }

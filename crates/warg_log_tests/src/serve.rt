@@ -1,9 +1,8 @@
 //! Checkpoints and logs as text, and proofs as bytes, with values from outside.
 
-use crate::digests::all;
 use refusing::Refusing;
-use std::alloc::{Allocator, Global};
-use std::test::Fail;
+use std::alloc::Allocator;
+use std::process::Abort;
 use warg_bundle::{ServeError, growth_bytes, inclusion_bytes};
 use warg_crypto::Sha256;
 use warg_log::{Checkpoint, LogBuilder, StackLog, VecLog, decimal_in, push_all};
@@ -22,98 +21,74 @@ const GROWTH: &str =
 
 type TextLog = VecLog<Sha256, &'static str>;
 
-fn four(alloc: Global) -> Result<TextLog, Fail> {
-    let mut log = VecLog::default(alloc);
-    push_all(&mut log, &ENTRIES)?;
-    Ok(log)
+fn four(rt: &(impl AllocGlobal + Abort)) -> TextLog {
+    let mut log = VecLog::default(rt.alloc());
+    push_all(&mut log, &ENTRIES).expect(rt, "memory");
+    log
 }
 
-// The checkpoint of its text with capital digits.
-fn in_capitals(alloc: Global) -> Result<Checkpoint<Sha256>, Fail> {
-    let digits = TEXT[2..].to_ascii_uppercase(alloc)?;
-    Ok(format!(in alloc; "4 {digits}")?.parse::<Checkpoint<Sha256>>()?)
+// The checkpoint that a text is, if it's one.
+fn checkpoint_of(text: &str) -> Option<Checkpoint<Sha256>> {
+    text.parse::<Checkpoint<Sha256>>().ok()
 }
 
 #[test]
-fn checkpoint_text(rt: HostRuntime) -> Result<(), Fail> {
-    let checkpoint = four(rt.alloc())?.checkpoint();
-    let text = format!(in rt.alloc(); "{checkpoint}")?;
+fn checkpoint_text(rt: HostRuntime) {
+    let checkpoint = four(&rt).checkpoint();
+    let text = format!(in rt.alloc(); "{checkpoint}").expect(&rt, "memory");
     assert!(rt; text.as_str() == TEXT);
-    assert!(rt; TEXT.parse::<Checkpoint<Sha256>>()? == checkpoint);
-    assert!(rt; in_capitals(rt.alloc())? == checkpoint);
-    Ok(())
+    let digits = TEXT[2..]
+        .to_ascii_uppercase(rt.alloc())
+        .expect(&rt, "memory");
+    let capitals = format!(in rt.alloc(); "4 {digits}").expect(&rt, "memory");
+    assert!(rt; checkpoint_of(capitals.as_str()) == checkpoint_of(TEXT));
+    assert!(rt; checkpoint_of(TEXT) == Some(checkpoint));
 }
 
-// What stands before a root in texts that are no checkpoints.
-static FRONTS: [&str; 8] = [
-    "",
-    " ",
-    "4",
-    "+4 ",
-    "04 ",
-    "4  ",
-    "4x ",
-    "18446744073709551616 ",
+// What stands before and behind a root in texts that are no checkpoints.
+static OTHERS: [(&str, &str); 11] = [
+    ("", ""),
+    (" ", ""),
+    ("4", ""),
+    ("+4 ", ""),
+    ("04 ", ""),
+    ("4  ", ""),
+    ("4x ", ""),
+    ("18446744073709551616 ", ""),
+    ("4 ", " "),
+    ("4 ", "0"),
+    ("4 ", "\n"),
 ];
 
-static ENDS: [&str; 3] = [" ", "0", "\n"];
-
-// The length of the checkpoint that a text is, if it's one.
-fn length_of(alloc: Global, front: &str, end: &str) -> Result<Option<usize>, Fail> {
+// The length of the checkpoint that a text round a root is, if it's one.
+fn length_of(rt: &(impl AllocGlobal + Abort), front: &str, end: &str) -> Option<usize> {
     let root = &TEXT[2..];
-    let text = format!(in alloc; "{front}{root}{end}")?;
-    match text.parse::<Checkpoint<Sha256>>() {
-        Ok(checkpoint) => Ok(Some(checkpoint.length())),
-        Err(_) => Ok(None),
-    }
+    let text = format!(in rt.alloc(); "{front}{root}{end}").expect(rt, "memory");
+    Some(checkpoint_of(text.as_str())?.length())
 }
 
 #[test]
-fn other_texts_are_no_checkpoints(rt: HostRuntime) -> Result<(), Fail> {
-    for front in &FRONTS {
-        assert!(rt; length_of(rt.alloc(), front, "")?.is_none());
+fn other_texts_are_no_checkpoints(rt: HostRuntime) {
+    for (front, end) in &OTHERS {
+        assert!(rt; length_of(&rt, front, end).is_none());
     }
-    for end in &ENDS {
-        assert!(rt; length_of(rt.alloc(), "4 ", end)?.is_none());
-    }
-    let greatest = length_of(rt.alloc(), "18446744073709551615 ", "")?;
-    assert!(rt; all(&[greatest == Some(usize::MAX), decimal_in("0") == Some(0)]));
-    Ok(())
+    assert!(rt; length_of(&rt, "18446744073709551615 ", "") == Some(usize::MAX));
+    assert!(rt; decimal_in("0") == Some(0));
 }
 
 #[test]
-fn debug_of_logs(rt: HostRuntime) -> Result<(), Fail> {
-    let log = four(rt.alloc())?;
+fn debug_of_logs(rt: HostRuntime) {
+    let log = four(&rt);
     let mut stack = StackLog::<Sha256, &'static str>::default(rt.alloc());
-    push_all(&mut stack, &ENTRIES)?;
-    let text = format!(in rt.alloc(); "{log:?} {stack:?}")?;
-    let want = format!(in rt.alloc(); "VecLog({TEXT}) StackLog({TEXT})")?;
+    push_all(&mut stack, &ENTRIES).expect(&rt, "memory");
+    let text = format!(in rt.alloc(); "{log:?} {stack:?}").expect(&rt, "memory");
+    let want = format!(in rt.alloc(); "VecLog({TEXT}) StackLog({TEXT})").expect(&rt, "memory");
     assert!(rt; text == want);
-    Ok(())
-}
-
-// Whether bytes are spelled by these digits.
-fn are_spelled<A: Allocator>(
-    alloc: Global,
-    bytes: &Vec<u8, A>,
-    digits: &str,
-) -> Result<bool, Fail> {
-    Ok(hex::encode(alloc, bytes.as_slice())?.as_str() == digits)
 }
 
 #[test]
-fn proofs_as_bytes(rt: HostRuntime) -> Result<(), Fail> {
-    let log = four(rt.alloc())?;
-    let inclusion = inclusion_bytes(rt.alloc(), &log, 1, 4)?;
-    assert!(rt; are_spelled(rt.alloc(), &inclusion, INCLUSION)?);
-    let growth = growth_bytes(rt.alloc(), &log, 2, 4)?;
-    assert!(rt; are_spelled(rt.alloc(), &growth, GROWTH)?);
-    Ok(())
-}
-
-#[test]
-fn proofs_out_of_range(rt: HostRuntime) -> Result<(), Fail> {
-    let log = four(rt.alloc())?;
+fn proofs_out_of_range(rt: HostRuntime) {
+    let log = four(&rt);
     for (index, length) in [(4, 4), (0, 0), (0, 5), (7, 3)] {
         let refused = inclusion_bytes(rt.alloc(), &log, index, length);
         assert!(rt; refused == Err(ServeError::OutOfRange));
@@ -122,52 +97,45 @@ fn proofs_out_of_range(rt: HostRuntime) -> Result<(), Fail> {
         let refused = growth_bytes(rt.alloc(), &log, old, new);
         assert!(rt; refused == Err(ServeError::OutOfRange));
     }
-    Ok(())
 }
 
-// The bytes of both proofs.
-fn both<A: Allocator + Copy>(
-    alloc: A,
-    log: &TextLog,
-) -> Result<(Vec<u8, A>, Vec<u8, A>), ServeError> {
-    let inclusion = inclusion_bytes(alloc, log, 1, 4);
-    let growth = growth_bytes(alloc, log, 2, 4)?;
-    Ok((inclusion?, growth))
-}
-
-// Whether both calls lack memory. Else they give the bytes of both proofs.
-fn lack_memory<A: Allocator + Copy>(alloc: Global, memory: A, log: &TextLog) -> Result<bool, Fail> {
-    match both(memory, log) {
-        Ok((inclusion, growth)) => {
-            let right = are_spelled(alloc, &inclusion, INCLUSION)?;
-            if right && are_spelled(alloc, &growth, GROWTH)? {
-                return Ok(false);
-            }
-            Err("other bytes")?
+// Whether bytes are spelled by these digits, or else memory lacks.
+fn are_spelled<A: Allocator>(
+    rt: &(impl AllocGlobal + Abort),
+    bytes: &Result<Vec<u8, A>, ServeError>,
+    digits: &str,
+) -> bool {
+    match bytes {
+        Ok(bytes) => {
+            let found = hex::encode(rt.alloc(), bytes.as_slice()).expect(rt, "memory");
+            assert!(rt; found.as_str() == digits);
+            true
         }
-        Err(ServeError::Memory) => Ok(true),
-        Err(_) => Err("refused for another reason")?,
+        Err(fault) => {
+            assert!(rt; *fault == ServeError::Memory);
+            false
+        }
     }
 }
 
-// Whether so many growths are refused for want of memory, or give the bytes of both proofs; and which of the two.
-fn is_refused(alloc: Global, log: &TextLog, growths: u64) -> Result<bool, Fail> {
-    let memory = Refusing::after(alloc, growths);
-    let lacks = lack_memory(alloc, &memory, log)?;
-    if lacks != memory.has_refused() {
-        return Err(Fail::from("refused, or not, for another reason"));
-    }
-    Ok(lacks)
+// Whether both proofs are written as they should with so many growths. Else one is refused, for want of memory.
+fn are_written(rt: &(impl AllocGlobal + Abort), log: &TextLog, growths: u64) -> bool {
+    let memory = Refusing::after(rt.alloc(), growths);
+    let inclusion = are_spelled(rt, &inclusion_bytes(&memory, log, 1, 4), INCLUSION);
+    let growth = are_spelled(rt, &growth_bytes(&memory, log, 2, 4), GROWTH);
+    let are_both = inclusion && growth;
+    assert!(rt; are_both != memory.has_refused());
+    are_both
 }
 
 // Each growth of both calls is refused in turn, until none is.
 #[test]
-fn bytes_with_each_growth_refused(rt: HostRuntime) -> Result<(), Fail> {
-    let log = four(rt.alloc())?;
+fn proofs_as_bytes_with_each_growth_refused(rt: HostRuntime) {
+    let log = four(&rt);
     for growths in 0..60 {
-        if !is_refused(rt.alloc(), &log, growths)? {
-            return Ok(());
+        if are_written(&rt, &log, growths) {
+            return;
         }
     }
-    Err("all growths were refused")?
+    panic!(rt; "all growths were refused");
 }
