@@ -27,7 +27,7 @@ use Rattle.warg_witness.specs.declared.collision.Finding.{Finding}
 use Rattle.warg_witness.specs.declared.collision.Finding.TheVariants.{Holds, NotMet, Collision}
 use Rattle.warg_witness.proofs.InsertionLemmas.{last_with-is, value_of_digest, pair_at, length-pair_bytes}
 use Rattle.warg_witness.proofs.KeyLemmas.{own_root}
-use Rattle.warg_witness.proofs.KeyPremiseLemmas.{own_input}
+use Rattle.warg_witness.proofs.MapPremiseLemmas.{own_input}
 use Rattle.warg_witness.proofs.MapLawLemmas.{agree, is_key}
 
 -- an insertion's key, by its place

@@ -30,7 +30,7 @@ use Rattle.warg_witness.proofs.CutLemmas.{cut_around}
 use Rattle.warg_witness.proofs.GrowthLemmas.{front_turn, rest_turn, same_front, front_some, subproof_is}
 use Rattle.warg_witness.proofs.RangeLemmas.{Digest, Data, full_node, full_or_not, more_than_one, node_bounds, node_some, part_in, rest_aligned, whole_aligned}
 use Rattle.warg_witness.proofs.RecordLemmas.{turned}
-use Rattle.warg_witness.proofs.TreeLawLemmas.{tree_collides}
+use Rattle.warg_witness.proofs.PathLawLemmas.{tree_collides}
 
 -- The last balanced root of a range: all of its leaves, where they are a power of two, else that of the rest.
 data IsLastRoot (root : Range) : Range → Type 0 where

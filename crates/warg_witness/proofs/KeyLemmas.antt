@@ -1,14 +1,14 @@
 -- Two evaluations along one key's bits, the plain sparse tree beside them, and what they show of a key.
-use Rattle.std.proofs.Common.{◌≡◌, ℕ, Bool, List, [], ◌∷◌, ◌++◌, ◌⊎◌, length, map, Option, refl, sym, ap, ◌∙◌, arith, true, false, cond, Some, None, unwrap_or, inl, inr}
+use Rattle.std.proofs.Common.{◌≡◌, ℕ, Bool, List, [], ◌∷◌, ◌++◌, length, Option, refl, sym, ap, ◌∙◌, arith, true, false, cond, Some, None, unwrap_or, inl, inr}
 use Rattle.warg_crypto.specs.EmptyTrees.{empty_root}
 use Rattle.warg_map.specs.ProofValue.{peer_of, proof_value}
 use Rattle.warg_crypto.specs.Tree.{input_beside, leaf_digest}
 use Rattle.warg_crypto.specs.Bytes.{same_bytes}
 use Rattle.std.specs.Option.{MatchOption, option_map, IfSome}
-use Rattle.warg_witness.specs.MapInputs.{fork_input}
-use Rattle.warg_witness.specs.Private.MapMeeting.{MeetsOnPath, IsAlike, IsKeyMeeting, key_inputs}
-use Rattle.warg_witness.specs.Private.Turns.{Turn, climbed, AreTaken, IsTurnDivergence, IsClimb, bit_turns, IsUp}
-use Rattle.warg_witness.proofs.ClimbLemmas.{turn_up, parts_placed, shown}
+use Rattle.warg_crypto.proofs.ForCallers.{HasSize}
+use Rattle.warg_witness.specs.Private.MapMeeting.{OnBits, IsBitDivergence, IsBitClimb, MeetsOnPath, IsAlike, IsKeyMeeting, key_inputs}
+use Rattle.warg_witness.specs.Private.Turns.{IsUp}
+use Rattle.warg_witness.proofs.ClimbLemmas.{parts_placed, shown, up_parts, up_somewhere, up_sizes}
 use Rattle.warg_witness.specs.declared.divergence.Climb.{Climb}
 use Rattle.warg_witness.specs.declared.divergence.Divergence.{Divergence}
 use Rattle.warg_witness.specs.declared.divergence.Divergence.TheVariants.{Target, Branch}
@@ -24,69 +24,60 @@ use Rattle.warg_witness.specs.MapClaims.{value_in, IsLastValue}
 use Rattle.warg_map.specs.Bits.{key_bits}
 use Rattle.warg_witness.specs.MapPlaced.{IsPlacedAtPrefix, IsKeyPlaced, IsKeyAgreementPlaced}
 use Rattle.warg_crypto.specs.Collisions.{GivesHashes}
-use Rattle.warg_witness.specs.Private.Divergence.{Parts, Shows, inputs_of}
+use Rattle.warg_witness.specs.Private.Divergence.{Parts, Shows, inputs_of, at_bottom}
 use Rattle.warg_witness.proofs.InsertionLemmas.{last_with-is, last_of_digest}
 
-module _ (H : List ℕ → List ℕ) where
-  -- a proof's turns lead to its value
-  pub bit_leads : (P : List (Option (List ℕ))) (x : List ℕ) (bits : List Bool) → climbed H x (bit_turns H P bits)
-      ≡ proof_value H P x bits
+module _ (H : List ℕ → List ℕ) (P : List (Option (List ℕ))) (x : List ℕ) (Q : List (Option (List ℕ))) (y : List ℕ) where
+  -- both evaluations at the leaf, one bit up, and where both come to one value, they meet
+  pub bits_start : {D : Type 0} {climb : Climb D} → climb ≡ at_bottom x y → IsBitClimb H P x Q y [] climb
   unfolding proof_value
-  bit_leads P x [] = refl
-  bit_leads P x (b ∷ bits) = ap (λ v. H (input_beside b (peer_of H P (length bits)) v)) (bit_leads P x bits)
+  bits_start bottom = rw bottom
+      (record { first_is = refl; second_is = refl; diverges = λ same. (same, λ leaf. refl) })
 
-  pub bit_sides : (P Q : List (Option (List ℕ))) (bits : List Bool) → map (λ (t : Turn). t.right) (bit_turns H P bits)
-      ≡ map (λ (t : Turn). t.right) (bit_turns H Q bits)
-  bit_sides P Q [] = refl
-  bit_sides P Q (b ∷ bits) = ap (λ sides. b ∷ sides) (bit_sides P Q bits)
+  pub bit_up : {D : Type 0} {b : Bool} (bits : List Bool) {u v : List ℕ} {before after : Climb D}
+      → peer_of H P (length bits) ≡ u → peer_of H Q (length bits) ≡ v
+      → IsBitClimb H P x Q y bits before → IsUp H b before u v after → IsBitClimb H P x Q y (b ∷ bits) after
+  unfolding proof_value
+  bit_up {b = b} bits {before = before} at other_at climb step =
+      let up = rw (← at, ← other_at) at step in
+      let first = ap (λ d. input_beside b (peer_of H P (length bits)) d) climb.first_is in
+      let second = ap (λ d. input_beside b (peer_of H Q (length bits)) d) climb.second_is in record {
+        first_is = up.first_is ∙ ap H first;
+        second_is = up.second_is ∙ ap H second;
+        diverges = up_parts (OnBits H P x Q y (b ∷ bits))
+            ((x ≡ y) × ((leaf : List ℕ) → proof_value H P leaf (b ∷ bits) ≡ proof_value H Q leaf (b ∷ bits))) up
+            (λ same beside. parts_placed H before.divergence
+            (λ _ _ on. record {
+              above = b ∷ on.above;
+              bit = on.bit;
+              below = on.below;
+              split = ap (λ q. b ∷ q) on.split;
+              first_is = on.first_is;
+              second_is = on.second_is;
+            })
+            (λ one. (
+              one.0,
+              λ leaf. ap (λ w. H (input_beside b w (proof_value H P leaf bits))) beside
+                  ∙ ap (λ d. H (input_beside b (peer_of H Q (length bits)) d)) (one.1 leaf),
+            )) (climb.diverges same))
+            (record { above = []; bit = b; below = bits; split = refl; first_is = first; second_is = second });
+      }
 
-  -- proofs of the same turns lead to one value from any leaf
-  pub one_value : (P Q : List (Option (List ℕ))) (bits : List Bool) → bit_turns H P bits ≡ bit_turns H Q bits
-      → (leaf : List ℕ) → proof_value H P leaf bits ≡ proof_value H Q leaf bits
-  one_value P Q bits one leaf = sym (bit_leads P leaf bits) ∙ ap (λ ts. climbed H leaf ts) one ∙ bit_leads Q leaf bits
+  pub bits_climbed : {D : Type 0} → HasSize H → length x ≡ length y → (bits : List Bool)
+      → (climb : Climb D) × IsBitClimb H P x Q y bits climb × (length climb.first ≡ length climb.second)
+  bits_climbed gives size [] = (at_bottom x y, bits_start refl, size)
+  bits_climbed gives size (b ∷ bits) =
+      let below = bits_climbed gives size bits in
+      let step = up_somewhere {H = H} b below.0 (peer_of H P (length bits)) (peer_of H Q (length bits)) below.2 in
+      (step.0, bit_up bits refl refl below.1 step.1, up_sizes gives step.1)
 
-  -- The inputs of two evaluations where these bits are left, with one prefix above them.
-  abbrev pub OnBits : List (Option (List ℕ)) → List ℕ → List (Option (List ℕ)) → List ℕ → List Bool → List ℕ → List ℕ
-      → Type 0
-  OnBits P x Q y bits first second =
-      (above : List Bool) × (bit : Bool) × (below : List Bool) × (bits ≡ above ++ bit ∷ below)
-      × (first ≡ fork_input H P x bit below) × (second ≡ fork_input H Q y bit below)
-
-  module _ (P : List (Option (List ℕ))) (x : List ℕ) (Q : List (Option (List ℕ))) (y : List ℕ) where
-    -- what two proofs take at a turn stands there
-    pub on_bits : (bits : List Bool) (first second : List ℕ)
-        → AreTaken H x (bit_turns H P bits) y (bit_turns H Q bits) first second → OnBits P x Q y bits first second
-    on_bits [] first second none = elim none [ ]
-    on_bits (b ∷ bits) first second (inl here) = (
-      [],
-      b,
-      bits,
-      refl,
-      here.0 ∙ ap (λ v. input_beside b (peer_of H P (length bits)) v) (bit_leads P x bits),
-      here.1
-          ∙ ap (λ v. input_beside b (peer_of H Q (length bits)) v) (bit_leads Q y bits),
-    )
-    on_bits (b ∷ bits) first second (inr below) = let (above, bit, left, split, first_is, second_is) =
-        on_bits bits first second below in (b ∷ above, bit, left, ap (λ q. b ∷ q) split, first_is, second_is)
-
-    -- one bit up, and where both come to one value, they meet
-    pub bit_up : {D : Type 0} {b : Bool} (bits : List Bool) {u v : List ℕ} {before after : Climb D}
-        → peer_of H P (length bits) ≡ u → peer_of H Q (length bits) ≡ v
-        → IsClimb H x (bit_turns H P bits) y (bit_turns H Q bits) before → IsUp H b before u v after
-        → IsClimb H x (bit_turns H P (b ∷ bits)) y (bit_turns H Q (b ∷ bits)) after
-    bit_up bits at at' climb up = turn_up climb (rw (← at, ← at') at up)
-
-    pub keys_met : {D : Type 0} (bits : List Bool) {top : Climb D}
-        → IsClimb H x (bit_turns H P bits) y (bit_turns H Q bits) top → (met : Option (Divergence D))
-        → MatchOption met (¬ (top.first ≡ top.second)) (λ q. (top.first ≡ top.second) × (q ≡ top.divergence))
-        → MatchOption met (proof_value H P x bits ≡ proof_value H Q y bits → ⊥) (MeetsOnPath H P x Q y bits)
-    keys_met bits climb None apart = λ same. apart (climb.first_is ∙ bit_leads P x bits ∙ same
-        ∙ sym (climb.second_is ∙ bit_leads Q y bits))
-    keys_met bits climb (Some q) is =
-        rw is.1 (record {
-          met = sym (climb.first_is ∙ bit_leads P x bits) ∙ is.0 ∙ climb.second_is ∙ bit_leads Q y bits;
-          diverges = climb.diverges is.0;
-        })
+  pub keys_met : {D : Type 0} (bits : List Bool) {top : Climb D}
+      → IsBitClimb H P x Q y bits top → (met : Option (Divergence D))
+      → MatchOption met (¬ (top.first ≡ top.second)) (λ q. (top.first ≡ top.second) × (q ≡ top.divergence))
+      → MatchOption met (proof_value H P x bits ≡ proof_value H Q y bits → ⊥) (MeetsOnPath H P x Q y bits)
+  keys_met bits climb None apart = λ same. apart (climb.first_is ∙ same ∙ sym climb.second_is)
+  keys_met bits climb (Some q) is = rw is.1
+      (record { met = sym climb.first_is ∙ is.0 ∙ climb.second_is; diverges = climb.diverges is.0 })
 
 leaf_is : (H : List ℕ → List ℕ) (o : Option (List ℕ × List ℕ)) → leaf_digest H (value_in o)
     ≡ unwrap_or (option_map (λ e. leaf_digest H e.1) o) (empty_root H 0)
@@ -125,13 +116,13 @@ module _ (H : List ℕ → List ℕ) (insertions : List (List ℕ × List ℕ)) 
 
     placed_on : (peers : List (Option (List ℕ))) (value l r : List ℕ) → OnBits H peers (leaf_digest H value) own
         (leaf_digest H (value_in last)) (key_bits H key) l r → IsPlacedAtPrefix H peers value key insertions l r
-    placed_on peers value l r (above, bit, below, split, first_is, second_is) = record {
-      prefix = above;
-      rest = bit ∷ below;
-      bits = split;
-      evaluation = first_is;
-      plain = second_is ∙ rw (← last_is, plain_leaf_is H insertions (key_bits H key), split)
-          (beside_input H (map_of H insertions) above below bit own (rw split at beside));
+    placed_on peers value l r on = record {
+      prefix = on.above;
+      rest = on.bit ∷ on.below;
+      bits = on.split;
+      evaluation = on.first_is;
+      plain = on.second_is ∙ rw (← last_is, plain_leaf_is H insertions (key_bits H key), on.split)
+          (beside_input H (map_of H insertions) on.above on.below on.bit own (rw on.split at beside));
     }
 
     -- and where an evaluation meets it, it meets the plain tree
@@ -140,12 +131,10 @@ module _ (H : List ℕ → List ℕ) (insertions : List (List ℕ × List ℕ)) 
         → IsKeyMeeting H peers key value insertions p own
     own_met peers value p meets = record {
       met = meets.met ∙ own_root;
-      diverges = parts_placed H p
-          (λ l r taken. placed_on peers value l r (on_bits H peers _ own _ (key_bits H key) l r taken))
+      diverges = parts_placed H p (placed_on peers value)
           (λ one. record {
             same = rw last_is one.0;
-            updates = λ new. one_value H peers own (key_bits H key) one.1
-                (leaf_digest H new) ∙ own_grown_root new;
+            updates = λ new. one.1 (leaf_digest H new) ∙ own_grown_root new;
           }) meets.diverges;
       beside = beside;
     }
@@ -153,36 +142,26 @@ module _ (H : List ℕ → List ℕ) (insertions : List (List ℕ × List ℕ)) 
 -- two proofs of a key with other values: what both take at a turn, or at the leaf
 module _ (H : List ℕ → List ℕ) (key : List ℕ) (P : List (Option (List ℕ))) (v : List ℕ) (Q : List (Option (List ℕ)))
     (u : List ℕ) where
-  pub key_agreement_placed : (first second : List ℕ) → AreTaken H (H (0 ∷ v)) (bit_turns H P (key_bits H key))
-      (H (0 ∷ u)) (bit_turns H Q (key_bits H key)) first second ⊎ ((first ≡ 0 ∷ v) × (second ≡ 0 ∷ u))
-      → IsKeyAgreementPlaced H key (P, v) (Q, u) first second
-  key_agreement_placed first second (inl taken) = let (above, bit, below, split, first_is, second_is) =
-      on_bits H P _ Q _ (key_bits H key) first second taken in
-      record {
-        prefix = above;
-        rest = bit ∷ below;
-        bits = split;
-        first_evaluation = first_is;
-        second_evaluation = second_is;
-      }
-  key_agreement_placed first second (inr leaf) =
-      record {
-        prefix = key_bits H key;
-        rest = [];
-        bits = sym (append-nil (key_bits H key));
-        first_evaluation = leaf.0;
-        second_evaluation = leaf.1;
-      }
-
   pub key_agreement_shown : {D : Type 0} (p : Divergence D)
-      → IsTurnDivergence H (H (0 ∷ v)) (bit_turns H P (key_bits H key)) (H (0 ∷ u)) (bit_turns H Q (key_bits H key)) p
+      → IsBitDivergence H P (H (0 ∷ v)) Q (H (0 ∷ u)) (key_bits H key) p
       → (v ≡ u → ⊥) → Shows H (IsKeyAgreementPlaced H key (P, v) (Q, u)) (inputs_of p (0 ∷ v) (0 ∷ u))
-  key_agreement_shown p diverges other = shown p (λ first second taken. key_agreement_placed first second (inl taken)) _
-      _
+  key_agreement_shown p diverges other = shown p
+      (λ first second on. record {
+        prefix = on.above;
+        rest = on.bit ∷ on.below;
+        bits = on.split;
+        first_evaluation = on.first_is;
+        second_evaluation = on.second_is;
+      }) _ _
       (λ one. record {
         collides = record { differ = λ e. other (cc); same = one.0 };
-        placed = key_agreement_placed _ _
-            (inr (refl, refl));
+        placed = record {
+          prefix = key_bits H key;
+          rest = [];
+          bits = sym (append-nil (key_bits H key));
+          first_evaluation = refl;
+          second_evaluation = refl;
+        };
       }) diverges
 
 module _ (H : List ℕ → List ℕ) (peers : List (Option (List ℕ))) (key value : List ℕ)

@@ -11,7 +11,7 @@ use Rattle.warg_witness.specs.Private.Divergence.{IsNodeRange, side_of, at_botto
 use Rattle.warg_witness.specs.declared.divergence.Climb.{Climb}
 use Rattle.warg_witness.specs.declared.divergence.Divergence.{Divergence}
 use Rattle.warg_witness.proofs.RangeLemmas.{Digest, node_range, Data, node_some, same_or_above, side_around, whole_aligned}
-use Rattle.warg_witness.proofs.ClimbLemmas.{shown, up_somewhere, two_ways}
+use Rattle.warg_witness.proofs.ClimbLemmas.{shown, up_somewhere, up_sizes}
 use Rattle.warg_witness.proofs.CutLemmas.{ranges_start, sides_there, ranges_up, leaves_count, have_root, plain_digest_is}
 use Rattle.warg_log.specs.Nodes.{height_of, start_of}
 use Rattle.warg_witness.specs.Placed.{IsValuePlaced, IsHashPlaced, IsAgreementPlaced}
@@ -29,11 +29,10 @@ use Rattle.warg_map.specs.Peers.{Proves, ProvesAbsent, IsPeers, IsBeside}
 use Rattle.warg_map.specs.Last.{last_under}
 use Rattle.warg_witness.specs.MapClaims.{IsKeyAgreement, IsLastValue, IsKeyMet, IsAbsenceMet}
 use Rattle.warg_witness.specs.MapPlaced.{IsKeyPlaced, IsKeyAgreementPlaced, IsPlacedAtPrefix}
-use Rattle.warg_witness.specs.Private.Turns.{bit_turns}
 use Rattle.warg_witness.specs.Private.MapMeeting.{IsAlike}
 use Rattle.warg_map.specs.ProofValue.{proof_value}
 use Rattle.warg_witness.specs.MapInputs.{fork_input}
-use Rattle.warg_witness.proofs.KeyLemmas.{bit_leads, bit_sides, key_agreement_placed, plain_leaf_is, own_grown_root, key_shown, inserted_push}
+use Rattle.warg_witness.proofs.KeyLemmas.{bits_climbed, key_agreement_shown, plain_leaf_is, own_grown_root, key_shown, inserted_push}
 use Rattle.warg_map.proofs.ForCallers.{all_bits, last_held, root_at_prefix, replaced_root, absent_root, absent_replaced_root}
 use Rattle.std.proofs.lemmas.List.{append-nil, map-append, length-reverse}
 use Rattle.warg_witness.specs.UpdateClaims.{IsUpdated, Step, insertions_of, LeadThrough, CollidesAtStep}
@@ -75,7 +74,7 @@ module _ (H : Digest) (F : Data) (x : List ℕ) (G : Data) (y : List ℕ) (targe
         let step = up_somewhere {H = H} right below.0 first.1 second.1 below.2 in (
           step.0,
           ranges_up H F x G y target range node over right below.1 first.3 second.3 step.1,
-          ap length step.1.first_is ∙ gives _ ∙ sym (ap length step.1.second_is ∙ gives _),
+          up_sizes gives step.1,
         )
   ]
 
@@ -139,10 +138,10 @@ module _ (H : Digest) where
       shown_collides _ (shown at (value_placed H F entries _ refl p.leaf.0 value) _ _
       (value_meets H F entries _ refl p.leaf.0 value (λ is. untrue (entry_from p.leaf.0 is))) diverges)
 
-  pub hash_collides : (F : Data) (p : InclusionClaim) (hash : List ℕ) (entries : List (List ℕ)) → GivesHashes H
-      → length hash ≡ 32 → IsMet H F p hash entries
+  pub hash_collides : (F : Data) (p : InclusionClaim) (hash : List ℕ) (entries : List (List ℕ)) → length hash ≡ 32
+      → GivesHashes H → IsMet H F p hash entries
       → ¬ (IsRootBelow H hash p.leaf.0 entries) → SomeCollision H (IsHashPlaced H F hash p.leaf.0 entries)
-  hash_collides F p hash entries digests size met untrue =
+  hash_collides F p hash entries size digests met untrue =
       let leads = leads_to met in
       let (at, diverges) = from_tree F hash entries (range_of p.leaf.0) (sizes digests) size (node_range p.leaf.0)
       leads.0 leads.1 in
@@ -187,22 +186,10 @@ pub key_agreement_collides : (H : List ℕ → List ℕ) (key : List ℕ) (P : L
     (Q : List (Option (List ℕ))) (u : List ℕ) → GivesHashes H
     → IsKeyAgreement H key P v Q u → (v ≡ u → ⊥) → SomeCollision H (IsKeyAgreementPlaced H key (P, v) (Q, u))
 key_agreement_collides H key P v Q u digests met other =
-    let bits = key_bits H key in
-    elim (two_ways H (sizes digests) (H (0 ∷ v)) (H (0 ∷ u)) (sizes digests _) (sizes digests _) (bit_turns H P bits)
-    (bit_turns H Q bits) (bit_sides H P Q bits) (bit_leads H P _ bits ∙ met ∙ sym (bit_leads H Q _ bits))) [
-      | inl one ↦ record {
-        first = 0 ∷ v;
-        second = 0 ∷ u;
-        collide = record { differ = λ e. other (cc); same = one.0 };
-        placed = key_agreement_placed H key P v Q u _ _ (inr (refl, refl));
-      }
-      | inr c ↦ record {
-        first = c.first;
-        second = c.second;
-        collide = c.collide;
-        placed = key_agreement_placed H key P v Q u c.first c.second (inl c.placed);
-      }
-    ]
+    let (climb, up, _) = bits_climbed H P (H (0 ∷ v)) Q (H (0 ∷ u)) {D = Unit {0}} (sizes digests)
+    (sizes digests _ ∙ sym (sizes digests _)) (key_bits H key) in
+    shown_collides _ (key_agreement_shown H key P v Q u climb.divergence
+    (up.diverges (up.first_is ∙ met ∙ sym up.second_is)) other)
 
 -- a branch has the digests of both sides, on either side of a bit
 sides_same : (f : Bool → List ℕ) (b : Bool) (peer value : List ℕ) → ((c : Bool) → length (f c) ≡ 32) → length value ≡ 32

@@ -10,11 +10,9 @@ pub mod RangeLemmas
 pub mod KeyLemmas
 pub mod AgreementLemmas
 pub mod PathLawLemmas
-pub mod TreeLawLemmas
 pub mod HeldLemmas
 pub mod MapLawLemmas
 pub mod ForCallers
 pub mod PremiseLemmas
-pub mod KeyPremiseLemmas
 pub mod MapPremiseLemmas
 pub mod ChangeLemmas

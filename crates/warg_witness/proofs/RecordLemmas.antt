@@ -1,27 +1,28 @@
 -- Where paths lead, turn by turn, two evaluations along paths of one place, and a tree's own path.
-use Rattle.std.proofs.Common.{◌≡◌, ◌⊎◌, inl, inr, ℕ, zero, suc, ◌+◌, ◌-◌, ◌==◌, ◌<◌, ◌≤◌, List, [], ◌∷◌, ◌++◌, length, map, reverse, get_or, Option, Some, None, if◌then◌else◌, refl, sym, ap, ◌∙◌, arith}
+use Rattle.std.proofs.Common.{◌≡◌, inl, inr, ℕ, zero, suc, ◌+◌, ◌-◌, ◌==◌, ◌<◌, ◌≤◌, List, [], ◌∷◌, ◌++◌, length, reverse, get_or, Option, Some, None, if◌then◌else◌, refl, sym, ap, ◌∙◌, arith}
 use Rattle.std.specs.Option.{MatchOption}
 use Rattle.std.proofs.lemmas.Bool.Decides.{nat_tests}
 use Rattle.std.proofs.lemmas.Bool.{cases_lt, cases_Bool, lt-leb, le-leb, lt-ltb, le-ltb, eqb-true}
 use Rattle.std.proofs.lemmas.List.{reverse-append}
 use Rattle.std.proofs.Math.Seq.{take-length}
-use Rattle.warg_crypto.specs.Tree.{branch_input, input_beside, leaf_input}
+use Rattle.warg_crypto.specs.Tree.{branch_input, input_beside}
+use Rattle.warg_crypto.proofs.ForCallers.{HasSize}
 use Rattle.warg_log.specs.Cut.{joined, old_over}
 use Rattle.warg_log.specs.Ranges.{Range, leaves_from, front_part, rest_part, IsAligned}
 use Rattle.warg_log.specs.Tree.{front_of, leaves_of, root_of, root_over, own_digest}
 use Rattle.warg_log.proofs.ForCallers.{root_over_parts, front_is_greatest, old_own_range}
 use Rattle.warg_paths.specs.Paths.{inclusion_of, inclusion_root, root_down, beside, path_within}
-use Rattle.warg_paths.specs.Ways.{IsOnWay, turn_input}
+use Rattle.warg_paths.specs.Ways.{IsOnWay, turn_input, ArePathInputs}
 use Rattle.warg_paths.specs.Ways.IsOnWay.{whole, front, rest}
 use Rattle.warg_paths.proofs.ForCallers.{root_one}
 use Rattle.warg_witness.specs.Inputs.{plain_input}
-use Rattle.warg_witness.specs.PathClaims.{IsRecord}
+use Rattle.warg_witness.specs.PathClaims.{IsRecordMet, IsRecordAgreement}
 use Rattle.warg_witness.specs.PathPlaced.{record_input, IsRecordAgreementPlaced, IsRecordPlaced}
-use Rattle.warg_witness.specs.Private.Turns.{IsUp, Turn, climbed, is_right, leaf_in, count_in, path_turns, AreTaken, LeadNowhere, IsPathClimb, NeverMeet, IsPathsMeeting}
-use Rattle.warg_witness.specs.Private.Divergence.{Shows, at_bottom, inputs_of}
+use Rattle.warg_witness.specs.Private.Turns.{IsUp, is_right, leaf_in, count_in, Along, LeadNowhere, IsPathClimb, NeverMeet, IsPathsMeeting}
+use Rattle.warg_witness.specs.Private.Divergence.{Parts, Shows, at_bottom, inputs_of}
 use Rattle.warg_witness.specs.declared.divergence.Climb.{Climb}
 use Rattle.warg_witness.specs.declared.divergence.Divergence.{Divergence}
-use Rattle.warg_witness.proofs.ClimbLemmas.{shown, no_turns, turn_up}
+use Rattle.warg_witness.proofs.ClimbLemmas.{shown, parts_placed, up_parts, up_somewhere, up_sizes}
 use Rattle.warg_witness.proofs.CutLemmas.{leaves_count, plain_digest_is}
 use Rattle.warg_witness.proofs.RangeLemmas.{Digest, front_aligned, rest_aligned, whole_aligned}
 
@@ -154,33 +155,50 @@ pub plain_root : (H : Digest) (entries : List (List ℕ)) → root_over H (leave
     ≡ root_of H (leaves_of H entries)
 plain_root H entries = rw leaves_count at (whole_root H (leaves_of H entries))
 
+-- what is so of paths by way of the part that has the leaf
+along_up : {t u : List ℕ} {ds es : List (List ℕ)} (m n : ℕ) (P : ℕ → ℕ → List (List ℕ) → List (List ℕ) → Type 0) → 1 < n
+    → Along ds es (leaf_in m n) (count_in m n) P → Along (t ∷ ds) (u ∷ es) m n P
+along_up m n P more along index count path other a way other_way =
+    along index count path other (start_in m a n) (way_in more way) (way_in more other_way)
+
 -- both evaluations at a leaf, and one turn up
 module _ {D : Type 0} (H : Digest) (x y : List ℕ) where
   pub leaf_climb : {m n : ℕ} {climb : Climb D} (path other : List (List ℕ)) → n ≡ 1 → length path ≡ 0
       → length other ≡ 0 → climb ≡ at_bottom x y
       → IsPathClimb H (x, reverse path) (y, reverse other) m n climb
-  leaf_climb {m} path other one none others bottom =
-      rw (one, bottom)
-      (record {
-        first_led = root_one H m x path none;
-        second_led = root_one H m y other others;
-        turns = rw (empty path none, empty other others) (no_turns refl);
-      })
-    where
-      empty : (path : List (List ℕ)) → length path ≡ 0 → reverse path ≡ []
-      empty [] is = refl
-      empty (d ∷ path) is = absurd (omega arith)
+  leaf_climb {m} path other one none others bottom = rw (one, bottom) (record {
+    first_led = root_one H m x path none;
+    second_led = root_one H m y other others;
+    diverges = λ same. same;
+  })
 
   module _ {t u : List ℕ} {ds es : List (List ℕ)} (m n : ℕ) (more : 1 < n) where
     pub part_up : {before after : Climb D}
         → IsPathClimb H (x, ds) (y, es) (leaf_in m n) (count_in m n) before
         → IsUp H (is_right m n) before t u after
         → IsPathClimb H (x, t ∷ ds) (y, u ∷ es) m n after
-    part_up climb up = record {
-      first_led = leads_up H m n x t _ ds more climb.first_led ∙ ap Some (sym up.first_is);
-      second_led = leads_up H m n y u _ es more climb.second_led ∙ ap Some (sym up.second_is);
-      turns = turn_up climb.turns up;
-    }
+    part_up {before} climb up =
+        let Taken : List ℕ → List ℕ → Type 0 = λ first second. Along (t ∷ ds) (u ∷ es) m n
+        (λ index count path other. ArePathInputs H index count x path y other first second) in record {
+          first_led = leads_up H m n x t _ ds more climb.first_led ∙ ap Some (sym up.first_is);
+          second_led = leads_up H m n y u _ es more climb.second_led ∙ ap Some (sym up.second_is);
+          diverges = up_parts Taken (x ≡ y) up
+              (λ same _. parts_placed H before.divergence (λ _ _ at. along_up m n _ more at) (λ one. one)
+              (climb.diverges same))
+              (λ _ _ _ _ a way other_way. record {
+                leaf = m;
+                from = a;
+                count = n;
+                top = t;
+                other_top = u;
+                below = ds;
+                other_below = es;
+                on_way = way;
+                other_on_way = other_way;
+                first_evaluation = taken_at H m n x t _ ds climb.first_led;
+                second_evaluation = taken_at H m n y u _ es climb.second_led;
+              });
+        }
 
 -- where one leads nowhere in the part that has the leaf, it leads nowhere
 pub part_nowhere : (H : Digest) (x y t u : List ℕ) (ds es : List (List ℕ)) (m n : ℕ)
@@ -196,6 +214,11 @@ module _ (H : Digest) (x y : List ℕ) (path other : List (List ℕ)) (m n : ℕ
   nowhere_never nowhere = λ root first second. nowhere root root (leads_inside H m n x root path first).1
       (leads_inside H m n y root other second).1
 
+  pub whole_parts : {D : Type 0} {top : Climb D} → IsPathClimb H (x, reverse path) (y, reverse other) m n top
+      → top.first ≡ top.second → Parts H (ArePathInputs H m n x path y other) (x ≡ y) top.divergence
+  whole_parts {top = top} climb same = parts_placed H top.divergence (λ _ _ at. at m n path other 0 whole whole)
+      (λ one. one) (climb.diverges same)
+
   pub paths_met : {D : Type 0} {top : Climb D}
       → IsPathClimb H (x, reverse path) (y, reverse other) m n top → m < n
       → (met : Option (Divergence D))
@@ -210,105 +233,87 @@ module _ (H : Digest) (x y : List ℕ) (path other : List (List ℕ)) (m n : ℕ
     root = top.first;
     first_is = inside_leads H m n x path inside ∙ climb.first_led;
     second_is = inside_leads H m n y other inside ∙ climb.second_led ∙ ap Some (sym is.0);
-    diverges = climb.turns.diverges is.0;
+    diverges = whole_parts climb is.0;
   })
 
--- a path that leads to a root leads to it by its turns
-pub path_leads : (H : Digest) (m n : ℕ) (x root : List ℕ) (ds : List (List ℕ)) → root_down H m n x ds ≡ Some root
-    → root ≡ climbed H x (path_turns m n ds)
-path_leads H m n x root [] is = sym (at_leaf H m n x root is).1
-path_leads H m n x root (top ∷ below) is =
-    let at = led_down H m n x root top below is in at.root_is ∙ ap (λ l. H (input_beside (is_right m n) top l))
-    (path_leads H (leaf_in m n) (count_in m n) x at.digest below at.led)
-
--- two paths of one place have as many digests, and so the same sides
+-- two paths of one place have as many digests, and come to the leaf without any
 one_or_more : (H : Digest) (m n : ℕ) (x y root other top : List ℕ) (below : List (List ℕ)) → root_down H m n x []
     ≡ Some root → root_down H m n y (top ∷ below) ≡ Some other → ⊥
 one_or_more H m n x y root other top below is other_is = let one = (at_leaf H m n x root is).0 in
     let more = more_leaves H m n y other top below other_is in omega arith
 
-pub same_sides : (H : Digest) (x y root other : List ℕ) (m n : ℕ) (ds es : List (List ℕ)) → root_down H m n x ds
-    ≡ Some root → root_down H m n y es ≡ Some other
-    → map (λ (t : Turn). t.right) (path_turns m n ds) ≡ map (λ (t : Turn). t.right) (path_turns m n es)
-same_sides H x y root other m n [] [] is other_is = refl
-same_sides H x y root other m n [] (u ∷ es) is other_is = absurd (one_or_more H m n _ _ _ _ _ _ is other_is)
-same_sides H x y root other m n (t ∷ ds) [] is other_is = absurd (one_or_more H m n _ _ _ _ _ _ other_is is)
-same_sides H x y root other m n (t ∷ ds) (u ∷ es) is other_is =
+abbrev AtLeaf : ℕ → ℕ → List (List ℕ) → List (List ℕ) → Type 0
+AtLeaf index count path other = (m : ℕ) × (a : ℕ) × (n : ℕ) × IsOnWay index 0 count (reverse path) m a n []
+    × IsOnWay index 0 count (reverse other) m a n []
+
+at_leaves : (H : Digest) (x y root other : List ℕ) (m n : ℕ) (ds es : List (List ℕ)) → root_down H m n x ds ≡ Some root
+    → root_down H m n y es ≡ Some other → Along ds es m n AtLeaf
+at_leaves H x y root other m n [] [] is other_is = λ _ _ _ _ a way other_way. (m, a, n, way, other_way)
+at_leaves H x y root other m n [] (u ∷ es) is other_is = absurd (one_or_more H m n _ _ _ _ _ _ is other_is)
+at_leaves H x y root other m n (t ∷ ds) [] is other_is = absurd (one_or_more H m n _ _ _ _ _ _ other_is is)
+at_leaves H x y root other m n (t ∷ ds) (u ∷ es) is other_is =
     let at = led_down H m n x root t ds is in
     let other_at = led_down H m n y other u es other_is in
-    ap (λ sides. is_right m n ∷ sides)
-    (same_sides H x y at.digest other_at.digest (leaf_in m n) (count_in m n) ds es at.led other_at.led)
+    along_up m n AtLeaf at.more
+    (at_leaves H x y at.digest other_at.digest (leaf_in m n) (count_in m n) ds es at.led other_at.led)
+
+-- two that lead somewhere go up side by side
+module _ {D : Type 0} (H : Digest) (gives : HasSize H) (x y : List ℕ) (size : length x ≡ length y) where
+  pub paths_climbed : (m n : ℕ) (ds es : List (List ℕ)) (p q : List ℕ) → root_down H m n x ds ≡ Some p
+      → root_down H m n y es ≡ Some q → (climb : Climb D) × IsPathClimb H (x, ds) (y, es) m n climb
+      × (length climb.first ≡ length climb.second)
+  paths_climbed m n [] [] p q is other_is = (
+    at_bottom x y,
+    record {
+      first_led = is ∙ ap Some (sym (at_leaf H m n x p is).1);
+      second_led = other_is ∙ ap Some (sym (at_leaf H m n y q other_is).1);
+      diverges = λ same. same;
+    },
+    size,
+  )
+  paths_climbed m n [] (e ∷ es) p q is other_is = absurd (one_or_more H m n _ _ _ _ _ _ is other_is)
+  paths_climbed m n (d ∷ ds) [] p q is other_is = absurd (one_or_more H m n _ _ _ _ _ _ other_is is)
+  paths_climbed m n (d ∷ ds) (e ∷ es) p q is other_is =
+      let at = led_down H m n x p d ds is in
+      let other_at = led_down H m n y q e es other_is in
+      let below = paths_climbed (leaf_in m n) (count_in m n) ds es at.digest other_at.digest at.led other_at.led in
+      let step = up_somewhere {H = H} (is_right m n) below.0 d e below.2 in
+      (step.0, part_up H x y m n at.more below.1 step.1, up_sizes gives step.1)
 
 -- what two evaluations take at a turn, or at the leaf, stands on the way
 module _ (H : Digest) (index count : ℕ) (path : List (List ℕ)) (v : List ℕ) (other_path : List (List ℕ))
     (u : List ℕ) where
-  -- What both take.
-  abbrev Take : ℕ → ℕ → List (List ℕ) → List (List ℕ) → List ℕ → List ℕ → Type 0
-  Take m n ds es first second = AreTaken H (H (0 ∷ v)) (path_turns m n ds) (H (0 ∷ u)) (path_turns m n es) first second
-      ⊎ ((first ≡ 0 ∷ v) × (second ≡ 0 ∷ u))
+  pub inputs_placed : (first second : List ℕ) → ArePathInputs H index count (H (0 ∷ v)) path (H (0 ∷ u)) other_path first
+      second → IsRecordAgreementPlaced H index count (path, v) (other_path, u) first second
+  inputs_placed first second at = search at
 
-  on_way : (m a n : ℕ) (ds es : List (List ℕ)) (root other first second : List ℕ) → root_down H m n (H (0 ∷ v)) ds
-      ≡ Some root → root_down H m n (H (0 ∷ u)) es ≡ Some other
-      → IsOnWay index 0 count (reverse path) m a n ds → IsOnWay index 0 count (reverse other_path) m a n es
-      → Take m n ds es first second → IsRecordAgreementPlaced H index count (path, v) (other_path, u) first second
-  on_way m a n [] [] root other first second is other_is way other_way (inl none) = elim none [ ]
-  on_way m a n [] [] root other first second is other_is way other_way (inr leaf) =
-      let first_is : Some (leaf_input v) ≡ Some first = ap Some (sym leaf.0) in let second_is : Some (leaf_input u)
-      ≡ Some second = ap Some (sym leaf.1) in search (way, other_way, first_is, second_is)
-  on_way m a n [] (e ∷ es) root other first second is other_is way other_way take =
-      absurd (one_or_more H m n _ _ _ _ _ _ is other_is)
-  on_way m a n (d ∷ ds) [] root other first second is other_is way other_way take =
-      absurd (one_or_more H m n _ _ _ _ _ _ other_is is)
-  on_way m a n (d ∷ ds) (e ∷ es) root other first second is other_is way other_way take =
-      let at = led_down H m n (H (0 ∷ v)) root d ds is in
-      let other_at = led_down H m n (H (0 ∷ u)) other e es other_is in
-      let deeper : Take (leaf_in m n) (count_in m n) ds es first second
-      → IsRecordAgreementPlaced H index count (path, v) (other_path, u) first second =
-      on_way (leaf_in m n) (start_in m a n) (count_in m n) ds es at.digest other_at.digest first second at.led
-      other_at.led (way_in at.more way) (way_in at.more other_way) in
-      elim take [
-        | inl (inl here) ↦
-            let first_is = taken_at H m n _ d _ ds at.led
-            ∙ ap Some (ap (input_beside (is_right m n) d) (path_leads H (leaf_in m n) (count_in m n) _ _ ds at.led)
-            ∙ sym here.0) in
-            let second_is = taken_at H m n _ e _ es other_at.led
-            ∙ ap Some (ap (input_beside (is_right m n) e)
-            (path_leads H (leaf_in m n) (count_in m n) _ _ es other_at.led) ∙ sym here.1) in
-            record {
-              leaf = m;
-              from = a;
-              count = n;
-              digests = d ∷ ds;
-              other_digests = e ∷ es;
-              on_way = way;
-              other_on_way = other_way;
-              first_evaluation = first_is;
-              second_evaluation = second_is;
-            }
-        | inl (inr below) ↦ deeper (inl below)
-        | inr leaf ↦ deeper (inr leaf)
-      ]
-
-  -- so do those of two paths that lead somewhere
-  pub agreement_placed : {root other : List ℕ} (first second : List ℕ) → inclusion_root H index count (H (0 ∷ v)) path
-      ≡ Some root → inclusion_root H index count (H (0 ∷ u)) other_path ≡ Some other
-      → Take index count (reverse path) (reverse other_path) first second
-      → IsRecordAgreementPlaced H index count (path, v) (other_path, u) first second
-  agreement_placed first second is other_is take =
-      on_way index 0 count (reverse path) (reverse other_path) _ _ first second
-      (leads_inside H index count _ _ path is).1 (leads_inside H index count _ _ other_path other_is).1 whole whole
-      take
+  pub leaf_placed : {root other : List ℕ} → inclusion_root H index count (H (0 ∷ v)) path ≡ Some root
+      → inclusion_root H index count (H (0 ∷ u)) other_path ≡ Some other
+      → IsRecordAgreementPlaced H index count (path, v) (other_path, u) (0 ∷ v) (0 ∷ u)
+  leaf_placed {root} {other} is other_is =
+      let (m, a, n, way, other_way) = at_leaves H _ _ root other index count (reverse path) (reverse other_path)
+      (leads_inside H index count _ _ path is).1 (leads_inside H index count _ _ other_path other_is).1 index count path
+      other_path 0 whole whole in
+      record {
+        leaf = m;
+        from = a;
+        count = n;
+        digests = [];
+        other_digests = [];
+        on_way = way;
+        other_on_way = other_way;
+        first_evaluation = refl;
+        second_evaluation = refl;
+      }
 
   -- what a divergence of two paths shows, where the values differ
   pub record_agreement_shown : {D : Type 0} (p : Divergence D) → (v ≡ u → ⊥)
       → IsPathsMeeting H (H (0 ∷ v), path) (H (0 ∷ u), other_path) index count p
       → Shows H (IsRecordAgreementPlaced H index count (path, v) (other_path, u)) (inputs_of p (0 ∷ v) (0 ∷ u))
-  record_agreement_shown p apart met =
-      shown p (λ first second take. agreement_placed first second met.first_is met.second_is (inl take)) _ _
-      (λ one. record {
-        collides = record { differ = λ e. apart (cc); same = one.0 };
-        placed = agreement_placed _ _ met.first_is met.second_is (inr (refl, refl));
-      }) met.diverges
+  record_agreement_shown p apart met = shown p inputs_placed _ _ (λ one. record {
+    collides = record { differ = λ e. apart (cc); same = one };
+    placed = leaf_placed met.first_is met.second_is;
+  }) met.diverges
 
 -- The root over the part beside the one that has leaf m of the n leaves from a on.
 abbrev beside_root : Digest → List (List ℕ) → ℕ → ℕ → ℕ → List ℕ
@@ -474,13 +479,12 @@ module _ (H : Digest) (index : ℕ) (path : List (List ℕ)) (value : List ℕ) 
           at.second_evaluation;
     }
 
-    -- what a divergence of both shows, where the claim is false
-    pub record_shown : {D : Type 0} (p : Divergence D) → (IsRecord index value entries → ⊥)
-        → IsPathsMeeting H (H (0 ∷ value), path) (H (0 ∷ entry), own) index (length entries) p
-        → Shows H (IsRecordPlaced H index path value entries) (inputs_of p (0 ∷ value) (0 ∷ entry))
-    record_shown p untrue met =
-        let pair = record_agreement_shown H index (length entries) path value own entry p (λ e. untrue (sym e)) met in
-        record { collides = pair.collides; placed = record_placed _ _ pair.placed }
+    -- so the claim is met exactly where both paths agree
+    pub met_from : IsRecordAgreement H index (length entries) path value own entry → IsRecordMet H index path value entries
+    met_from agrees = agrees.first_is ∙ sym agrees.second_is ∙ own_met
+
+    pub met_then : IsRecordMet H index path value entries → IsRecordAgreement H index (length entries) path value own entry
+    met_then met = record { root = root_of H tree; first_is = met; second_is = own_met }
 
 -- the path that the code makes of the tree over the entries
 pub own_from : (H : Digest) (index : ℕ) (entries tree own : List (List ℕ)) → tree ≡ leaves_of H entries

@@ -14,3 +14,4 @@ pub mod TreePlaced
 pub mod Private
 pub mod MapsPlaced
 pub mod ChangeClaims
+pub mod Asked

@@ -1,14 +1,13 @@
 //! Witnesses for paths.
 
-ghost use Rattle.std.specs.Prelude.{◌≡◌, ◌<◌, ◌≤◌, length, map, None, Some, Ok, IfOk, MatchOption, ⊤};
+ghost use Rattle.std.specs.Prelude.{◌≡◌, ◌<◌, ◌≤◌, length, map, None, Some, Ok, IfOk};
 ghost use Rattle.warg_crypto.specs.Tree.{leaf_digest};
 ghost use Rattle.warg_log.specs.Cut.{old_over};
-ghost use Rattle.warg_log.specs.Tree.{leaves_of, root_of, own_digest};
+ghost use Rattle.warg_log.specs.Tree.{own_digest};
 ghost use Rattle.warg_paths.specs.Paths.{inclusion_of, inclusion_root};
 ghost use Rattle.warg_witness.specs.Findings.{Finds};
 ghost use Rattle.warg_witness.specs.PathClaims.{IsRecord, IsRecordMet};
 ghost use Rattle.warg_witness.specs.PathPlaced.{IsRecordPlaced};
-ghost use Rattle.warg_witness.specs.Private.Turns.{IsPathMeeting};
 
 mod agreement;
 mod climbing;
@@ -16,44 +15,17 @@ mod growth;
 mod tree;
 
 use crate::collision::Finding;
-use crate::plain::{entry_at, tree_with_root};
+use crate::plain::{entry_at, plain_tree};
 pub use agreement::agree_record;
-use climbing::meet_paths;
 use std::alloc::{AllocError, Allocator};
 pub(crate) use tree::find_difference;
 pub use tree::witness_tree;
-use warg_crypto::{Hash, Leaf, SupportedDigest, VisitBytes, hash_leaf, have_same_bytes};
+use warg_crypto::{Hash, SupportedDigest, VisitBytes, hash_leaf};
 use warg_log::{GREATEST_LENGTH, VecLog};
 use warg_paths::{inclusion_path, root_of_inclusion};
 
 // The most leaves that a tree has.
 const MOST_LEAVES: usize = GREATEST_LENGTH;
-
-// The tree over the entries, or None where the path doesn't lead from the leaf digest to its root.
-#[tactic(auto, using(crate::proofs::RecordLemmas::leads_inside))]
-fn meet_path<D: SupportedDigest, V: VisitBytes, A: Allocator>(
-    alloc: A,
-    index: usize,
-    path: &[Hash<D>],
-    leaf: &Hash<D>,
-    entries: &[V],
-) -> Result<Option<VecLog<D, V, A>>, AllocError>
-    ensures leads { inclusion_root D.digest index (length entries.now) leaf.now path.now ≡ None
-        → result ≡ Ok None }
-    ensures met { IfOk result (λ met. MatchOption met
-        (inclusion_root D.digest index (length entries.now) leaf.now path.now
-        ≡ Some (root_of D.digest (leaves_of D.digest (map V.bytes entries.now))) → ⊥)
-        (λ tree. IsPathMeeting D.digest index path.now leaf.now
-        (map V.bytes entries.now) tree)) }
-{
-    let Some(root) = root_of_inclusion(index, entries.len(), leaf, path) else {
-        return Ok(None);
-    };
-    if entries.len() > MOST_LEAVES {
-        return Err(AllocError);
-    }
-    tree_with_root(alloc, &root, entries)
-}
 
 /// Whether a path's claim about a record is true of the entries: the entry at `index`, from 0, has the value's
 /// bytes.
@@ -64,9 +36,10 @@ fn meet_path<D: SupportedDigest, V: VisitBytes, A: Allocator>(
 /// collision: what the digest function takes in the evaluation of the path (first; RFC 6962, section 2.1.1) and in
 /// the tree over the entries (second) at one range on the way to the leaf.
 ///
-/// It hashes each leaf and branch of the tree over the entries once, and besides the value, for a collision the entry once
-/// more, and at most as many branches as four times the path's length. It fails only if allocation fails. A value or an
-/// entry of more than `usize::MAX` bytes counts as that, and so do more than 2^63 entries.
+/// It hashes each leaf and branch of the tree over the entries once, and besides the value twice, the entry once more, and
+/// at most as many branches as three times the path's length. It fails only if allocation fails. A value or an entry of
+/// more than `usize::MAX` bytes counts as that, and so do more than 2^63 entries.
+#[tactic(auto, using(crate::proofs::RecordLemmas::leads_inside, crate::proofs::HashLemmas::entries_count, crate::proofs::CutLemmas::leaves_count))]
 pub fn witness_record<D: SupportedDigest, V: VisitBytes, A: Allocator + Copy>(
     alloc: A,
     index: usize,
@@ -84,40 +57,16 @@ pub fn witness_record<D: SupportedDigest, V: VisitBytes, A: Allocator + Copy>(
         (map V.bytes entries.now))) }
 {
     let leaf = hash_leaf::<D, V>(value);
-    let Some(tree) = meet_path(alloc, index, path, &leaf, entries)? else {
+    if root_of_inclusion(index, entries.len(), &leaf, path).is_none() {
         return Ok(Finding::NotMet);
-    };
-    find_record(alloc, index, path, &leaf, value, entries, &tree)
-}
-
-// What a value shows whose path leads from its leaf digest to the root of the tree over the entries.
-#[tactic(auto, using(crate::proofs::HashLemmas::entries_count))]
-fn find_record<D: SupportedDigest, V: VisitBytes, A: Allocator + Copy>(
-    alloc: A,
-    index: usize,
-    path: &[Hash<D>],
-    leaf: &Hash<D>,
-    value: &V,
-    entries: &[V],
-    tree: &VecLog<D, V, A>,
-) -> Result<Finding<D, A>, AllocError>
-    requires leaf { leaf.now ≡ leaf_digest D.digest (V.bytes value.now) }
-    requires met { IsPathMeeting D.digest index path.now leaf.now (map V.bytes entries.now) tree.now }
-    ensures { IfOk result (Finds ⊤ (IsRecord index (V.bytes value.now) (map V.bytes entries.now))
-        (IsRecordPlaced D.digest index path.now (V.bytes value.now)
-        (map V.bytes entries.now))) }
-{
-    let entry = entry_at(entries, index);
-    if have_same_bytes(value, entry)? {
-        return Ok(Finding::Holds);
     }
-    let own = own_path(alloc, index, tree)?;
-    let met = meet_paths(index, entries.len(), leaf, path, &hash_leaf(entry), &own);
-    let Some(divergence) = met else {
-        unreachable!()
-    };
-    let pair = divergence.collide(alloc, &Leaf(value), &Leaf(entry))?;
-    Ok(Finding::Collision(pair))
+    if entries.len() > MOST_LEAVES {
+        return Err(AllocError);
+    }
+    let tree = plain_tree(alloc, entries)?;
+    let own = own_path(alloc, index, &tree)?;
+    let entry = entry_at(entries, index);
+    agree_record(alloc, index, entries.len(), value, path, entry, &own)
 }
 
 // The tree's own path of a place.

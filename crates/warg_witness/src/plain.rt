@@ -1,7 +1,7 @@
 //! Given entries, the tree over them, and its digests by ranges.
 
-ghost use Rattle.std.specs.Prelude.{◌≡◌, ◌+◌, ◌<◌, ◌≤◌, [], length, map, IfOk, MatchOption, slice_index_or};
-ghost use Rattle.warg_log.specs.Tree.{leaves_of, root_of};
+ghost use Rattle.std.specs.Prelude.{◌≡◌, ◌+◌, ◌<◌, ◌≤◌, [], length, map, IfOk, slice_index_or};
+ghost use Rattle.warg_log.specs.Tree.{leaves_of};
 ghost use Rattle.warg_log.specs.Ranges.{IsAligned};
 ghost use Rattle.warg_witness.specs.Private.Divergence.{root_at};
 
@@ -31,26 +31,6 @@ pub(crate) fn plain_tree<D: SupportedDigest, V: VisitBytes, A: Allocator>(
         tree.push(entry)?;
     }
     Ok(tree)
-}
-
-/// The tree over the entries, or None where it has another root.
-#[tactic(auto, using(crate::proofs::HashLemmas::meets))]
-pub(crate) fn tree_with_root<D: SupportedDigest, V: VisitBytes, A: Allocator>(
-    alloc: A,
-    root: &Hash<D>,
-    entries: &[V],
-) -> Result<Option<VecLog<D, V, A>>, AllocError>
-    requires { length entries.now ≤ GREATEST_LENGTH }
-    ensures { IfOk result (λ found. MatchOption found
-        (root.now ≡ root_of D.digest (leaves_of D.digest (map V.bytes entries.now)) → ⊥)
-        (λ tree. (tree ≡ leaves_of D.digest (map V.bytes entries.now))
-        × (root.now ≡ root_of D.digest (leaves_of D.digest (map V.bytes entries.now))))) }
-{
-    let tree = plain_tree(alloc, entries)?;
-    if *root != tree.root() {
-        return Ok(None);
-    }
-    Ok(Some(tree))
 }
 
 /// The root over a range of the tree.

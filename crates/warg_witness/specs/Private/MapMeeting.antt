@@ -1,5 +1,5 @@
 -- A map's proof that leads to the plain root of given insertions, and what a witness knows of it.
-use Rattle.std.specs.Prelude.{◌≡◌, ◌⊎◌, ℕ, List, [], if◌then◌else◌, Option, Some, None, Bool}
+use Rattle.std.specs.Prelude.{◌≡◌, ◌⊎◌, ℕ, List, [], ◌∷◌, ◌++◌, if◌then◌else◌, Option, Some, None, Bool}
 use Rattle.std.specs.Option.{option_map}
 use Rattle.warg_crypto.specs.Bytes.{same_bytes}
 use Rattle.warg_map.specs.Bits.{key_bits}
@@ -17,7 +17,8 @@ use Rattle.warg_witness.specs.declared.divergence.Divergence.{Divergence}
 use Rattle.warg_witness.specs.declared.divergence.Divergence.TheVariants.{Target, Branch}
 use Rattle.std.specs.Borrow.{Bor}
 use Rattle.warg_map.specs.ProofValue.{proof_value}
-use Rattle.warg_witness.specs.Private.Turns.{IsTurnDivergence, bit_turns}
+use Rattle.warg_witness.specs.MapInputs.{fork_input}
+use Rattle.warg_witness.specs.declared.divergence.Climb.{Climb}
 
 -- The bytes of an insertion that is lent, if there is one.
 abbrev pub lent_pair : {K V : Type 0} → (K → List ℕ) → (V → List ℕ) → Option (Bor (K × V)) → Option (List ℕ × List ℕ)
@@ -48,8 +49,26 @@ abbrev pub IsPlacedInStep : {D : _} → (List ℕ → List ℕ) → Divergence D
 IsPlacedInStep H (Branch branches) xs ys first second = ((first, second) ≡ inputs branches) ⊎ IsPlacedInMaps H xs ys first second
 IsPlacedInStep H Target xs ys first second = IsPlacedInMaps H xs ys first second
 
--- The evaluations by the peers P from the leaf digest x and by Q from y lead to one root, and diverge as said on the way down
--- from it.
+-- The inputs of the evaluations by the peers P from the leaf digest x and by Q from y at one of these bits.
+pub record OnBits (H : List ℕ → List ℕ) (P : List (Option (List ℕ))) (x : List ℕ) (Q : List (Option (List ℕ))) (y : List ℕ) (bits : List Bool) (first second : List ℕ) : Type 0 where
+  pub above : List Bool
+  pub bit : Bool
+  pub below : List Bool
+  pub split : bits ≡ above ++ bit ∷ below
+  pub first_is : first ≡ fork_input H P x bit below
+  pub second_is : second ≡ fork_input H Q y bit below
+
+-- They diverge nowhere, and lead to one root from each leaf, or they diverge at one of the bits.
+abbrev pub IsBitDivergence : {D : _} → (List ℕ → List ℕ) → List (Option (List ℕ)) → List ℕ → List (Option (List ℕ)) → List ℕ → List Bool → Divergence D → Type 0
+IsBitDivergence H P x Q y bits p = Parts H (OnBits H P x Q y bits) ((x ≡ y) × ((leaf : List ℕ) → proof_value H P leaf bits ≡ proof_value H Q leaf bits)) p
+
+-- They lead to the climb's digests, and diverge as it says if the two are one.
+pub record IsBitClimb {D : _} (H : List ℕ → List ℕ) (P : List (Option (List ℕ))) (x : List ℕ) (Q : List (Option (List ℕ))) (y : List ℕ) (bits : List Bool) (climb : Climb D) : Type 0 where
+  pub first_is : climb.first ≡ proof_value H P x bits
+  pub second_is : climb.second ≡ proof_value H Q y bits
+  pub diverges : climb.first ≡ climb.second → IsBitDivergence H P x Q y bits climb.divergence
+
+-- They lead to one root, and diverge as said on the way down from it.
 pub record MeetsOnPath {D : _} (H : List ℕ → List ℕ) (P : List (Option (List ℕ))) (x : List ℕ) (Q : List (Option (List ℕ))) (y : List ℕ) (bits : List Bool) (divergence : Divergence D) : Type 0 where
   pub met : proof_value H P x bits ≡ proof_value H Q y bits
-  pub diverges : IsTurnDivergence H x (bit_turns H P bits) y (bit_turns H Q bits) divergence
+  pub diverges : IsBitDivergence H P x Q y bits divergence

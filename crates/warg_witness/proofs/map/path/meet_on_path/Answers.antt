@@ -1,13 +1,12 @@
 use Rattle.std.proofs.Common.{◌≡◌, sym, arith}
 use Rattle.warg_map.proofs.ForCallers.{last_bits-more, last_bits-none, length-last_bits}
-use Rattle.warg_witness.proofs.KeyLemmas.{bit_up, keys_met}
-use Rattle.warg_witness.proofs.ClimbLemmas.{no_turns}
+use Rattle.warg_witness.proofs.KeyLemmas.{bits_start, bit_up, keys_met}
 use Rattle.warg_witness.proofs.map.path.meet_on_path.Goals as goal
 
 pub loop-height-init : goal.loop-height-init
 loop-height-init g c = (
   c.empty_tree-empty.ensures,
-  rw last_bits-none (no_turns c.new-climb.ensures),
+  rw last_bits-none (bits_start _ _ _ _ _ c.new-climb.ensures),
 )
 
 pub loop-height-preserved : goal.loop-height-preserved
