@@ -1,6 +1,6 @@
 //! What a crash leaves of the calls on a folder in memory.
 
-use std::alloc::Global;
+use std::process::Abort;
 use warg_store::{Call, Folder, FolderError, MemoryFolder};
 
 // How many of the calls are behind none of whose changes was forced.
@@ -24,23 +24,23 @@ pub(crate) fn choices(calls: &[Call]) -> usize {
 // What a crash after these calls leaves, where the choice says of each change that wasn't forced whether it is done, lost
 // or torn: its digits to the base 3, the first change's first.
 pub(crate) fn crashed(
-    alloc: Global,
+    rt: &(impl AllocGlobal + Abort),
     calls: &[Call],
     choice: usize,
-) -> Result<MemoryFolder, FolderError> {
-    let mut folder = MemoryFolder::new(alloc);
+) -> MemoryFolder {
+    let mut folder = MemoryFolder::new(rt.alloc());
     let mut rest = choice;
     let forced = calls.len().saturating_sub(unforced(calls));
     for (index, call) in calls.iter().enumerate() {
         if index < forced {
-            leave(&mut folder, call, 0)?;
+            leave(&mut folder, call, 0).expect(rt, "a change");
         } else {
-            leave(&mut folder, call, rest % 3)?;
+            leave(&mut folder, call, rest % 3).expect(rt, "a change");
             rest /= 3;
         }
     }
-    folder.sync()?;
-    Ok(folder)
+    folder.sync().expect(rt, "a sync");
+    folder
 }
 
 // Does to a folder what a crash leaves of a call: all of it, nothing, or a part.

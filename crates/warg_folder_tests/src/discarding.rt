@@ -1,42 +1,32 @@
 //! What is pushed and discarded, and what stays of older lengths.
 
-use crate::log_folder::{Steps, checkpoint_of, two_commits};
-use std::alloc::Global;
-use std::test::Fail;
-use warg_store::{Folder, LogError, LogFolder};
+use crate::log_damage::audit_names;
+use crate::log_folder::{checkpoint_of, count, passes_audit, two_commits};
+use std::process::Abort;
+use warg_store::{Folder, LogFolder};
 
 // The log of a folder, once two entries more were pushed and discarded.
-fn discarded<F: Folder + Drop>(alloc: Global, folder: F) -> Result<LogFolder<F>, Fail> {
-    let mut log = LogFolder::open(alloc, folder)?;
-    log.push(b"third")?;
-    log.push(b"fourth")?;
-    Ok(log.discard()?)
+fn discarded<F: Folder + Drop>(rt: &(impl AllocGlobal + Abort), folder: F) -> LogFolder<F> {
+    let mut log = LogFolder::open(rt.alloc(), folder).expect(rt, "a log");
+    log.push(b"third").expect(rt, "a push");
+    log.push(b"fourth").expect(rt, "a push");
+    log.discard().expect(rt, "a log")
 }
 
 #[test]
-fn what_is_discarded_was_never_pushed(rt: HostRuntime) -> Result<(), Fail> {
-    let alloc = rt.alloc();
-    let (folder, _) = two_commits(alloc, 1, 2)?;
-    let mut log = discarded(alloc, folder)?;
-    assert!(rt; log.checkpoint() == checkpoint_of(alloc, 2)?);
-    assert!(rt; log.audit(&mut Steps(0))? == log.checkpoint());
-    assert!(rt; log.into_folder().list(alloc, ".log/staged/")?.is_empty());
-    Ok(())
+fn what_is_discarded_was_never_pushed(rt: HostRuntime) {
+    let mut log = discarded(&rt, two_commits(&rt, 1, 2).0);
+    assert!(rt; log.checkpoint() == checkpoint_of(&rt, 2));
+    assert!(rt; passes_audit(&rt, &mut log));
+    assert!(rt; count(&rt, &mut log.into_folder(), ".log/staged/") == 0);
 }
 
-// Whether an audit of a log of five entries names a file that it had at three, and that was changed.
-fn is_named(alloc: Global, name: &str) -> Result<bool, Fail> {
-    let (mut folder, _) = two_commits(alloc, 3, 5)?;
-    folder.replace(name, b"no file")?;
-    match LogFolder::open(alloc, folder)?.audit(&mut Steps(0)) {
-        Err(LogError::Damaged(damage)) => Ok(damage.name.as_str() == name),
-        _ => Ok(false),
+// The audit of a log of five entries names a file that it had at three, and that was changed.
+#[test]
+fn an_audit_reads_what_stays_of_older_lengths(rt: HostRuntime) {
+    for name in ["tile/0/000.p/3", "tile/entries/000.p/3"] {
+        let (mut folder, _) = two_commits(&rt, 3, 5);
+        folder.replace(name, b"no file").expect(&rt, "a change");
+        assert!(rt; audit_names(&rt, folder, name));
     }
-}
-
-#[test]
-fn an_audit_reads_what_stays_of_older_lengths(rt: HostRuntime) -> Result<(), Fail> {
-    assert!(rt; is_named(rt.alloc(), "tile/0/000.p/3")?);
-    assert!(rt; is_named(rt.alloc(), "tile/entries/000.p/3")?);
-    Ok(())
 }

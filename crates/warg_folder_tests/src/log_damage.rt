@@ -1,11 +1,10 @@
 //! Folders in memory that are damaged, or of an older form: each is refused by name, made again, or taken over.
 
 use crate::log_folder::{
-    Steps, checkpoint_of, commit_some, folder_of, keeps, two_commits, with_log, with_more,
+    Steps, checkpoint_of, is_file, keeps, opened, two_commits, with_log, with_more,
 };
-use std::alloc::Global;
-use std::test::Fail;
-use warg_store::{Folder, FolderError, LogError, LogFolder, MemoryFolder, rebuild};
+use std::process::Abort;
+use warg_store::{Folder, LogError, LogFolder, MemoryFolder, rebuild};
 
 // Whether an error names this file.
 pub(crate) fn names(error: &LogError, name: &str) -> bool {
@@ -15,12 +14,23 @@ pub(crate) fn names(error: &LogError, name: &str) -> bool {
     }
 }
 
-// Whether a folder isn't opened once a file has other bytes, and the error names that file.
-fn is_damaged<F: Folder + Drop>(alloc: Global, mut folder: F, name: &str) -> Result<bool, Fail> {
-    folder.replace(name, b"not it")?;
-    match LogFolder::open(alloc, folder) {
-        Ok(_) => Ok(false),
-        Err(error) => Ok(names(&error, name)),
+// Whether an audit of a folder's log names this file.
+pub(crate) fn audit_names<F: Folder + Drop>(
+    rt: &(impl AllocGlobal + Abort),
+    folder: F,
+    name: &str,
+) -> bool {
+    match opened(rt, folder).audit(&mut Steps(0)) {
+        Err(error) => names(&error, name),
+        Ok(_) => false,
+    }
+}
+
+// Whether a folder isn't opened, and the error names this file.
+fn is_damaged<F: Folder + Drop>(rt: &impl AllocGlobal, folder: F, name: &str) -> bool {
+    match LogFolder::open(rt.alloc(), folder) {
+        Ok(_) => false,
+        Err(error) => names(&error, name),
     }
 }
 
@@ -33,108 +43,77 @@ static FILES: [&str; 5] = [
 ];
 
 #[test]
-fn a_damaged_file_is_named(rt: HostRuntime) -> Result<(), Fail> {
-    let alloc = rt.alloc();
+fn a_damaged_file_is_named(rt: HostRuntime) {
     for name in &FILES {
-        let (folder, _) = two_commits(alloc, 3, 259)?;
-        assert!(rt; is_damaged(alloc, folder, name)?);
+        let (mut folder, _) = two_commits(&rt, 3, 259);
+        folder.replace(name, b"not it").expect(&rt, "a change");
+        assert!(rt; is_damaged(&rt, folder, name));
     }
-    Ok(())
-}
-
-// Removes a tile and spoils another one.
-fn spoil<F: Folder>(folder: &mut F) -> Result<(), FolderError> {
-    folder.remove("tile/0/000")?;
-    folder.replace("tile/1/000.p/1", b"not it")
 }
 
 // Whether a folder's tiles are made again, with a step for each of so many entries.
-fn is_rebuilt<F: Folder>(alloc: Global, folder: &mut F, count: usize) -> Result<bool, Fail> {
+fn is_rebuilt<F: Folder>(rt: &(impl AllocGlobal + Abort), folder: &mut F, count: usize) -> bool {
     let mut read = Steps(0);
-    let checkpoint = rebuild(alloc, folder, &mut read)?;
-    Ok(checkpoint == checkpoint_of(alloc, count)? && read.0 == count)
+    let checkpoint = rebuild(rt.alloc(), folder, &mut read).expect(rt, "tiles");
+    read.0 == count && checkpoint == checkpoint_of(rt, count)
+}
+
+// One tile is removed, and another one spoilt.
+#[test]
+fn tiles_are_made_again_from_bundles(rt: HostRuntime) {
+    let (mut folder, _) = two_commits(&rt, 3, 259);
+    folder.remove("tile/0/000").expect(&rt, "a change");
+    folder
+        .replace("tile/1/000.p/1", b"not it")
+        .expect(&rt, "a change");
+    assert!(rt; is_rebuilt(&rt, &mut folder, 259));
+    assert!(rt; keeps(&rt, folder, 259));
 }
 
 #[test]
-fn tiles_are_made_again_from_bundles(rt: HostRuntime) -> Result<(), Fail> {
-    let alloc = rt.alloc();
-    let (mut folder, _) = two_commits(alloc, 3, 259)?;
-    spoil(&mut folder)?;
-    assert!(rt; is_rebuilt(alloc, &mut folder, 259)?);
-    assert!(rt; keeps(alloc, folder, 259)?);
-    Ok(())
-}
-
-// Whether a log of a first number of entries grows to the log of so many.
-fn grows<F: Folder + Drop>(
-    alloc: Global,
-    folder: F,
-    first: usize,
-    next: usize,
-) -> Result<bool, Fail> {
-    let wanted = checkpoint_of(alloc, next)?;
-    let mut log = LogFolder::open(alloc, folder)?;
-    let done = commit_some(&mut log, first, next);
-    let is_grown = log.checkpoint() == wanted;
-    let _ = folder_of(log, done)?;
-    Ok(is_grown)
-}
-
-#[test]
-fn a_folder_without_a_state_is_taken_over(rt: HostRuntime) -> Result<(), Fail> {
-    let alloc = rt.alloc();
-    let (mut folder, _) = two_commits(alloc, 3, 5)?;
-    folder.remove(".log/state")?;
-    assert!(rt; grows(alloc, folder, 5, 6)?);
-    Ok(())
+fn a_folder_without_a_state_is_taken_over(rt: HostRuntime) {
+    let (mut folder, _) = two_commits(&rt, 3, 5);
+    folder.remove(".log/state").expect(&rt, "a change");
+    let folder = with_more(&rt, folder, 5, 6);
+    assert!(rt; opened(&rt, folder).checkpoint() == checkpoint_of(&rt, 6));
 }
 
 // The folder, whose log has two entries, after a commit of two more, with the older checkpoint.
-fn rolled_back<F: Folder + Drop>(alloc: Global, mut folder: F) -> Result<F, Fail> {
-    let older = folder.read(alloc, "checkpoint", 999)?.ok_or("none")?;
-    let mut folder = with_more(alloc, folder, 2, 4)?;
-    folder.replace("checkpoint", older.as_slice())?;
-    Ok(folder)
+pub(crate) fn rolled_back(rt: &(impl AllocGlobal + Abort)) -> MemoryFolder {
+    let mut folder = with_log(rt, MemoryFolder::new(rt.alloc()), 2);
+    let older = folder
+        .read(rt.alloc(), "checkpoint", 999)
+        .expect(rt, "a file")
+        .expect(rt, "a text");
+    let mut folder = with_more(rt, folder, 2, 4);
+    folder
+        .replace("checkpoint", older.as_slice())
+        .expect(rt, "a change");
+    folder
 }
 
-// Whether a folder isn't opened, since its checkpoint is of two entries and its state of four.
-fn is_rolled_back<F: Folder + Drop>(alloc: Global, folder: F) -> bool {
-    matches!(
-        LogFolder::open(alloc, folder),
-        Err(LogError::RolledBack {
-            found: 2,
-            newest: 4
-        })
-    )
-}
-
+// A folder isn't opened if its checkpoint is of two entries and its state of four.
 #[test]
-fn an_older_checkpoint_is_known(rt: HostRuntime) -> Result<(), Fail> {
-    let alloc = rt.alloc();
-    let folder = with_log(alloc, MemoryFolder::new(alloc), 2)?;
-    assert!(rt; is_rolled_back(alloc, rolled_back(alloc, folder)?));
-    Ok(())
+fn an_older_checkpoint_is_known(rt: HostRuntime) {
+    let found = LogFolder::open(rt.alloc(), rolled_back(&rt));
+    assert!(rt;
+        matches!(
+            found,
+            Err(LogError::RolledBack {
+                found: 2,
+                newest: 4
+            })
+        )
+    );
 }
 
-// Writes a file and gives it another name.
-fn write_and_rename<F: Folder>(folder: &mut F) -> Result<(), FolderError> {
-    folder.write("a", b"abc")?;
-    folder.rename("a", "b")?;
-    folder.rename("c", "b")
-}
-
-// Whether a file is read no further than one byte above the most.
-fn is_front<F: Folder>(alloc: Global, folder: &mut F) -> Result<bool, Fail> {
-    let none = folder.read(alloc, "a", 9)?;
-    let front = folder.read(alloc, "b", 1)?.ok_or("no file")?;
-    Ok(none.is_none() && front.as_slice() == b"ab".as_slice())
-}
-
+// A file is read no further than one byte above the most.
 #[test]
-fn a_read_gives_no_more_than_it_is_told(rt: HostRuntime) -> Result<(), Fail> {
-    let alloc = rt.alloc();
-    let mut folder = MemoryFolder::new(alloc);
-    write_and_rename(&mut folder)?;
-    assert!(rt; is_front(alloc, &mut folder)?);
-    Ok(())
+fn a_read_gives_no_more_than_it_is_told(rt: HostRuntime) {
+    let mut folder = MemoryFolder::new(rt.alloc());
+    folder.write("a", b"abc").expect(&rt, "a change");
+    folder.rename("a", "b").expect(&rt, "a change");
+    folder.rename("c", "b").expect(&rt, "a change");
+    assert!(rt; folder.read(rt.alloc(), "a", 9) == Ok(None));
+    assert!(rt; is_file(&rt, &mut folder, "b", 1, b"ab"));
 }

@@ -2,7 +2,7 @@
 
 use std::alloc::{AllocError, Global};
 use std::collections::HashMap;
-use std::test::Fail;
+use std::process::Abort;
 use warg_crypto::{Hash, Sha256, hash_leaf};
 use warg_map::Map;
 use warg_pages::{LoneKeyCheck, MapPage, PageVisitor, PagedMap, Pages, held_in_pages, visit_pages};
@@ -68,39 +68,37 @@ impl PageVisitor<Sha256, Global> for Seen {
         _version: u64,
         page: &MapPage<Sha256, Global>,
     ) -> Result<(), AllocError> {
-        let lones = page
-            .slots()
-            .iter()
-            .filter(|slot| slot.lone.is_some())
-            .count();
-        self.keys = self.keys.saturating_add(lones);
+        for slot in page.slots() {
+            self.keys = self.keys.saturating_add(slot.lone.is_some() as usize);
+        }
         self.pages = self.pages.saturating_add(1);
         Ok(())
     }
 }
 
 // The pages of the pairs, and the map's root.
-fn pages_of(alloc: Global) -> Result<(Newest, PagedMap<Sha256>), Fail> {
+fn pages_of(rt: &(impl AllocGlobal + Abort)) -> (Newest, PagedMap<Sha256>) {
     let mut map = PagedMap::new();
     let mut pages = Newest {
-        alloc,
-        bytes: HashMap::new(alloc),
+        alloc: rt.alloc(),
+        bytes: HashMap::new(rt.alloc()),
     };
-    let changed = map.insert_all(alloc, &mut pages, &PAIRS);
-    for page in changed.map_err(|_| Fail::from("an insertion"))? {
-        let bytes = page.page.write(alloc)?;
-        pages.bytes.insert(page.prefix.clone()?, bytes)?;
+    let changed = map.insert_all(rt.alloc(), &mut pages, &PAIRS);
+    for page in changed.expect(rt, "an insertion") {
+        let bytes = page.page.write(rt.alloc()).expect(rt, "memory");
+        let prefix = page.prefix.clone().expect(rt, "memory");
+        let older: Result<_, _> = pages.bytes.insert(prefix, bytes);
+        let _ = older.expect(rt, "memory");
     }
-    Ok((pages, map))
+    (pages, map)
 }
 
 // Whether the pages hold a value under a key, of this version.
-fn is_held(pages: &mut Newest, key: &[u8], version: u64, value: &[u8]) -> Result<bool, Fail> {
+fn is_held(rt: &impl Abort, pages: &mut Newest, key: &[u8], version: u64, value: &[u8]) -> bool {
     let key: Hash<Sha256> = Hash::of(&key);
-    let held = held_in_pages(pages.alloc, pages, 4, &key);
-    match held.map_err(|_| Fail::from("a key's pages"))? {
-        Some(held) => Ok(held.version == version && held.leaf == hash_leaf(&value)),
-        None => Ok(false),
+    match held_in_pages(pages.alloc, pages, 4, &key).expect(rt, "a key's pages") {
+        Some(held) => held.version == version && held.leaf == hash_leaf(&value),
+        None => false,
     }
 }
 
@@ -124,21 +122,14 @@ fn is_visited(
 }
 
 #[test]
-fn lone_keys_are_hashed_or_skipped(rt: HostRuntime) -> Result<(), Fail> {
-    let (mut pages, map) = pages_of(rt.alloc())?;
+fn lone_keys_are_hashed_or_skipped(rt: HostRuntime) {
+    let (mut pages, map) = pages_of(&rt);
     let mut seen = Seen { keys: 0, pages: 0 };
     assert!(rt; is_visited(&mut pages, &map.root, LoneKeyCheck::Skipped, &mut seen));
     assert!(rt; seen.pages == pages.bytes.len());
     spoil(&mut pages);
     assert!(rt; is_visited(&mut pages, &map.root, LoneKeyCheck::Skipped, &mut seen));
     assert!(rt; !is_visited(&mut pages, &map.root, LoneKeyCheck::Hashed, &mut seen));
-    Ok(())
-}
-
-// The map's root, and how many keys it holds.
-fn map_of(alloc: Global) -> Result<(Hash<Sha256>, usize), Fail> {
-    let map = Map::<Sha256, &[u8], &[u8]>::default(alloc).extend(PAIRS.iter().copied())?;
-    Ok((map.root().copied(), map.len()))
 }
 
 // Whether a visit of the pages below a root sees all of them, with so many keys.
@@ -148,13 +139,20 @@ fn have_keys(pages: &mut Newest, root: &Hash<Sha256>, count: usize) -> bool {
     is_done && seen.keys == count && seen.pages == pages.bytes.len()
 }
 
+static HELD: [(&[u8], u64, &[u8], bool); 3] = [
+    (b"a", 3, b"three", true),
+    (b"c", 4, b"", true),
+    (b"d", 4, b"", false),
+];
+
 #[test]
-fn pages_hold_what_the_map_does(rt: HostRuntime) -> Result<(), Fail> {
-    let (mut pages, paged) = pages_of(rt.alloc())?;
-    let (root, count) = map_of(rt.alloc())?;
-    assert!(rt; paged.root == root && have_keys(&mut pages, &root, count));
-    assert!(rt; is_held(&mut pages, b"a", 3, b"three")?);
-    assert!(rt; is_held(&mut pages, b"c", 4, b"")?);
-    assert!(rt; !is_held(&mut pages, b"d", 4, b"")?);
-    Ok(())
+fn pages_hold_what_the_map_does(rt: HostRuntime) {
+    let (mut pages, paged) = pages_of(&rt);
+    let map = Map::<Sha256, &[u8], &[u8]>::default(rt.alloc()).extend(PAIRS.iter().copied());
+    let map = map.expect(&rt, "a map");
+    assert!(rt; paged.root == *map.root());
+    assert!(rt; have_keys(&mut pages, &paged.root, map.len()));
+    for (key, version, value, are_held) in &HELD {
+        assert!(rt; is_held(&rt, &mut pages, key, *version, value) == *are_held);
+    }
 }

@@ -1,8 +1,8 @@
 //! What the texts of faults say.
 
-use std::alloc::{AllocError, Global};
+use std::alloc::AllocError;
 use std::fmt::Display;
-use std::test::Fail;
+use std::process::Abort;
 use warg_bundle::BundleError;
 use warg_check::CheckError;
 use warg_log::{ConsistencyProofError, InclusionProofError};
@@ -10,14 +10,11 @@ use warg_map::MapError;
 use warg_program::RunError;
 use warg_protobuf::{DecodeError, EncodeError, WireError};
 
-// Whether each fault has its text.
-fn are_texts<E: Display>(alloc: Global, rows: &[(E, &str)]) -> Result<bool, AllocError> {
+// Asserts that each fault has its text.
+fn assert_texts<E: Display>(rt: &(impl AllocGlobal + Abort), rows: &[(E, &str)]) {
     for (fault, text) in rows {
-        if fault.to_string(alloc)?.as_str() != *text {
-            return Ok(false);
-        }
+        assert!(rt; fault.to_string(rt.alloc()).expect(rt, "memory").as_str() == *text);
     }
-    Ok(true)
 }
 
 static INCLUSION_FAULTS: [(InclusionProofError, &str); 3] = [
@@ -31,12 +28,6 @@ static INCLUSION_FAULTS: [(InclusionProofError, &str); 3] = [
     ),
     (InclusionProofError::Memory, "out of memory"),
 ];
-
-#[test]
-fn of_inclusion_proofs(rt: HostRuntime) -> Result<(), Fail> {
-    assert!(rt; are_texts(rt.alloc(), &INCLUSION_FAULTS)?);
-    Ok(())
-}
 
 static CONSISTENCY_FAULTS: [(ConsistencyProofError, &str); 5] = [
     (
@@ -54,14 +45,6 @@ static CONSISTENCY_FAULTS: [(ConsistencyProofError, &str); 5] = [
     (ConsistencyProofError::OldLengthZero, "old length is zero"),
     (ConsistencyProofError::Memory, "out of memory"),
 ];
-
-#[test]
-fn of_consistency_proofs(rt: HostRuntime) -> Result<(), Fail> {
-    assert!(rt; are_texts(rt.alloc(), &CONSISTENCY_FAULTS)?);
-    let fault = ConsistencyProofError::from(InclusionProofError::LeafTooNew);
-    assert!(rt; are_texts(rt.alloc(), &[(fault, "constituent inclusion proof failed")])?);
-    Ok(())
-}
 
 static BUNDLE_FAULTS: [(BundleError, &str); 7] = [
     (
@@ -85,22 +68,10 @@ static BUNDLE_FAULTS: [(BundleError, &str); 7] = [
     (BundleError::Memory, "out of memory"),
 ];
 
-#[test]
-fn of_bundling(rt: HostRuntime) -> Result<(), Fail> {
-    assert!(rt; are_texts(rt.alloc(), &BUNDLE_FAULTS)?);
-    Ok(())
-}
-
 static ENCODE_FAULTS: [(EncodeError, &str); 2] = [
     (EncodeError::TooLarge, "number does not fit in 32 bits"),
     (EncodeError::Memory, "out of memory"),
 ];
-
-#[test]
-fn of_writing(rt: HostRuntime) -> Result<(), Fail> {
-    assert!(rt; are_texts(rt.alloc(), &ENCODE_FAULTS)?);
-    Ok(())
-}
 
 static DECODE_FAULTS: [(DecodeError, &str); 7] = [
     (DecodeError::Wire(WireError::Truncated), "truncated"),
@@ -115,12 +86,6 @@ static DECODE_FAULTS: [(DecodeError, &str); 7] = [
     (DecodeError::Memory, "out of memory"),
 ];
 
-#[test]
-fn of_values(rt: HostRuntime) -> Result<(), Fail> {
-    assert!(rt; are_texts(rt.alloc(), &DECODE_FAULTS)?);
-    Ok(())
-}
-
 static WIRE_FAULTS: [(WireError, &str); 8] = [
     (WireError::Truncated, "truncated"),
     (WireError::BadVarint, "bad varint"),
@@ -132,14 +97,6 @@ static WIRE_FAULTS: [(WireError, &str); 8] = [
     (WireError::Memory, "out of memory"),
 ];
 
-#[test]
-fn of_messages(rt: HostRuntime) -> Result<(), Fail> {
-    assert!(rt; are_texts(rt.alloc(), &WIRE_FAULTS)?);
-    let fault = WireError::from(AllocError);
-    assert!(rt; are_texts(rt.alloc(), &[(fault, "out of memory")])?);
-    Ok(())
-}
-
 static CHECK_FAULTS: [(CheckError, &str); 3] = [
     (
         CheckError::Decode(DecodeError::HashLength),
@@ -149,22 +106,10 @@ static CHECK_FAULTS: [(CheckError, &str); 3] = [
     (CheckError::Memory, "out of memory"),
 ];
 
-#[test]
-fn of_verdicts(rt: HostRuntime) -> Result<(), Fail> {
-    assert!(rt; are_texts(rt.alloc(), &CHECK_FAULTS)?);
-    Ok(())
-}
-
 static MAP_FAULTS: [(MapError, &str); 2] = [
     (MapError::Full, "map is full"),
     (MapError::Memory, "out of memory"),
 ];
-
-#[test]
-fn of_maps(rt: HostRuntime) -> Result<(), Fail> {
-    assert!(rt; are_texts(rt.alloc(), &MAP_FAULTS)?);
-    Ok(())
-}
 
 static RUN_FAULTS: [(RunError, &str); 4] = [
     (RunError::Read, "read failed"),
@@ -174,7 +119,25 @@ static RUN_FAULTS: [(RunError, &str); 4] = [
 ];
 
 #[test]
-fn of_runs(rt: HostRuntime) -> Result<(), Fail> {
-    assert!(rt; are_texts(rt.alloc(), &RUN_FAULTS)?);
-    Ok(())
+fn of_proofs_and_bundles(rt: HostRuntime) {
+    assert_texts(&rt, &INCLUSION_FAULTS);
+    assert_texts(&rt, &CONSISTENCY_FAULTS);
+    let fault = ConsistencyProofError::from(InclusionProofError::LeafTooNew);
+    assert_texts(&rt, &[(fault, "constituent inclusion proof failed")]);
+    assert_texts(&rt, &BUNDLE_FAULTS);
+    assert_texts(&rt, &CHECK_FAULTS);
+}
+
+#[test]
+fn of_messages(rt: HostRuntime) {
+    assert_texts(&rt, &ENCODE_FAULTS);
+    assert_texts(&rt, &DECODE_FAULTS);
+    assert_texts(&rt, &WIRE_FAULTS);
+    assert_texts(&rt, &[(WireError::from(AllocError), "out of memory")]);
+}
+
+#[test]
+fn of_maps_and_runs(rt: HostRuntime) {
+    assert_texts(&rt, &MAP_FAULTS);
+    assert_texts(&rt, &RUN_FAULTS);
 }

@@ -1,7 +1,6 @@
 //! Hashes as text, and what is seen of hashes, checkpoints, leaves and bundles.
 
 use std::cmp::Ordering;
-use std::test::Fail;
 use warg_bundle::LogProofBundle;
 use warg_crypto::laws::{equal_by_bytes, order_by_bytes};
 use warg_crypto::{Hash, Sha256};
@@ -14,28 +13,35 @@ const DIGITS: &str = "6e340b9cffb37a989ca544e6bb780a2c78901d3fb33738768511a30617
 const UPPER: &str = "6E340B9CFFB37A989CA544E6BB780A2C78901D3FB33738768511A30617AFA01D";
 
 #[test]
-fn hashes_are_shown_as_digits(rt: HostRuntime) -> Result<(), Fail> {
-    let hash: Hash<Sha256> = Hash::of(&0u8);
-    let text = hash.to_string(rt.alloc())?;
+fn hashes_are_shown_as_digits(rt: HostRuntime) {
+    let text = Hash::<Sha256>::of(&0u8)
+        .to_string(rt.alloc())
+        .expect(&rt, "memory");
     assert!(rt; text.as_str() == DIGITS);
-    Ok(())
 }
+
+// Texts, and whether each is the hash: those with a digit too few, and with a letter that is none, aren't.
+static TEXTS: [(&str, bool); 6] = [
+    (DIGITS, true),
+    (UPPER, true),
+    ("", false),
+    ("6e", false),
+    (
+        "6e340b9cffb37a989ca544e6bb780a2c78901d3fb33738768511a30617afa01",
+        false,
+    ),
+    (
+        "ge340b9cffb37a989ca544e6bb780a2c78901d3fb33738768511a30617afa01d",
+        false,
+    ),
+];
 
 #[test]
 fn digits_of_either_case_are_read(rt: HostRuntime) {
-    for digits in [DIGITS, UPPER] {
-        let hash = digits.parse::<Hash<Sha256>>().ok();
-        assert!(rt; hash == Some(Hash::of(&0u8)), "{digits}");
-    }
-}
-
-#[test]
-fn other_texts_are_no_hashes(rt: HostRuntime) {
-    let lacking = "6e340b9cffb37a989ca544e6bb780a2c78901d3fb33738768511a30617afa01";
-    let no_digit = "ge340b9cffb37a989ca544e6bb780a2c78901d3fb33738768511a30617afa01d";
-    for text in ["", "6e", lacking, no_digit] {
+    for (text, is_hash) in &TEXTS {
         let hash = text.parse::<Hash<Sha256>>().ok();
-        assert!(rt; hash.is_none(), "{text}");
+        assert!(rt; hash.is_some() == *is_hash);
+        assert!(rt; hash.is_none() || hash == Some(Hash::of(&0u8)));
     }
 }
 
@@ -71,10 +77,8 @@ fn leaves_by_their_indices(rt: HostRuntime) {
 }
 
 #[test]
-fn counts_of_a_bundle_s_proofs(rt: HostRuntime) -> Result<(), Fail> {
+fn counts_of_a_bundle_s_proofs(rt: HostRuntime) {
     let bytes = [8, 3, 18, 1, 2, 26, 2, 0, 4];
-    let bundle: LogProofBundle<Sha256, ()> = LogProofBundle::decode(rt.alloc(), &bytes)?;
-    assert!(rt; bundle.consistency_proof_count() == 1);
-    assert!(rt; bundle.inclusion_proof_count() == 2);
-    Ok(())
+    let bundle = LogProofBundle::<Sha256, ()>::decode(rt.alloc(), &bytes).expect(&rt, "a bundle");
+    assert!(rt; bundle.consistency_proof_count() == 1 && bundle.inclusion_proof_count() == 2);
 }

@@ -1,8 +1,8 @@
 //! Witnesses: values in other pieces, a log's own proofs at all lengths, and counts that are looked at first.
 
 use refusing::Refusing;
-use std::alloc::{Allocator, Global};
-use std::test::Fail;
+use std::alloc::Allocator;
+use std::process::Abort;
 use warg_crypto::weak::{Flat, Sum};
 use warg_crypto::{Hash, Sha256, SupportedDigest};
 use warg_log::{GREATEST_LENGTH, LogData, Node, SparseLogData, VecLog, push_all};
@@ -25,22 +25,15 @@ type Pieces = VecLog<Flat, Pair>;
 
 static ENTRIES: [Pair; 1] = [("ab", "cd")];
 
-fn in_pieces(alloc: Global) -> Result<Pieces, Fail> {
-    let mut log = VecLog::default(alloc);
-    push_all(&mut log, &ENTRIES)?;
-    Ok(log)
-}
-
 static SAME: [Pair; 4] = [("ab", "cd"), ("", "abcd"), ("abcd", ""), ("abc", "d")];
 
 // Values are compared by their bytes, in whichever pieces these come: under a digest that is always the same
 // every claim is met, and only the same bytes make it true.
 #[test]
-fn the_same_value_in_other_pieces(rt: HostRuntime) -> Result<(), Fail> {
+fn the_same_value_in_other_pieces(rt: HostRuntime) {
     for value in &SAME {
-        assert!(rt; found(rt.alloc(), *value)? == Finding::Holds);
+        assert!(rt; found(&rt, *value) == Finding::Holds);
     }
-    Ok(())
 }
 
 static OTHERS: [(Pair, &[u8]); 4] = [
@@ -51,34 +44,28 @@ static OTHERS: [(Pair, &[u8]); 4] = [
 ];
 
 #[test]
-fn other_values_in_pieces(rt: HostRuntime) -> Result<(), Fail> {
+fn other_values_in_pieces(rt: HostRuntime) {
     for (value, bytes) in &OTHERS {
-        assert!(rt; shows(&found(rt.alloc(), *value)?, bytes, b"\0abcd"));
+        assert!(rt; shows(&found(&rt, *value), bytes, b"\0abcd"));
     }
-    Ok(())
 }
 
-fn found(alloc: Global, value: Pair) -> Result<Finding<Flat>, Fail> {
-    let log = in_pieces(alloc)?;
+// What the log's own proof shows of a value.
+fn found(rt: &(impl AllocGlobal + Abort), value: Pair) -> Finding<Flat> {
+    let mut log = Pieces::default(rt.alloc());
+    push_all(&mut log, &ENTRIES).expect(rt, "memory");
     let proof = log.prove_inclusion(Node(0), 1);
-    Ok(witness_value(alloc, &proof, &log, &value, &ENTRIES)?)
-}
-
-// Whether a finding is that of a value.
-fn is_found(alloc: Global, finding: &Finding<Flat>, value: Pair) -> Result<bool, Fail> {
-    Ok(*finding == found(alloc, value)?)
+    witness_value(rt.alloc(), &proof, &log, &value, &ENTRIES).expect(rt, "memory")
 }
 
 // Findings are equal exactly if they are of one kind, with the same byte strings.
 #[test]
-fn equal_findings(rt: HostRuntime) -> Result<(), Fail> {
-    let alloc = rt.alloc();
-    let collision = found(alloc, ("ab", "c"))?;
-    assert!(rt; is_found(alloc, &collision, ("a", "bc"))?);
-    assert!(rt; !is_found(alloc, &collision, ("ab", "d"))?);
-    assert!(rt; !is_found(alloc, &collision, ("ab", "cd"))?);
-    assert!(rt; is_found(alloc, &found(alloc, ("ab", "cd"))?, ("abcd", ""))?);
-    Ok(())
+fn equal_findings(rt: HostRuntime) {
+    let collision = found(&rt, ("ab", "c"));
+    assert!(rt; collision == found(&rt, ("a", "bc")));
+    assert!(rt; collision != found(&rt, ("ab", "d")));
+    assert!(rt; collision != found(&rt, ("ab", "cd")));
+    assert!(rt; found(&rt, ("ab", "cd")) == found(&rt, ("abcd", "")));
 }
 
 // The entries of an honest log, in which some are the same.
@@ -89,87 +76,79 @@ static TEXTS: [&str; 25] = [
 
 type TextLog = VecLog<Sha256, &'static str>;
 
-fn texts(alloc: Global) -> Result<TextLog, Fail> {
-    let mut log = VecLog::default(alloc);
-    push_all(&mut log, &TEXTS)?;
-    Ok(log)
+fn texts(rt: &(impl AllocGlobal + Abort)) -> TextLog {
+    let mut log = VecLog::default(rt.alloc());
+    push_all(&mut log, &TEXTS).expect(rt, "memory");
+    log
 }
 
 // Whether a log's own proof of an entry of its first ones shows that it is there.
-fn holds_entry(alloc: Global, log: &TextLog, place: usize, length: usize) -> Result<bool, Fail> {
+fn holds_entry(
+    rt: &(impl AllocGlobal + Abort),
+    log: &TextLog,
+    place: usize,
+    length: usize,
+) -> bool {
     if place >= length || length > 25 {
-        return Ok(false);
+        return false;
     }
     let proof = log.prove_inclusion(Node(2 * place), length);
-    let finding = witness_value(alloc, &proof, log, &TEXTS[place], &TEXTS[..length])?;
-    Ok(matches!(finding, Finding::Holds))
-}
-
-#[test]
-fn a_log_s_own_inclusion_proofs_hold(rt: HostRuntime) -> Result<(), Fail> {
-    let log = texts(rt.alloc())?;
-    for length in 1..26 {
-        for place in 0..length {
-            assert!(rt; holds_entry(rt.alloc(), &log, place, length)?);
-        }
-    }
-    Ok(())
+    let finding = witness_value(rt.alloc(), &proof, log, &TEXTS[place], &TEXTS[..length]);
+    matches!(finding, Ok(Finding::Holds))
 }
 
 // Whether its own proof between two lengths shows that it grew so.
-fn holds_growth(alloc: Global, log: &TextLog, old: usize, new: usize) -> Result<bool, Fail> {
+fn holds_growth(rt: &(impl AllocGlobal + Abort), log: &TextLog, old: usize, new: usize) -> bool {
     if old > new || new > 25 {
-        return Ok(false);
+        return false;
     }
     let proof = log.prove_consistency(old, new);
-    let finding = witness_consistency(alloc, &proof, log, &TEXTS[..old], &TEXTS[..new])?;
-    Ok(matches!(finding, Finding::Holds))
+    let finding = witness_consistency(rt.alloc(), &proof, log, &TEXTS[..old], &TEXTS[..new]);
+    matches!(finding, Ok(Finding::Holds))
 }
 
 #[test]
-fn a_log_s_own_consistency_proofs_hold(rt: HostRuntime) -> Result<(), Fail> {
-    let log = texts(rt.alloc())?;
-    for new_length in 1..26 {
-        for old_length in 1..new_length + 1 {
-            assert!(rt; holds_growth(rt.alloc(), &log, old_length, new_length)?);
+fn a_log_s_own_proofs_hold(rt: HostRuntime) {
+    let log = texts(&rt);
+    for length in 1..26 {
+        for place in 0..length {
+            assert!(rt; holds_entry(&rt, &log, place, length));
+            assert!(rt; holds_growth(&rt, &log, place + 1, length));
         }
     }
-    Ok(())
 }
 
 type Numbers = VecLog<Sum, [u8; 4]>;
 
 // The first million numbers.
-fn million(alloc: Global) -> Result<Vec<[u8; 4]>, Fail> {
-    let mut entries = Vec::new(alloc);
+fn million(rt: &(impl AllocGlobal + Abort)) -> Vec<[u8; 4]> {
+    let mut entries = Vec::new(rt.alloc());
     for number in 0..1_000_000u32 {
-        entries.push(number.to_be_bytes())?;
+        entries.push(number.to_be_bytes()).expect(rt, "memory");
     }
-    Ok(entries)
+    entries
 }
 
 // What a witness finds of the claim that number 700,000 is this value.
 fn judged(
-    alloc: Global,
+    rt: &(impl AllocGlobal + Abort),
     entries: &[[u8; 4]],
     log: &Numbers,
     value: [u8; 4],
-) -> Result<Finding<Sum>, Fail> {
+) -> Finding<Sum> {
     let proof = log.prove_inclusion(Node(1_400_000), log.length());
-    Ok(witness_value(alloc, &proof, log, &value, entries)?)
+    witness_value(rt.alloc(), &proof, log, &value, entries).expect(rt, "memory")
 }
 
 // The way down is as deep as the tree is high, and each entry is hashed once.
 #[test]
-fn a_witness_over_a_million_entries(rt: HostRuntime) -> Result<(), Fail> {
-    let entries = million(rt.alloc())?;
+fn a_witness_over_a_million_entries(rt: HostRuntime) {
+    let entries = million(&rt);
     let entries = entries.as_slice();
     let mut log = Numbers::default(rt.alloc());
-    push_all(&mut log, entries)?;
-    let finding = judged(rt.alloc(), entries, &log, 700_000u32.to_be_bytes())?;
-    assert!(rt; matches!(finding, Finding::Holds));
-    assert!(rt; matches!(judged(rt.alloc(), entries, &log, [0; 4])?, Finding::NotMet));
-    Ok(())
+    push_all(&mut log, entries).expect(&rt, "memory");
+    assert!(rt; judged(&rt, entries, &log, 700_000u32.to_be_bytes()) == Finding::Holds);
+    assert!(rt; judged(&rt, entries, &log, [0; 4]) == Finding::NotMet);
 }
 
 type Nothing = SparseLogData<Sum, u8>;
@@ -184,7 +163,7 @@ fn are_not_met<A: Allocator + Copy>(none: A, data: &Nothing) -> bool {
 
 // Other counts of entries are looked at before allocating.
 #[test]
-fn other_counts_without_memory(rt: HostRuntime) -> Result<(), Fail> {
+fn other_counts_without_memory(rt: HostRuntime) {
     let none = Refusing::after(rt.alloc(), 0);
     let data = Nothing::from(Vec::new(rt.alloc()));
     assert!(rt; are_not_met(&none, &data));
@@ -194,5 +173,4 @@ fn other_counts_without_memory(rt: HostRuntime) -> Result<(), Fail> {
         assert!(rt; matches!(finding, Ok(Finding::NotMet)));
     }
     assert!(rt; !none.has_refused());
-    Ok(())
 }
