@@ -224,7 +224,7 @@ class Crate:
         for it, name in (it for found in self.functions.values() for it in found):
             parts = name.split("::")[1:]
             folder = proofs.joinpath(*parts)
-            is_recursive = self.beside(name) or folder.with_name(f"+{it.name}").exists()
+            is_recursive = name in sum(self.cycles.values(), []) or folder.with_name(f"+{it.name}").exists()
             if not is_recursive and not it.is_of_trait and name not in changed:
                 shutil.rmtree(folder, ignore_errors=True)
                 folder.mkdir(parents=True)
