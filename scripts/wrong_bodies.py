@@ -7,10 +7,10 @@ meant. One check of a copy of the crate carries a round of edits, one a proof at
 change alone: a function's proof rests on its callees' contracts and not on their proofs, so a hole stands for that of each
 other function. An edit is refused exactly if the check names an open goal, or an error in the proof files, of the function
 that it changes, or of one in a cycle of calls with it, as these have one proof. What waits for a callee, lacks a name or
-was cut off goes to the next round. An edit that changes more than one function's body goes alone, over the whole crate and
-with no hole, and so does each that no round has judged. What is still let through fails. The libraries below are those that
-rt ci or rt check has left. The edits in wrong-bodies/planted change no meaning, and show that this script can fail: each
-must come out as let through, and one named waits_* must wait, in its first round, for the broken function that it calls.
+was cut off goes to the next round, and what no round has judged goes alone, over the whole crate and with no hole. What is
+still let through fails, and so does an edit that changes no one function. The libraries below are those that rt ci or rt
+check has left. The edits in wrong-bodies/planted change no meaning, and show that this script can fail: each must come out
+as let through, and one named waits_* must wait, in its first round, for the broken function that it calls.
 
 Usage: wrong_bodies.py [--crate NAME] [--only WORD]
 """
@@ -43,9 +43,8 @@ LACKS_A_NAME = re.compile(r"has no field|is not in scope|has no `|was not admitt
 
 @dataclasses.dataclass(eq=False)
 class Edit:
-    """A wrong body: its pairs of texts by file, the names of the functions that have one proof with the one that it changes, if
-    it is one, itself first, the words of its goals' names that it changes, by the folder of the answers, and what its rounds
-    told."""
+    """A wrong body: its pairs of texts by file, the names of the functions that have one proof with the one that it changes,
+    itself first, the words of its goals' names that it changes, by the folder of the answers, and what its rounds told."""
 
     path: pathlib.Path
     pairs: list
@@ -163,7 +162,7 @@ class Check:
 
     def answer_whole(self, edit):
         """Returns what a check of the whole crate with one edit alone says of it."""
-        if self.is_read and (any(map(self.is_broken, self.lines)) or not edit.functions and self.faults):
+        if self.is_read and any(map(self.is_broken, self.lines)):
             return "refused"
         return "proved" if self.is_proved else self.answer(edit)
 
@@ -187,10 +186,10 @@ class Crate:
         found = [read(it) for it in sorted([*self.folder.glob("wrong-bodies/**/*.edit"), *self.folder.glob("must-fail/*.edit")])]
         # Those that are planted come first, into the round of what they wait for.
         self.found = sorted((it for it in found if only in it.path.stem), key=lambda it: not it.is_planted)
-        self.edits = [it for it in self.found if applied(it, self.texts)]
-        for edit in self.edits:
+        for edit in (it for it in self.found if applied(it, self.texts)):
             own = self.function_of(edit)
             edit.functions = [own, *self.beside(own)] if own else []
+        self.edits = [it for it in self.found if it.functions]
 
     def beside(self, name):
         """Returns the functions in a cycle of calls with one, besides itself."""
@@ -255,14 +254,14 @@ class Crate:
     def judge(self, edits):
         """Checks a round, and notes what it tells of each edit. What can't be read goes on by halves, and one edit alone over the
         whole crate."""
-        checked = self.check(edits, is_whole=False) if edits[0].functions else None
+        checked = self.check(edits, is_whole=False)
         if len(edits) > 1 and not checked.is_read:
             half = len(edits) // 2
             self.judge(edits[:half])
             self.judge(edits[half:])
             return
         for edit in edits:
-            edit.told.append(checked.answer(edit) if checked else "")
+            edit.told.append(checked.answer(edit))
         alone = edits[0]
         if len(edits) == 1 and alone.told[-1] not in ("refused", "proved", RENAMED):
             alone.told[-1] = self.check(edits, is_whole=True).answer_whole(alone)
@@ -272,7 +271,7 @@ class Crate:
         taken, seen, texts = [], set(), self.texts
         for edit in edits:
             proof, changed = frozenset(edit.functions), applied(edit, texts)
-            if edit.functions and len(edit.told) < 2 and proof not in seen and changed:
+            if len(edit.told) < 2 and proof not in seen and changed:
                 texts = changed
                 seen.add(proof)
                 taken.append(edit)
@@ -288,7 +287,8 @@ class Crate:
             ended = [it for it in taken if it.told[-1] == "refused" or it.is_planted and it.told[-1] == "proved"]
             ended += taken if len(taken) == 1 and taken[0].told[-1] != RENAMED else []
             left = [it for it in left if it not in ended]
-        faults = [f"{it.path.stem}: an old text doesn't stand in its file as it has to" for it in self.found if it not in self.edits]
+        lost = "an old text doesn't stand in its file as it has to, or isn't of one function"
+        faults = [f"{it.path.stem}: {lost}" for it in self.found if it not in self.edits]
         faults += [f"{it.path.stem}: {it.fault()}" for it in self.edits if it.fault()]
         wrong = [it for it in self.edits if not it.is_planted]
         print(f"{self.name}: {self.refused()} of {len(wrong)} wrong bodies refused, {len(self.edits) - len(wrong)} planted,"
