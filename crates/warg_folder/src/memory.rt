@@ -33,8 +33,10 @@ pub struct MemoryFolder {
 }
 
 impl MemoryFolder {
-    /// An empty folder.
-    pub fn new(alloc: Global) -> Self {
+    /// An empty folder, which no call has changed.
+    pub fn new(alloc: Global) -> Self
+        ensures { result.calls.items ≡ [] }
+    {
         MemoryFolder {
             alloc,
             calls: Vec::new(alloc),
