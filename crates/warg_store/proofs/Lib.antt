@@ -6,6 +6,8 @@ mod PathLemmas
 mod LeadLemmas
 mod StagedLemmas
 mod AuditLemmas
+mod ReadLemmas
+mod ComparedLemmas
 mod GrowingLemmas
 mod CreateLemmas
 mod OpenLemmas

@@ -1,7 +1,7 @@
 //! Older partial tiles and bundles, which stay where a log has grown: each is the beginning of what took its place.
 
 ghost use Rattle.std.specs.Prelude.{◌≡◌};
-ghost use Rattle.warg_folder.specs.Moments.{HasCause, HasCauseOf};
+ghost use Rattle.warg_folder.specs.Moments.{IsRead, HasCause, HasCauseOf};
 
 use crate::edge::{damaged_bundle, entries_of, read_bundle, read_tile};
 use crate::error::LogError;
@@ -34,11 +34,13 @@ impl Newer<'_> {
 }
 
 /// Reads the older partial files in the place of a newer one. `Damaged` names one that isn't a beginning of it.
+#[tactic(auto, using(warg_folder::proofs::ForCallers::read_is))]
 pub(crate) fn compare_older<F: Folder>(
     alloc: Global,
     folder: &mut F,
     newer: &Newer,
 ) -> Result<(), LogError>
+    ensures read { F.IsFaithful → IsRead F.seen F.may_leave F.moment F.left_since folder.old folder.new }
     ensures cause { HasCauseOf (LogError.Folder FolderError.Failed) F.IsFaithful
         (F.faults folder.old) (F.faults folder.new) result }
 {
@@ -50,12 +52,14 @@ pub(crate) fn compare_older<F: Folder>(
 }
 
 // Refuses the file of this name, if it is an older one and isn't a beginning of the newer one.
+#[tactic(auto, using(warg_folder::proofs::ForCallers::read_is))]
 fn compare_named<F: Folder>(
     alloc: Global,
     folder: &mut F,
     name: &str,
     newer: &Newer,
 ) -> Result<(), LogError>
+    ensures read { F.IsFaithful → IsRead F.seen F.may_leave F.moment F.left_since folder.old folder.new }
     ensures cause { HasCauseOf (LogError.Folder FolderError.Failed) F.IsFaithful
         (F.faults folder.old) (F.faults folder.new) result }
 {
@@ -76,12 +80,14 @@ fn compare_named<F: Folder>(
 }
 
 // Refuses a tile that isn't a beginning of a newer one.
+#[tactic(auto, using(warg_folder::proofs::ForCallers::read_by, warg_folder::proofs::ForCallers::read_is))]
 fn compare_older_tile<F: Folder>(
     alloc: Global,
     folder: &mut F,
     tile: Tile,
     newer: &StoredTile<Sha256>,
 ) -> Result<(), LogError>
+    ensures read { F.IsFaithful → IsRead F.seen F.may_leave F.moment F.left_since folder.old folder.new }
     ensures cause { HasCauseOf (LogError.Folder FolderError.Failed) F.IsFaithful
         (F.faults folder.old) (F.faults folder.new) result }
 {
@@ -94,6 +100,7 @@ fn compare_older_tile<F: Folder>(
 }
 
 // Refuses a bundle that isn't a beginning of these entries.
+#[tactic(auto, using(warg_folder::proofs::ForCallers::read_by, warg_folder::proofs::ForCallers::read_is))]
 fn compare_older_bundle<F: Folder>(
     alloc: Global,
     folder: &mut F,
@@ -101,6 +108,7 @@ fn compare_older_bundle<F: Folder>(
     entries: &[Vec<u8>],
 ) -> Result<(), LogError>
     requires { tile.now.level ≡ 0 }
+    ensures read { F.IsFaithful → IsRead F.seen F.may_leave F.moment F.left_since folder.old folder.new }
     ensures cause { HasCauseOf (LogError.Folder FolderError.Failed) F.IsFaithful
         (F.faults folder.old) (F.faults folder.new) result }
 {
@@ -131,11 +139,13 @@ fn is_entry(found: Option<&Vec<u8>>, entry: &[u8]) -> bool {
 }
 
 // The names of the partial files at the place of a full one.
+#[tactic(auto, using(warg_folder::proofs::ForCallers::read_by, warg_folder::proofs::ForCallers::read_is))]
 fn partial_names<F: Folder>(
     alloc: Global,
     folder: &mut F,
     full: String,
 ) -> Result<Vec<String>, FolderError>
+    ensures read { F.IsFaithful → IsRead F.seen F.may_leave F.moment F.left_since folder.old folder.new }
     ensures cause { HasCause F.IsFaithful (F.faults folder.old) (F.faults folder.new) result }
 {
     let mut prefix = full;

@@ -1,0 +1,60 @@
+use Rattle.std.proofs.Common.{◌≡◌, ◌≤◌, ◌*◌, List, [], ℕ, map, min, sym, ap, subst, ◌∙◌, arith}
+use Rattle.std.specs.declared.alloc.Global.{Global}
+use Rattle.warg_crypto.specs.Digests.{sha256}
+use Rattle.warg_crypto.specs.declared.hash.Sha256.{Sha256}
+use Rattle.warg_tiles.specs.Tiles.{TileAt}
+use Rattle.warg_tiles.specs.TileLog.{RightEdge, AreTilesOf, partial_tiles}
+use Rattle.warg_tiles.specs.declared.stored.StoredTile.{StoredTile}
+use Rattle.warg_folder.specs.Files.{Files}
+use Rattle.warg_folder.proofs.ForCallers.{read_is, read_then}
+use Rattle.warg_store.specs.Private.Compared.{HasTiles, HasBundles}
+use Rattle.warg_store.proofs.ComparedLemmas.{none_compared, bundle_next, all_compared}
+use Rattle.warg_store.proofs.auditing.replayed.Goals as goal
+
+pub bundles-init : goal.bundles-init
+bundles-init g c = record {
+  has = ([], c.new-log.ensures.stands);
+  files = λ compare faithful. subst (λ n. HasBundles (g.F.Folder.seen c.args.folder.now) n c.new-log.result)
+      (let none : 0 ≡ min 0 c.args.length = omega arith in none)
+      (none_compared (g.F.Folder.seen c.args.folder.now) c.new-log.result
+      (ap (λ (e : RightEdge). e.taken) c.new-log.ensures.value ∙ sym (ap (λ (e : RightEdge). e.len) c.new-log.ensures.value))
+      c.new-log.ensures.stands);
+  read = λ compare faithful. read_is _ _ _ _ _;
+  faults = omega arith;
+  staging = c.requires.staging;
+}
+
+pub bundles-preserved : goal.bundles-preserved
+bundles-preserved g c = record {
+  has = c.in_ok-replay_bundle.ensures.has;
+  files = λ compare faithful. bundle_next (g.F.Folder.seen c.args.folder.now) (g.F.Folder.seen c.bundles.folder)
+      c.bundles.number c.args.length c.bundles.log c.replay_bundle.new.log
+      (c.bundles.invariant.read compare faithful).found (omega arith)
+      (c.in_ok-replay_bundle.ensures.files compare faithful) (c.bundles.invariant.files compare faithful);
+  read = λ compare faithful. read_then _ _ _ _ _ _ _ (g.met.F.Folder.counts_now c.args.folder.now)
+      (c.bundles.invariant.read compare faithful) (c.replay_bundle.ensures.read compare faithful);
+  faults = omega (arith, c.bundles.invariant.faults, c.replay_bundle.ensures.cause.later);
+  staging = c.in_ok-replay_bundle.ensures.staging;
+}
+
+pub returns-clause-files : goal.returns-clause-files
+returns-clause-files g c = λ compare faithful.
+    let with_digests : StoredTile Sha256 Global → TileAt × List (List ℕ) = λ t. (t.tile, t.digests.items) in
+    all_compared (g.F.Folder.seen c.args.folder.now) (min (256 * c.bundles.number) c.args.length) c.bundles.log
+    (map with_digests c.as_slice.result.now) (omega (arith, c.requires.fits))
+    (λ ds stands. subst (λ (l : List (StoredTile Sha256 Global)). AreTilesOf sha256 ds
+    (partial_tiles c.bundles.log.len) (map with_digests l)) (sym c.as_slice.ensures.value)
+    (c.in_ok-partial.ensures.tiles ds stands))
+    (subst (λ (f : Files). HasTiles f (map with_digests c.as_slice.result.now))
+    (c.bundles.invariant.read compare faithful).found (c.in_ok-use_tiles.ensures.files compare faithful))
+    (c.bundles.invariant.files compare faithful)
+
+pub returns-in_err-use_tiles-clause-read : goal.returns-in_err-use_tiles-clause-read
+returns-in_err-use_tiles-clause-read g c = λ compare faithful.
+    read_then _ _ _ _ _ _ _ (g.met.F.Folder.counts_now c.args.folder.now)
+    (c.bundles.invariant.read compare faithful) (c.use_tiles.ensures.read compare faithful)
+
+pub returns-clause-read : goal.returns-clause-read
+returns-clause-read g c = λ compare faithful.
+    read_then _ _ _ _ _ _ _ (g.met.F.Folder.counts_now c.args.folder.now)
+    (c.bundles.invariant.read compare faithful) (c.use_tiles.ensures.read compare faithful)
