@@ -8,6 +8,7 @@ mod StagedLemmas
 mod AuditLemmas
 mod ReadLemmas
 mod ComparedLemmas
+mod OlderLemmas
 mod GrowingLemmas
 mod CreateLemmas
 mod OpenLemmas

@@ -1,4 +1,4 @@
-use Rattle.std.proofs.Common.{◌≡◌, List, ℕ, Some, ap, subst, ◌∙◌, arith, length, map, take}
+use Rattle.std.proofs.Common.{◌≡◌, List, ℕ, Some, sym, ap, subst, ◌∙◌, arith, length, map, take}
 use Rattle.std.specs.declared.alloc.Global.{Global}
 use Rattle.std.specs.List.{flat_map}
 use Rattle.warg_crypto.specs.declared.hash.Sha256.{Sha256}
@@ -7,6 +7,11 @@ use Rattle.warg_tiles.specs.TilePaths.{tile_path}
 use Rattle.warg_tiles.specs.declared.stored.StoredTile.{StoredTile}
 use Rattle.warg_folder.specs.Files.{Files}
 use Rattle.warg_folder.proofs.ForCallers.{read_is, read_then}
+use Rattle.warg_protobuf.proofs.ForCallers.{all_at}
+use Rattle.warg_store.specs.Private.Compared.{IsWhole, IsOwnTile}
+use Rattle.warg_store.specs.Refusals.{IsNoFault}
+use Rattle.warg_store.proofs.ListLemmas.{all_made}
+use Rattle.warg_store.proofs.WholeLemmas.{err_same}
 use Rattle.warg_store.proofs.ComparedLemmas.{tile_more, tiles_all}
 use Rattle.warg_store.proofs.auditing.compare_tiles.Goals as goal
 
@@ -22,3 +27,14 @@ tiles-preserved g c = record {
       ≡ Some (flat_map (λ digest. digest) c.tile-item.result.digests.items)) (c.tiles.invariant.read faithful).found
       (c.in_ok-compare_tile.ensures.file faithful));
 }
+
+pub returns-in_err-compare_tile-clause-whole : goal.returns-in_err-compare_tile-clause-whole
+returns-in_err-compare_tile-clause-whole g c = λ faithful log whole own.
+    let with_digests : StoredTile Sha256 Global → TileAt × List (List ℕ) = λ t. (t.tile, t.digests.items) in
+    let here : IsOwnTile log (with_digests c.tile-item.result) =
+    subst (λ (t : StoredTile Sha256 Global). IsOwnTile log (with_digests t)) (sym c.tile-item.is)
+    (all_at (λ t. IsOwnTile log (with_digests t)) c.args.tiles.now c.tiles.tile-index c.tile-item.result
+    (all_made (IsOwnTile log) with_digests c.args.tiles.now own) (omega arith)) in
+    err_same (IsNoFault ⊥) c.in_err-compare_tile.field-0.0 c.from_residual.result c.from_residual.ensures.1
+    (c.in_err-compare_tile.ensures.whole faithful log
+    (subst (IsWhole log) (sym (c.tiles.invariant.read faithful).found) whole) here)
