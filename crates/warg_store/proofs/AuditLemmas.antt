@@ -1,19 +1,51 @@
 -- Logs that stand for the leaf digests of some entries.
-use Rattle.std.proofs.Common.{◌≡◌, ℕ, List, [], ◌∷◌, ◌++◌, length, sym, ◌∙◌, subst}
-use Rattle.std.proofs.lemmas.List.{map-append, length-map}
+use Rattle.std.proofs.Common.{◌≡◌, ℕ, List, [], ◌∷◌, ◌++◌, length, map, take, get_or, append_assoc, sym, ap, ◌∙◌, subst, ◌+◌, ◌<◌, Result, Ok, Err}
+use Rattle.std.specs.Result.{OnOk}
+use Rattle.std.proofs.lemmas.List.{map-append, length-map, take_more}
 use Rattle.warg_crypto.specs.Digests.{sha256}
 use Rattle.warg_log.specs.Claims.{RootAndLength}
 use Rattle.warg_log.specs.Tree.{root_of, leaves_of}
 use Rattle.warg_tiles.specs.TileLog.{RightEdge, StandsFor}
 use Rattle.warg_store.specs.Audited.{HasEntries, IsOfEntries}
 
+-- a fact holds where a call is done, too
+pub ok_holds : {T E : Type 0} (r : Result T E) (P : Type 0) → P → OnOk r P
+ok_holds (Ok value) P holds = holds
+ok_holds (Err error) P holds = tt
+
 -- One entry more leaves a log of entries.
 pub one_more : (old new : RightEdge) (entry : List ℕ)
     → ((ds : List (List ℕ)) → StandsFor sha256 old ds → StandsFor sha256 new (ds ++ sha256 (0 ∷ entry) ∷ []))
-    → HasEntries old → HasEntries new
-one_more old new entry stands has =
-    let leaves = map-append (λ (e : List ℕ). sha256 (0 ∷ e)) has.0 (entry ∷ []) in
-    (has.0 ++ entry ∷ [], subst (StandsFor sha256 new) (sym leaves) (stands (leaves_of sha256 has.0) has.1))
+    → (es : List (List ℕ)) → StandsFor sha256 old (leaves_of sha256 es)
+    → StandsFor sha256 new (leaves_of sha256 (es ++ entry ∷ []))
+one_more old new entry stands es was = subst (StandsFor sha256 new)
+    (sym (map-append (λ (e : List ℕ). sha256 (0 ∷ e)) es (entry ∷ [])))
+    (stands (leaves_of sha256 es) was)
+
+-- So do the entries of a list, one after the other.
+pub next_more : {X : Type 0} (entry_of : X → List ℕ) (first old new : RightEdge) (xs : List X) (i : ℕ) (x : X)
+    → i < length xs → x ≡ get_or xs i x
+    → ((es : List (List ℕ)) → StandsFor sha256 first (leaves_of sha256 es)
+    → StandsFor sha256 old (leaves_of sha256 (es ++ map entry_of (take i xs))))
+    → ((es : List (List ℕ)) → StandsFor sha256 old (leaves_of sha256 es)
+    → StandsFor sha256 new (leaves_of sha256 (es ++ entry_of x ∷ [])))
+    → (es : List (List ℕ)) → StandsFor sha256 first (leaves_of sha256 es)
+    → StandsFor sha256 new (leaves_of sha256 (es ++ map entry_of (take (i + 1) xs)))
+next_more {X = X} entry_of first old new xs i x below is so_far more es was =
+    let all : es ++ map entry_of (take (i + 1) xs) ≡ (es ++ map entry_of (take i xs)) ++ entry_of x ∷ [] =
+    ap (λ (l : List X). es ++ map entry_of l) (take_more xs i x below ∙ ap (λ (y : X). take i xs ++ y ∷ []) (sym is))
+    ∙ ap (λ (l : List (List ℕ)). es ++ l) (map-append entry_of (take i xs) (x ∷ []))
+    ∙ sym (append_assoc es (map entry_of (take i xs)) (entry_of x ∷ [])) in
+    subst (λ (l : List (List ℕ)). StandsFor sha256 new (leaves_of sha256 l)) (sym all)
+    (more (es ++ map entry_of (take i xs)) (so_far es was))
+
+-- A log of entries stays one with further ones, and where its full tiles are taken.
+pub entries_more : (old mid new : RightEdge) (more : List (List ℕ))
+    → ((es : List (List ℕ)) → StandsFor sha256 old (leaves_of sha256 es)
+    → StandsFor sha256 mid (leaves_of sha256 (es ++ more)))
+    → ((ds : List (List ℕ)) → StandsFor sha256 mid ds → StandsFor sha256 new ds) → HasEntries old → HasEntries new
+entries_more old mid new more pushed taken has =
+    (has.0 ++ more, taken (leaves_of sha256 (has.0 ++ more)) (pushed has.0 has.1))
 
 -- The checkpoint of a log of entries is theirs.
 pub of_entries : (log : RightEdge) (checkpoint : RootAndLength)

@@ -185,7 +185,7 @@ ground n t level is =
           (div-one n),
     )
 
-from_ground : (n : ℕ) (t : TileAt) → t.level ≡ 0 → 0 < t.width → t.width ≡ min (n - 256 * t.number) 256 → IsTileOf n t
+pub from_ground : (n : ℕ) (t : TileAt) → t.level ≡ 0 → 0 < t.width → t.width ≡ min (n - 256 * t.number) 256 → IsTileOf n t
 from_ground n t level some width =
     let one : 2 ^ (8 * t.level) ≡ 1 = ap (λ l. 2 ^ (8 * l)) level in
     record {

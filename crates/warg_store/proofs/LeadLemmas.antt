@@ -68,7 +68,8 @@ leaves_kept ds more t i inside below =
           (let le : 256 * t.number + i + 1 ≤ 256 * t.number + t.width = omega arith in le),
     )))
 
-digests_kept : (ds more : List (List ℕ)) (t : TileAt) → tile_end t ≤ length ds → tile_digests sha256 (ds ++ more) t
+-- and so are a tile's digests
+pub digests_kept : (ds more : List (List ℕ)) (t : TileAt) → tile_end t ≤ length ds → tile_digests sha256 (ds ++ more) t
     ≡ tile_digests sha256 ds t
 digests_kept ds more t inside =
     map_range (λ i. root_of sha256 (leaves_below (node_in t i) (ds ++ more)))

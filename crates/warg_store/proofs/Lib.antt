@@ -6,6 +6,9 @@ mod PathLemmas
 mod LeadLemmas
 mod StagedLemmas
 mod AuditLemmas
+mod ReadLemmas
+mod ComparedLemmas
+mod OlderLemmas
 mod GrowingLemmas
 mod CreateLemmas
 mod OpenLemmas

@@ -94,7 +94,8 @@ tile_read log t o bytes digests wide is read hashes =
     ∙ (tile_hashed log t o bytes wide is read).0 in
     cc
 
-bundle_size : (entries : List (List ℕ)) → AreShort entries → length (bundle_of entries) ≤ 65537 * length entries
+-- the greatest size of a bundle of short entries
+pub bundle_size : (entries : List (List ℕ)) → AreShort entries → length (bundle_of entries) ≤ 65537 * length entries
 unfolding bundle_of
 bundle_size [] all = omega arith
 bundle_size (entry ∷ entries) all = omega (

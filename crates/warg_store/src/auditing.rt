@@ -1,10 +1,18 @@
 //! Every tile made again from the entries.
 
-ghost use Rattle.std.specs.Prelude.{◌≡◌, ◌*◌, ◌<◌, IfErr, IfOk, OnOk};
-ghost use Rattle.warg_store.specs.Audited.{HasEntries, IsOfEntries};
-ghost use Rattle.warg_folder.specs.Moments.{HasCauseOf};
+ghost use Rattle.std.specs.Prelude.{◌≡◌, ℕ, ◌+◌, ◌*◌, ◌<◌, ◌≤◌, List, [], ◌∷◌, ◌++◌, Some, length, map, take, min, IfErr, IfOk, OnOk};
+ghost use Rattle.std.specs.List.{AllByRecursion, flat_map};
+ghost use Rattle.warg_crypto.specs.Digests.{sha256};
+ghost use Rattle.warg_log.specs.Tree.{root_of, leaves_of};
+ghost use Rattle.warg_tiles.specs.TileLog.{StandsFor};
+ghost use Rattle.warg_tiles.specs.TilePaths.{tile_path};
+ghost use Rattle.warg_store.specs.Audited.{HasEntries, HasOlder, IsOfEntries, ShowsLog};
+ghost use Rattle.warg_store.specs.Log.{LogOf};
+ghost use Rattle.warg_store.specs.Reading.{AreOfLog, bundle_in};
+ghost use Rattle.warg_store.specs.Private.Compared.{HasTiles, HasBundles, HasAllFiles, IsOwnTile, IsWhole};
+ghost use Rattle.warg_folder.specs.Moments.{IsRead, HasCauseOf};
 ghost use Rattle.warg_folder.specs.Commits.{IsStaging};
-ghost use Rattle.warg_store.specs.Refusals.{IsNoFailure};
+ghost use Rattle.warg_store.specs.Refusals.{IsNoFault, IsNoFailure};
 
 use crate::edge::read_tile;
 use crate::error::LogError;
@@ -38,7 +46,12 @@ pub(crate) fn audited<F: Folder, P: Progress>(
     checkpoint: &Checkpoint<Sha256>,
     progress: &mut P,
 ) -> Result<Checkpoint<Sha256>, LogError>
+    requires { checkpoint.now.length ≤ GREATEST_LENGTH }
     ensures entries { IfOk result IsOfEntries }
+    ensures files { F.IsFaithful → IfOk result (ShowsLog (F.seen folder.old)) }
+    ensures whole { F.IsFaithful → (log : LogOf) → AreOfLog log checkpoint.now (F.seen folder.old)
+        → HasOlder log (F.seen folder.old) → IfErr result (IsNoFault ⊥) }
+    ensures read { F.IsFaithful → IsRead F.seen F.may_leave F.moment F.left_since folder.old folder.new }
     ensures cause { HasCauseOf (LogError.Folder FolderError.Failed) F.IsFaithful
         (F.faults folder.old) (F.faults folder.new) result }
 {
@@ -96,6 +109,10 @@ fn same_root(
 ) -> Result<Checkpoint<Sha256>, LogError>
     requires { HasEntries log.now }
     ensures entries { IfOk result IsOfEntries }
+    ensures same { IfOk result (λ found. (ds : List (List ℕ)) → StandsFor sha256 log.now ds
+        → (found.length ≡ length ds) × (found.root ≡ root_of sha256 ds)) }
+    ensures whole { (ds : List (List ℕ)) → StandsFor sha256 log.now ds → checkpoint.now.length ≡ length ds
+        → checkpoint.now.root ≡ root_of sha256 ds → IfErr result (IsNoFault ⊥) }
     ensures other { IfErr result IsNoFailure }
 {
     let found = log.checkpoint();
@@ -110,20 +127,31 @@ fn same_root(
 fn replayed<F: Folder, P: Progress>(
     alloc: Global,
     folder: &mut F,
-    length: usize,
+    log_length: usize,
     use_as: Use,
     progress: &mut P,
 ) -> Result<TileLog<Sha256, Vec<u8>>, LogError>
-    requires { use_as ≡ Use.Stage → F.IsFaithful → IsStaging (F.seen folder.old) (F.may_leave folder.old) }
+    requires fits { log_length ≤ GREATEST_LENGTH }
+    requires staging { use_as ≡ Use.Stage → F.IsFaithful → IsStaging (F.seen folder.old) (F.may_leave folder.old) }
     ensures has { IfOk result HasEntries }
+    ensures files { use_as ≡ Use.Compare → F.IsFaithful → IfOk result (HasAllFiles (F.seen folder.old)) }
+    ensures own { use_as ≡ Use.Compare → F.IsFaithful → IfOk result (λ log. (kept : LogOf)
+        → IsWhole kept (F.seen folder.old) → length kept.entries ≡ log_length
+        → StandsFor sha256 log (leaves_of sha256 kept.entries)) }
+    ensures whole { use_as ≡ Use.Compare → F.IsFaithful → (kept : LogOf) → IsWhole kept (F.seen folder.old)
+        → length kept.entries ≡ log_length → IfErr result (IsNoFault ⊥) }
+    ensures read { use_as ≡ Use.Compare → F.IsFaithful
+        → IsRead F.seen F.may_leave F.moment F.left_since folder.old folder.new }
     ensures staging { use_as ≡ Use.Stage → F.IsFaithful
         → OnOk result (IsStaging (F.seen folder.new) (F.may_leave folder.new)) }
     ensures cause { HasCauseOf (LogError.Folder FolderError.Failed) F.IsFaithful
         (F.faults folder.old) (F.faults folder.new) result }
 {
     let mut log = TileLog::new(alloc);
-    'bundles: for number in 0..length.div_ceil(256) {
-        replay_bundle(alloc, folder, &mut log, length, number, use_as, progress)?;
+    'bundles: for number in 0..log_length.div_ceil(256) {
+        replay_bundle(
+            alloc, folder, &mut log, log_length, number, use_as, progress,
+        )?;
     }
     use_tiles(alloc, folder, use_as, log.partial(alloc)?.as_slice())?;
     Ok(log)
@@ -134,21 +162,33 @@ fn replay_bundle<F: Folder, P: Progress>(
     alloc: Global,
     folder: &mut F,
     log: &mut TileLog<Sha256, Vec<u8>>,
-    length: usize,
+    log_length: usize,
     number: usize,
     use_as: Use,
     progress: &mut P,
 ) -> Result<(), LogError>
-    requires inside { 256 * number < length }
+    requires inside { 256 * number < log_length }
+    requires fits { log_length ≤ GREATEST_LENGTH }
     requires has { HasEntries log.old }
     requires staging { use_as ≡ Use.Stage → F.IsFaithful → IsStaging (F.seen folder.old) (F.may_leave folder.old) }
     ensures has { OnOk result (HasEntries log.new) }
+    ensures files { use_as ≡ Use.Compare → F.IsFaithful → OnOk result (
+        HasBundles (F.seen folder.old) (256 * number) log.old
+        → HasBundles (F.seen folder.old) (min (256 * number + 256) log_length) log.new) }
+    ensures own { F.IsFaithful → OnOk result ((kept : LogOf) → IsWhole kept (F.seen folder.old)
+        → length kept.entries ≡ log_length → StandsFor sha256 log.old (leaves_of sha256 (take (256 * number) kept.entries))
+        → StandsFor sha256 log.new (leaves_of sha256 (take (256 * number + 256) kept.entries))) }
+    ensures whole { use_as ≡ Use.Compare → F.IsFaithful → (kept : LogOf) → IsWhole kept (F.seen folder.old)
+        → length kept.entries ≡ log_length → StandsFor sha256 log.old (leaves_of sha256 (take (256 * number) kept.entries))
+        → IfErr result (IsNoFault ⊥) }
+    ensures read { use_as ≡ Use.Compare → F.IsFaithful
+        → IsRead F.seen F.may_leave F.moment F.left_since folder.old folder.new }
     ensures staging { use_as ≡ Use.Stage → F.IsFaithful
         → OnOk result (IsStaging (F.seen folder.new) (F.may_leave folder.new)) }
     ensures cause { HasCauseOf (LogError.Folder FolderError.Failed) F.IsFaithful
         (F.faults folder.old) (F.faults folder.new) result }
 {
-    let entries = read_entries(alloc, folder, number, length)?;
+    let entries = read_entries(alloc, folder, number, log_length)?;
     push_all(log, entries.as_slice(), progress)?;
     use_bundle(alloc, folder, use_as, number, entries.as_slice())?;
     use_tiles(alloc, folder, use_as, log.take_full().as_slice())
@@ -160,8 +200,10 @@ fn push_all<P: Progress>(
     entries: &[Vec<u8>],
     progress: &mut P,
 ) -> Result<(), LogError>
-    requires { HasEntries log.old }
-    ensures has { OnOk result (HasEntries log.new) }
+    ensures pushed { OnOk result ((es : List (List ℕ)) → StandsFor sha256 log.old (leaves_of sha256 es)
+        → StandsFor sha256 log.new (leaves_of sha256 (es ++ map (λ e. e.items) entries.now))) }
+    ensures taken { log.new.taken ≡ log.old.taken }
+    ensures memory { IfErr result (IsNoFault ⊥) }
     ensures other { IfErr result IsNoFailure }
 {
     'entries: for entry in entries {
@@ -173,8 +215,9 @@ fn push_all<P: Progress>(
 
 // Adds an entry to a log.
 fn push_one(log: &mut TileLog<Sha256, Vec<u8>>, entry: &Vec<u8>) -> Result<(), FolderError>
-    requires { HasEntries log.old }
-    ensures has { OnOk result (HasEntries log.new) }
+    ensures pushed { OnOk result ((es : List (List ℕ)) → StandsFor sha256 log.old (leaves_of sha256 es)
+        → StandsFor sha256 log.new (leaves_of sha256 (es ++ entry.now.items ∷ []))) }
+    ensures taken { log.new.taken ≡ log.old.taken }
     ensures memory { IfErr result (λ error. error ≡ FolderError.Memory) }
 {
     if log.length() >= GREATEST_LENGTH {
@@ -185,6 +228,7 @@ fn push_one(log: &mut TileLog<Sha256, Vec<u8>>, entry: &Vec<u8>) -> Result<(), F
 }
 
 // Compares the older partial bundles at the place of one, where tiles are compared.
+#[tactic(auto, using(warg_folder::proofs::ForCallers::read_is))]
 fn use_bundle<F: Folder>(
     alloc: Global,
     folder: &mut F,
@@ -193,6 +237,10 @@ fn use_bundle<F: Folder>(
     entries: &[Vec<u8>],
 ) -> Result<(), LogError>
     requires { use_as ≡ Use.Stage → F.IsFaithful → IsStaging (F.seen folder.old) (F.may_leave folder.old) }
+    ensures whole { use_as ≡ Use.Compare → F.IsFaithful → (kept : LogOf) → IsWhole kept (F.seen folder.old)
+        → map (λ e. e.items) entries.now ≡ bundle_in kept number → IfErr result (IsNoFault ⊥) }
+    ensures read { use_as ≡ Use.Compare → F.IsFaithful
+        → IsRead F.seen F.may_leave F.moment F.left_since folder.old folder.new }
     ensures staging { use_as ≡ Use.Stage → F.IsFaithful
         → OnOk result (IsStaging (F.seen folder.new) (F.may_leave folder.new)) }
     ensures cause { HasCauseOf (LogError.Folder FolderError.Failed) F.IsFaithful
@@ -205,6 +253,7 @@ fn use_bundle<F: Folder>(
 }
 
 // Compares tiles with their files, or stages them.
+#[tactic(auto, using(warg_folder::proofs::ForCallers::read_is))]
 fn use_tiles<F: Folder>(
     alloc: Global,
     folder: &mut F,
@@ -212,6 +261,13 @@ fn use_tiles<F: Folder>(
     tiles: &[StoredTile<Sha256>],
 ) -> Result<(), LogError>
     requires { use_as ≡ Use.Stage → F.IsFaithful → IsStaging (F.seen folder.old) (F.may_leave folder.old) }
+    ensures files { use_as ≡ Use.Compare → F.IsFaithful → OnOk result
+        (HasTiles (F.seen folder.old) (map (λ t. (t.tile, t.digests.items)) tiles.now)) }
+    ensures whole { use_as ≡ Use.Compare → F.IsFaithful → (kept : LogOf) → IsWhole kept (F.seen folder.old)
+        → AllByRecursion (IsOwnTile kept) (map (λ t. (t.tile, t.digests.items)) tiles.now)
+        → IfErr result (IsNoFault ⊥) }
+    ensures read { use_as ≡ Use.Compare → F.IsFaithful
+        → IsRead F.seen F.may_leave F.moment F.left_since folder.old folder.new }
     ensures staging { use_as ≡ Use.Stage → F.IsFaithful
         → OnOk result (IsStaging (F.seen folder.new) (F.may_leave folder.new)) }
     ensures cause { HasCauseOf (LogError.Folder FolderError.Failed) F.IsFaithful
@@ -228,6 +284,12 @@ fn compare_tiles<F: Folder>(
     folder: &mut F,
     tiles: &[StoredTile<Sha256>],
 ) -> Result<(), LogError>
+    ensures files { F.IsFaithful → OnOk result
+        (HasTiles (F.seen folder.old) (map (λ t. (t.tile, t.digests.items)) tiles.now)) }
+    ensures whole { F.IsFaithful → (log : LogOf) → IsWhole log (F.seen folder.old)
+        → AllByRecursion (IsOwnTile log) (map (λ t. (t.tile, t.digests.items)) tiles.now)
+        → IfErr result (IsNoFault ⊥) }
+    ensures read { F.IsFaithful → IsRead F.seen F.may_leave F.moment F.left_since folder.old folder.new }
     ensures cause { HasCauseOf (LogError.Folder FolderError.Failed) F.IsFaithful
         (F.faults folder.old) (F.faults folder.new) result }
 {
@@ -238,11 +300,17 @@ fn compare_tiles<F: Folder>(
 }
 
 // Refuses a tile's file that hasn't its digests, and an older partial one that isn't a beginning of it.
+#[tactic(auto, using(warg_folder::proofs::ForCallers::read_by, warg_folder::proofs::ForCallers::read_is))]
 fn compare_tile<F: Folder>(
     alloc: Global,
     folder: &mut F,
     stored: &StoredTile<Sha256>,
 ) -> Result<(), LogError>
+    ensures file { F.IsFaithful → OnOk result (F.seen folder.old (tile_path stored.now.tile)
+        ≡ Some (flat_map (λ digest. digest) stored.now.digests.items)) }
+    ensures whole { F.IsFaithful → (log : LogOf) → IsWhole log (F.seen folder.old)
+        → IsOwnTile log (stored.now.tile, stored.now.digests.items) → IfErr result (IsNoFault ⊥) }
+    ensures read { F.IsFaithful → IsRead F.seen F.may_leave F.moment F.left_since folder.old folder.new }
     ensures cause { HasCauseOf (LogError.Folder FolderError.Failed) F.IsFaithful
         (F.faults folder.old) (F.faults folder.new) result }
 {

@@ -1,6 +1,7 @@
 //! The right edge of a log that a folder keeps: its partial tiles and its last bundle.
 
 ghost use Rattle.std.specs.Prelude.{◌≡◌, ◌*◌, ◌/◌, ◌≤◌, length, map, drop, true, Some, IfOk, IfErr, OnOk, option_copied};
+ghost use Rattle.std.specs.List.{flat_map};
 ghost use Rattle.warg_crypto.specs.Digests.{sha256};
 ghost use Rattle.warg_crypto.specs.Tree.{leaf_digest};
 ghost use Rattle.warg_log.specs.Tree.{leaves_of};
@@ -41,11 +42,14 @@ pub(crate) fn read_tile<F: Folder>(
     ensures read { F.IsFaithful → IfOk result (λ read. (log : LogOf)
         → F.seen folder.old (tile_path tile) ≡ Some (tile_bytes log tile)
         → read.digests.items ≡ tile_digests sha256 (leaves_of sha256 log.entries) tile) }
+    ensures file { F.IsFaithful → IfOk result (λ read. F.seen folder.old (tile_path tile)
+        ≡ Some (flat_map (λ digest. digest) read.digests.items)) }
     ensures tile { IfOk result (λ read. read.tile ≡ tile) }
     ensures whole { F.IsFaithful → (log : LogOf)
         → F.seen folder.old (tile_path tile) ≡ Some (tile_bytes log tile) → IfErr result (IsNoFault ⊥) }
     ensures seen { F.IsFaithful → F.seen folder.new ≡ F.seen folder.old }
     ensures crash { F.IsFaithful → Within (F.may_leave folder.old) (F.may_leave folder.new) }
+    ensures time { F.IsFaithful → Elapses F.moment F.left_since F.may_leave folder.old folder.new }
     ensures any_moment { F.IsFaithful
         → OnOk result (LeavesOnly F.moment F.left_since folder.old folder.new (F.may_leave folder.old)) }
     ensures ready { F.IsFaithful → IsStaging (F.seen folder.old) (F.may_leave folder.old)
@@ -155,6 +159,8 @@ pub(crate) fn read_bundle<F: Folder>(
         → AreShort log.entries → tile.now.width ≤ 256
         → F.seen folder.old (entries_path tile.now) ≡ Some (bundle_bytes log tile.now)
         → read.items ≡ bundle_bytes log tile.now) }
+    ensures file { F.IsFaithful → IfOk result (λ read. length read.items ≤ 256 * 65537
+        → F.seen folder.old (entries_path tile.now) ≡ Some read.items) }
     ensures whole { F.IsFaithful → (log : LogOf)
         → F.seen folder.old (entries_path tile.now) ≡ Some (bundle_bytes log tile.now)
         → IfErr result (IsNoFault ⊥) }
@@ -184,6 +190,7 @@ pub(crate) fn entries_of<'a>(
     requires { tile.now.level ≡ 0 }
     ensures entries { IfOk result (λ entries. bytes.now ≡ bundle_of (map (λ e. e.now) entries.items)) }
     ensures count { IfOk result (λ entries. length entries.items ≡ tile.now.width) }
+    ensures short { IfOk result (λ entries. AreShort (map (λ e. e.now) entries.items)) }
     ensures whole { (log : LogOf) → AreShort log.entries → IsBundleIn log tile.now
         → bytes.now ≡ bundle_bytes log tile.now → IfErr result (IsNoFault ⊥) }
     ensures other { IfErr result IsNoFailure }

@@ -1,14 +1,21 @@
 //! Older partial tiles and bundles, which stay where a log has grown: each is the beginning of what took its place.
 
-ghost use Rattle.std.specs.Prelude.{◌≡◌};
-ghost use Rattle.warg_folder.specs.Moments.{HasCause, HasCauseOf};
+ghost use Rattle.std.specs.Prelude.{◌≡◌, ◌<◌, ◌≤◌, length, map, true, Some, IsSome, IfOk, IfErr, All, string_bytes};
+ghost use Rattle.warg_tiles.specs.EntryBundles.{bundle_of};
+ghost use Rattle.warg_tiles.specs.TilePaths.{tile_path, entries_path};
+ghost use Rattle.warg_store.specs.Audited.{HasOlder};
+ghost use Rattle.warg_store.specs.Log.{LogOf, AreShort, tile_bytes, bundle_bytes};
+ghost use Rattle.warg_store.specs.Private.Compared.{IsOwnTile, IsPartOf};
+ghost use Rattle.warg_store.specs.Reading.{bundle_in};
+ghost use Rattle.warg_store.specs.Refusals.{IsNoFault};
+ghost use Rattle.warg_folder.specs.Moments.{IsRead, HasCause, HasCauseOf};
 
-use crate::edge::{damaged_bundle, entries_of, read_bundle, read_tile};
+use crate::edge::{damaged_bundle, read_bundle, read_tile};
 use crate::error::LogError;
 use std::alloc::{AllocError, Global};
 use warg_crypto::Sha256;
 use warg_folder::{Folder, FolderError};
-use warg_tiles::{StoredTile, Tile};
+use warg_tiles::{EntryError, StoredTile, Tile, write_entries};
 
 // What is wrong with an older file.
 const NO_BEGINNING: &str = "isn't the beginning of the file that took its place";
@@ -34,11 +41,15 @@ impl Newer<'_> {
 }
 
 /// Reads the older partial files in the place of a newer one. `Damaged` names one that isn't a beginning of it.
+#[tactic(auto, using(warg_folder::proofs::ForCallers::read_is))]
 pub(crate) fn compare_older<F: Folder>(
     alloc: Global,
     folder: &mut F,
     newer: &Newer,
 ) -> Result<(), LogError>
+    ensures whole { F.IsFaithful → (log : LogOf) → AreShort log.entries → IsPartOf log newer.now
+        → HasOlder log (F.seen folder.old) → IfErr result (IsNoFault ⊥) }
+    ensures read { F.IsFaithful → IsRead F.seen F.may_leave F.moment F.left_since folder.old folder.new }
     ensures cause { HasCauseOf (LogError.Folder FolderError.Failed) F.IsFaithful
         (F.faults folder.old) (F.faults folder.new) result }
 {
@@ -50,24 +61,28 @@ pub(crate) fn compare_older<F: Folder>(
 }
 
 // Refuses the file of this name, if it is an older one and isn't a beginning of the newer one.
+#[tactic(auto, using(warg_folder::proofs::ForCallers::read_is))]
 fn compare_named<F: Folder>(
     alloc: Global,
     folder: &mut F,
     name: &str,
     newer: &Newer,
 ) -> Result<(), LogError>
+    ensures whole { F.IsFaithful → (log : LogOf) → AreShort log.entries → IsPartOf log newer.now
+        → HasOlder log (F.seen folder.old) → IsSome (F.seen folder.old name.now) → IfErr result (IsNoFault ⊥) }
+    ensures read { F.IsFaithful → IsRead F.seen F.may_leave F.moment F.left_since folder.old folder.new }
     ensures cause { HasCauseOf (LogError.Folder FolderError.Failed) F.IsFaithful
         (F.faults folder.old) (F.faults folder.new) result }
 {
     match newer {
         Newer::Tile(newer) => match Tile::from_path(name) {
-            Ok(tile) if tile.width() < newer.tile.width() => {
+            Ok(tile) if is_older(&tile, &newer.tile) => {
                 compare_older_tile(alloc, folder, tile, newer)
             }
             _ => Ok(()),
         },
-        Newer::Bundle(_, entries) => match Tile::from_entries_path(name) {
-            Ok(tile) if tile.width() < entries.len() => {
+        Newer::Bundle(number, entries) => match Tile::from_entries_path(name) {
+            Ok(tile) if tile.number() == *number && tile.width() < entries.len() => {
                 compare_older_bundle(alloc, folder, &tile, entries)
             }
             _ => Ok(()),
@@ -75,13 +90,26 @@ fn compare_named<F: Folder>(
     }
 }
 
+// Whether a tile has fewer digests than another one in its place.
+fn is_older(tile: &Tile, newer: &Tile) -> bool
+    ensures { result ≡ true → (tile.now.level ≡ newer.now.level) × (tile.now.number ≡ newer.now.number)
+        × (tile.now.width < newer.now.width) }
+{
+    tile.level() == newer.level() && tile.number() == newer.number() && tile.width() < newer.width()
+}
+
 // Refuses a tile that isn't a beginning of a newer one.
+#[tactic(auto, using(warg_folder::proofs::ForCallers::read_by, warg_folder::proofs::ForCallers::read_is))]
 fn compare_older_tile<F: Folder>(
     alloc: Global,
     folder: &mut F,
     tile: Tile,
     newer: &StoredTile<Sha256>,
 ) -> Result<(), LogError>
+    ensures whole { F.IsFaithful → (log : LogOf) → IsOwnTile log (newer.now.tile, newer.now.digests.items)
+        → tile.level ≡ newer.now.tile.level → tile.number ≡ newer.now.tile.number → tile.width < newer.now.tile.width
+        → F.seen folder.old (tile_path tile) ≡ Some (tile_bytes log tile) → IfErr result (IsNoFault ⊥) }
+    ensures read { F.IsFaithful → IsRead F.seen F.may_leave F.moment F.left_since folder.old folder.new }
     ensures cause { HasCauseOf (LogError.Folder FolderError.Failed) F.IsFaithful
         (F.faults folder.old) (F.faults folder.new) result }
 {
@@ -94,48 +122,53 @@ fn compare_older_tile<F: Folder>(
 }
 
 // Refuses a bundle that isn't a beginning of these entries.
+#[tactic(auto, using(warg_folder::proofs::ForCallers::read_by, warg_folder::proofs::ForCallers::read_is))]
 fn compare_older_bundle<F: Folder>(
     alloc: Global,
     folder: &mut F,
     tile: &Tile,
     entries: &[Vec<u8>],
 ) -> Result<(), LogError>
-    requires { tile.now.level ≡ 0 }
+    requires level { tile.now.level ≡ 0 }
+    requires less { tile.now.width ≤ length entries.now }
+    ensures whole { F.IsFaithful → (log : LogOf) → AreShort log.entries
+        → map (λ e. e.items) entries.now ≡ bundle_in log tile.now.number
+        → F.seen folder.old (entries_path tile.now) ≡ Some (bundle_bytes log tile.now)
+        → IfErr result (IsNoFault ⊥) }
+    ensures read { F.IsFaithful → IsRead F.seen F.may_leave F.moment F.left_since folder.old folder.new }
     ensures cause { HasCauseOf (LogError.Folder FolderError.Failed) F.IsFaithful
         (F.faults folder.old) (F.faults folder.new) result }
 {
-    let bytes = read_bundle(alloc, folder, tile)?;
-    let older = entries_of(alloc, tile, bytes.as_slice())?;
-    if begin_with(entries, older.as_slice()) {
+    let found = read_bundle(alloc, folder, tile)?;
+    if is_bundle(alloc, found.as_slice(), &entries[..tile.width()])? {
         return Ok(());
     }
     Err(damaged_bundle(alloc, tile, NO_BEGINNING))
 }
 
-// Whether entries begin with older ones.
-fn begin_with(entries: &[Vec<u8>], older: &[&[u8]]) -> bool {
-    'older: for (place, entry) in older.iter().enumerate() {
-        if !is_entry(entries.get(place), entry) {
-            return false;
-        }
-    }
-    true
-}
-
-// Whether an entry is there and is this one.
-fn is_entry(found: Option<&Vec<u8>>, entry: &[u8]) -> bool {
-    match found {
-        Some(found) => found.as_slice() == entry,
-        None => false,
+// Whether bytes are those of the bundle of these entries.
+fn is_bundle(alloc: Global, bytes: &[u8], entries: &[Vec<u8>]) -> Result<bool, FolderError>
+    ensures is { IfOk result (λ is. AreShort (map (λ e. e.items) entries.now)
+        → bytes.now ≡ bundle_of (map (λ e. e.items) entries.now) → is ≡ true) }
+    ensures memory { IfErr result (λ error. error ≡ FolderError.Memory) }
+{
+    match write_entries(alloc, entries) {
+        Ok(bundle) => Ok(bytes == bundle.as_slice()),
+        Err(EntryError::TooLong) => Ok(false),
+        Err(EntryError::Memory) => Err(FolderError::Memory),
     }
 }
 
 // The names of the partial files at the place of a full one.
+#[tactic(auto, using(warg_folder::proofs::ForCallers::read_by, warg_folder::proofs::ForCallers::read_is))]
 fn partial_names<F: Folder>(
     alloc: Global,
     folder: &mut F,
     full: String,
 ) -> Result<Vec<String>, FolderError>
+    ensures there { F.IsFaithful → IfOk result
+        (λ names. All (λ name. IsSome (F.seen folder.old (string_bytes name))) names.items) }
+    ensures read { F.IsFaithful → IsRead F.seen F.may_leave F.moment F.left_since folder.old folder.new }
     ensures cause { HasCause F.IsFaithful (F.faults folder.old) (F.faults folder.new) result }
 {
     let mut prefix = full;

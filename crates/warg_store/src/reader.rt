@@ -2,7 +2,7 @@
 
 ghost use Rattle.std.specs.Prelude.{◌≡◌, ◌⊎◌, ◌+◌, ◌-◌, ◌*◌, ◌<◌, ◌≤◌, length, map, take, min, Some, None, IsErrAnd, IfOk, IfErr, OnOk, MatchResult, option_map, slice_get};
 ghost use Rattle.warg_tiles.specs.CheckpointText.{Said, text_of};
-ghost use Rattle.warg_store.specs.Audited.{IsOfEntries};
+ghost use Rattle.warg_store.specs.Audited.{HasOlder, IsOfEntries, ShowsLog};
 ghost use Rattle.warg_store.specs.Log.{LogOf, HasLog, Serves, IsOneOf};
 ghost use Rattle.warg_folder.specs.Moments.{IsRead, HasCause, HasCauseOf, HasLostCause};
 ghost use Rattle.warg_folder.specs.Names.{checkpoint, page_name};
@@ -241,6 +241,12 @@ impl<F: Folder + Drop> LogReader<F> {
     /// As [`LogFolder::audit`], of the checkpoint.
     pub fn audit<P: Progress>(&mut self, progress: &mut P) -> Result<Checkpoint<Sha256>, LogError>
         ensures entries { IfOk result IsOfEntries }
+        ensures files { F.IsFaithful → IfOk result (ShowsLog (F.seen self.old.folder)) }
+        ensures whole { F.IsFaithful → (log : LogOf) → Reads F.seen log self.old
+            → HasOlder log (F.seen self.old.folder) → IfErr result (IsNoFault ⊥) }
+        ensures same { self.new ≡ record self.old { folder = self.new.folder } }
+        ensures read { F.IsFaithful
+            → IsRead F.seen F.may_leave F.moment F.left_since self.old.folder self.new.folder }
         ensures cause { HasCauseOf (LogError.Folder FolderError.Failed) F.IsFaithful
             (F.faults self.old.folder) (F.faults self.new.folder) result }
     {

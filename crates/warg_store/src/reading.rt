@@ -7,8 +7,11 @@ ghost use Rattle.warg_log.specs.Ranges.{leaves_from};
 ghost use Rattle.warg_log.specs.Tree.{root_of, leaves_of};
 ghost use Rattle.warg_log.specs.Walks.{IsKnown, needed, needed_between};
 ghost use Rattle.warg_paths.specs.Paths.{consistency_roots};
+ghost use Rattle.warg_tiles.specs.Between.{filled};
+ghost use Rattle.warg_tiles.specs.EntryBundles.{bundle_of};
 ghost use Rattle.warg_tiles.specs.TileData.{digest_by};
-ghost use Rattle.warg_store.specs.Audited.{IsOfEntries};
+ghost use Rattle.warg_tiles.specs.TilePaths.{entries_path};
+ghost use Rattle.warg_store.specs.Audited.{HasOlder, IsOfEntries, ShowsLog};
 ghost use Rattle.warg_store.specs.Growing.{Has};
 ghost use Rattle.warg_store.specs.Log.{LogOf, AreShort, HasFiles};
 ghost use Rattle.warg_folder.specs.Moments.{Within, Elapses, IsRead, HasCauseOf};
@@ -94,9 +97,16 @@ impl<F: Folder + Drop> LogFolder<F> {
 
     /// Reads every entry that the log keeps, makes each tile again, and compares, also with the partial tiles and bundles of older
     /// lengths that are still there. `Damaged` names the first file that differs. A checkpoint that passes is that of entries:
-    /// those that were read.
+    /// those that were read, and the folder has each tile and bundle of them. Where no file differs, it fails only if memory is
+    /// refused or the device fails. It changes nothing.
     pub fn audit<P: Progress>(&mut self, progress: &mut P) -> Result<Checkpoint<Sha256>, LogError>
         ensures entries { IfOk result IsOfEntries }
+        ensures files { F.IsFaithful → IfOk result (ShowsLog (F.seen self.old.folder)) }
+        ensures whole { F.IsFaithful → (served old next : LogOf) → Has F.seen F.may_leave served old next self.old
+            → HasOlder old (F.seen self.old.folder) → IfErr result (IsNoFault ⊥) }
+        ensures same { self.new ≡ record self.old { folder = self.new.folder } }
+        ensures read { F.IsFaithful
+            → IsRead F.seen F.may_leave F.moment F.left_since self.old.folder self.new.folder }
         ensures cause { HasCauseOf (LogError.Folder FolderError.Failed) F.IsFaithful
             (F.faults self.old.folder) (F.faults self.new.folder) result }
     {
@@ -177,6 +187,9 @@ pub(crate) fn read_entries<F: Folder>(
     ensures own { F.IsFaithful → IfOk result (λ entries. (log : LogOf) → HasFiles log (F.seen folder.old)
         → AreShort log.entries → length log.entries ≡ log_length
         → map (λ e. e.items) entries.items ≡ bundle_in log bundle) }
+    ensures file { F.IsFaithful → IfOk result (λ entries. F.seen folder.old (entries_path (filled 0 log_length bundle))
+        ≡ Some (bundle_of (map (λ e. e.items) entries.items))) }
+    ensures short { IfOk result (λ entries. AreShort (map (λ e. e.items) entries.items)) }
     ensures whole { F.IsFaithful → (log : LogOf) → HasFiles log (F.seen folder.old)
         → AreShort log.entries → length log.entries ≡ log_length → IfErr result (IsNoFault ⊥) }
     ensures read { F.IsFaithful → IsRead F.seen F.may_leave F.moment F.left_since folder.old folder.new }

@@ -1,11 +1,13 @@
-use Rattle.std.proofs.Common.{◌≡◌, ◌+◌, ℕ, length, take, Vec, Global, Some, None, Err, sym, ap, ◌∙◌, arith}
+use Rattle.std.proofs.Common.{◌≡◌, ◌+◌, ℕ, length, take, Vec, Global, Some, List, None, Err, sym, ap, ◌∙◌, arith}
 use Rattle.std.specs.Prelude.{option_map}
+use Rattle.std.specs.List.{flat_map}
 use Rattle.warg_crypto.specs.Digests.{sha256}
 use Rattle.warg_log.specs.Tree.{leaves_of}
 use Rattle.warg_paths.specs.Pieces.{hashes_of}
 use Rattle.warg_tiles.specs.TileLog.{tile_digests}
 use Rattle.warg_tiles.specs.TilePaths.{tile_path}
 use Rattle.warg_store.proofs.OpenLemmas.{tile_read, tile_hashed}
+use Rattle.warg_store.proofs.ReadLemmas.{tile_whole}
 use Rattle.warg_folder.proofs.ForCallers.{begins}
 use Rattle.warg_store.proofs.edge.read_tile.Goals as goal
 
@@ -45,3 +47,13 @@ pub returns-clause-any_moment : goal.returns-clause-any_moment
 returns-clause-any_moment g c = λ faithful.
     begins _ _ _ _ _ _ (g.met.F.Folder.only_now c.args.folder.now) (c.read.ensures.time faithful) (λ e was. was)
     (c.read.ensures.crash faithful)
+
+pub returns-clause-file : goal.returns-clause-file
+returns-clause-file g c = λ faithful.
+    let path : c.as_str.result.now ≡ tile_path c.args.tile = c.as_str.ensures.value ∙ c.in_ok-path.ensures in
+    tile_whole (g.F.Folder.seen c.args.folder.now (tile_path c.args.tile)) c.in-Some.bytes.items c.in-Ok.digests.items
+    (sym (ap (option_map (λ (v : Vec ℕ Global). v.items)) c.in-Some.is) ∙ c.in_ok-bytes.ensures.found faithful
+    ∙ ap (λ n. option_map (take (8192 + 1)) (g.F.Folder.seen c.args.folder.now n)) path)
+    (ap hashes_of (sym c.as_slice.ensures.value) ∙ c.in-Ok.ensures.ok)
+    (omega (arith, c.if-len-width.false, c.len.ensures, c.width-width.ensures.most))
+    ∙ ap (λ (ds : List (List ℕ)). Some (flat_map (λ digest. digest) ds)) (sym c.new.ensures.digests)

@@ -1,0 +1,40 @@
+use Rattle.std.proofs.Common.{◌≡◌, List, ℕ, Some, sym, ap, subst, ◌∙◌, arith, length, map, take}
+use Rattle.std.specs.declared.alloc.Global.{Global}
+use Rattle.std.specs.List.{flat_map}
+use Rattle.warg_crypto.specs.declared.hash.Sha256.{Sha256}
+use Rattle.warg_tiles.specs.Tiles.{TileAt}
+use Rattle.warg_tiles.specs.TilePaths.{tile_path}
+use Rattle.warg_tiles.specs.declared.stored.StoredTile.{StoredTile}
+use Rattle.warg_folder.specs.Files.{Files}
+use Rattle.warg_folder.proofs.ForCallers.{read_is, read_then}
+use Rattle.warg_protobuf.proofs.ForCallers.{all_at}
+use Rattle.warg_store.specs.Private.Compared.{IsWhole, IsOwnTile}
+use Rattle.warg_store.specs.Refusals.{IsNoFault}
+use Rattle.warg_store.proofs.ListLemmas.{all_made}
+use Rattle.warg_store.proofs.WholeLemmas.{err_same}
+use Rattle.warg_store.proofs.ComparedLemmas.{tile_more, tiles_all}
+use Rattle.warg_store.proofs.auditing.compare_tiles.Goals as goal
+
+pub tiles-preserved : goal.tiles-preserved
+tiles-preserved g c = record {
+  faults = omega (arith, c.tiles.invariant.faults, c.compare_tile.ensures.cause.later);
+  read = λ faithful. read_then _ _ _ _ _ _ _ (g.met.F.Folder.counts_now c.args.folder.now) (c.tiles.invariant.read faithful)
+      (c.compare_tile.ensures.read faithful);
+  files = λ faithful. tile_more (λ (t : StoredTile Sha256 Global). (t.tile, t.digests.items))
+      (g.F.Folder.seen c.args.folder.now) c.args.tiles.now c.tiles.tile-index c.tile-item.result (omega arith)
+      c.tile-item.is (c.tiles.invariant.files faithful)
+      (subst (λ (f : Files). f (tile_path c.tile-item.result.tile)
+      ≡ Some (flat_map (λ digest. digest) c.tile-item.result.digests.items)) (c.tiles.invariant.read faithful).found
+      (c.in_ok-compare_tile.ensures.file faithful));
+}
+
+pub returns-in_err-compare_tile-clause-whole : goal.returns-in_err-compare_tile-clause-whole
+returns-in_err-compare_tile-clause-whole g c = λ faithful log whole own.
+    let with_digests : StoredTile Sha256 Global → TileAt × List (List ℕ) = λ t. (t.tile, t.digests.items) in
+    let here : IsOwnTile log (with_digests c.tile-item.result) =
+    subst (λ (t : StoredTile Sha256 Global). IsOwnTile log (with_digests t)) (sym c.tile-item.is)
+    (all_at (λ t. IsOwnTile log (with_digests t)) c.args.tiles.now c.tiles.tile-index c.tile-item.result
+    (all_made (IsOwnTile log) with_digests c.args.tiles.now own) (omega arith)) in
+    err_same (IsNoFault ⊥) c.in_err-compare_tile.field-0.0 c.from_residual.result c.from_residual.ensures.1
+    (c.in_err-compare_tile.ensures.whole faithful log
+    (subst (IsWhole log) (sym (c.tiles.invariant.read faithful).found) whole) here)
