@@ -1,5 +1,5 @@
 -- What an audit finds in the pages of insertions.
-use Rattle.std.proofs.Common.{◌≡◌, ◌≢◌, ⊎_elim, ◌⊎◌, ℕ, zero, suc, ◌+◌, ◌^◌, ◌<◌, ◌≤◌, Bool, true, false, cond, eqb, List, [], ◌∷◌, length, map, take, get_or, Option, Some, None, refl, sym, ap, subst, ◌∙◌, arith, inl, inr, eq-eqb}
+use Rattle.std.proofs.Common.{◌≡◌, ◌≢◌, ⊎_elim, ◌⊎◌, ℕ, zero, suc, ◌+◌, ◌^◌, ◌<◌, Bool, true, false, cond, eqb, List, [], ◌∷◌, length, map, take, get_or, Option, Some, None, refl, sym, ap, subst, ◌∙◌, arith, inl, inr, eq-eqb}
 use Rattle.std.proofs.lemmas.Bool.{cond-true, eqb-true}
 use Rattle.std.proofs.lemmas.List.{length-take-le, length-map}
 use Rattle.std.proofs.lemmas.List.Elements.{All-take}
@@ -14,7 +14,7 @@ use Rattle.warg_pages.specs.Slots.{SlotAt, slot_of, numbers, page_of}
 use Rattle.warg_pages.specs.ChangedPages.{ChangedPageAt, page_at}
 use Rattle.warg_pages.specs.ProvedKeys.{IsOwnSource}
 use Rattle.warg_pages.specs.Visits.{IsLoneBelow, IsAllowed, AreAllPages, lone_slots}
-use Rattle.warg_pages.specs.Audits.{IsLoneAmong, IsHeldIn, IsInPages, AreInPages, count_last}
+use Rattle.warg_pages.specs.Audits.{IsLoneAmong, IsHeldIn, AreInPages, count_last}
 use Rattle.warg_pages.proofs.ForCallers.{own_visit, visit_own, lone_apart}
 use Rattle.warg_registry.proofs.DistinctLists.{one_pair_more, pairs_then, pairs-map, no_more}
 use Rattle.warg_registry.proofs.Listed.{none_there, first_there, later_there, there_cases, mapped_there, of_mapped, passed_there, of_passed, joined_there, of_joined}

@@ -1,12 +1,11 @@
 -- The keys that stand alone in the slots of insertions' pages.
-use Rattle.std.proofs.Common.{◌≡◌, ⊎_elim, ℕ, zero, suc, ◌+◌, ◌-◌, ◌*◌, ◌<◌, ◌≤◌, Bool, true, false, true≢false, not, ◌||◌, ◌&&◌, cond, eqb, List, [], ◌∷◌, ◌++◌, length, take, get_or, Option, Some, None, refl, sym, ap, subst, ◌∙◌, arith, inl, inr, ◌⊎◌, length-append}
+use Rattle.std.proofs.Common.{◌≡◌, ⊎_elim, ℕ, zero, suc, ◌+◌, ◌-◌, ◌<◌, ◌≤◌, Bool, true, false, true≢false, not, ◌||◌, cond, eqb, List, [], ◌∷◌, ◌++◌, length, take, get_or, Option, Some, None, refl, sym, ap, subst, ◌∙◌, arith, ◌⊎◌}
 use Rattle.std.specs.Prelude.{slice_get}
 use Rattle.std.specs.Bool.{then_some}
-use Rattle.std.specs.List.{Contains, filter_map, cons_option, list_all}
+use Rattle.std.specs.List.{Contains, list_all}
 use Rattle.std.specs.Option.{option_or, is_some}
-use Rattle.std.proofs.lemmas.Bool.{cases_Bool, and_parts}
+use Rattle.std.proofs.lemmas.Bool.{and_parts}
 use Rattle.std.proofs.Math.Dec.{eqb-suc-zero}
-use Rattle.warg_crypto.specs.Digests.{IsDigest}
 use Rattle.warg_crypto.specs.Collisions.{GivesHashes}
 use Rattle.warg_crypto.specs.Tree.{leaf_digest}
 use Rattle.warg_map.specs.Bits.{key_bits, last_bits}

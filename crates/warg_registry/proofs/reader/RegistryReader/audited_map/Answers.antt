@@ -1,16 +1,13 @@
-use Rattle.std.proofs.Common.{◌≡◌, ◌<◌, ℕ, List, length, sym, ap, subst, ◌∙◌, arith}
-use Rattle.std.specs.List.{All}
+use Rattle.std.proofs.Common.{ℕ, List, length, sym, ap, subst, ◌∙◌}
 use Rattle.warg_crypto.specs.Digests.{sha256}
 use Rattle.warg_folder.specs.Files.{Files}
 use Rattle.warg_folder.proofs.ForCallers.{read_then}
 use Rattle.warg_pages.specs.Audits.{AreInPages}
-use Rattle.warg_pages.specs.ChangedPages.{ChangedPageAt}
 use Rattle.warg_store.specs.Reading.{checkpoint_said}
 use Rattle.warg_store.specs.Refusals.{IsNoFault}
 use Rattle.warg_tiles.specs.CheckpointText.{Said}
-use Rattle.warg_registry.specs.Auditing.{AreAllInFiles, HasVisited}
+use Rattle.warg_registry.specs.Auditing.{AreAllInFiles}
 use Rattle.warg_registry.specs.Folder.{registry_of}
-use Rattle.warg_registry.specs.Insertions.{entries_of}
 use Rattle.warg_registry.proofs.Entries.{one_list}
 use Rattle.warg_registry.proofs.Refused.{told_as}
 use Rattle.warg_registry.proofs.RegistryAudits.{registry_read, visited_read, counted_last, short_insertions}

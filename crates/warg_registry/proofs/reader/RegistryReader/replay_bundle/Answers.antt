@@ -1,4 +1,4 @@
-use Rattle.std.proofs.Common.{◌≡◌, ◌+◌, ◌*◌, ◌++◌, [], ◌∷◌, ℕ, List, Vec, Global, Some, map, take, length, refl, sym, ap, subst, ◌∙◌, arith, append_assoc}
+use Rattle.std.proofs.Common.{◌≡◌, ◌+◌, ◌*◌, ◌++◌, [], ◌∷◌, ℕ, List, Vec, Global, map, length, refl, sym, ap, subst, ◌∙◌, arith, append_assoc}
 use Rattle.std.proofs.lemmas.List.{map-append, append-nil, length-map, take_all}
 use Rattle.std.specs.Prelude.{slice_get}
 use Rattle.warg_folder.specs.Moments.{IsRead}
@@ -8,7 +8,7 @@ use Rattle.warg_store.specs.Refusals.{IsNoFault}
 use Rattle.warg_tiles.specs.CheckpointText.{Said}
 use Rattle.warg_registry.specs.Auditing.{AreReplayed}
 use Rattle.warg_registry.specs.Folder.{registry_of}
-use Rattle.warg_registry.specs.Insertions.{entry_of, entries_of}
+use Rattle.warg_registry.specs.Insertions.{entry_of}
 use Rattle.warg_registry.specs.Reading.{RegistryRead}
 use Rattle.warg_registry.proofs.Refused.{told_as}
 use Rattle.warg_registry.proofs.RegistryAudits.{visited_read, entry_in_bundle, next_made, made_at}
