@@ -18,7 +18,7 @@ use Rattle.warg_registry.specs.Insertions.{entry_of, entries_of, IsInsertion}
 use Rattle.warg_registry.proofs.Entries.{one_insertion}
 
 -- Bits that begin with as many bits are these.
-begins_all : (p q : List Bool) → length p ≡ length q → begins p q ≡ same_bits p q
+pub begins_all : (p q : List Bool) → length p ≡ length q → begins p q ≡ same_bits p q
 begins_all [] [] e = refl
 begins_all [] (c ∷ q) e = let no : 0 ≡ length (c ∷ q) = e in absurd (omega arith)
 begins_all (b ∷ p) [] e = let no : length (b ∷ p) ≡ 0 = e in absurd (omega arith)
@@ -28,7 +28,7 @@ begins_all (false ∷ p) (true ∷ q) e = refl
 begins_all (false ∷ p) (false ∷ q) e = begins_all p q (omega (arith, e))
 
 -- No element passes a test, or the last one that does stands at its place.
-lasts : {X : Type 0} (p q : X → Bool) → ((x : X) → p x ≡ q x) → (xs : List X)
+pub lasts : {X : Type 0} (p q : X → Bool) → ((x : X) → p x ≡ q x) → (xs : List X)
     → ((last_place p xs ≡ 0) × (last_with q xs ≡ None))
     ⊎ ((i : ℕ) × (x : X) × (last_place p xs ≡ suc i) × (last_with q xs ≡ Some x) × (slice_get xs i ≡ Some x)
     × (q x ≡ true))
@@ -82,7 +82,7 @@ own_entry H insertions key value leaf index at held own =
     (last.2 ∙ ap (λ e. Some (entry_of e)) same, ap (λ e. leaf_digest H e.1) (sym same) ∙ last.4)
 
 -- An entry of fewer than 2^64 bytes is of a key and a value whose lengths 8 bytes can say.
-small_insertion : (key value entry : List ℕ) → length entry < 2 ^ 64 → entry ≡ entry_of (key, value)
+pub small_insertion : (key value entry : List ℕ) → length entry < 2 ^ 64 → entry ≡ entry_of (key, value)
     → IsInsertion (key, value)
 small_insertion key value entry small is =
     let size = ap length is in

@@ -8,6 +8,12 @@ mod RegistryPages
 mod RegistryGrowth
 mod Pruned
 mod LeftPages
+mod DistinctLists
+mod DigestPrefixes
+mod OwnLones
+mod VisitedApart
+mod OwnAudits
+mod RegistryAudits
 mod Replaying
 mod FolderMoments
 mod Publishing

@@ -45,7 +45,7 @@ number_within first (suc n) k h = elim (there_cases (numbers (first + 1) n) k fi
   | inr more ↦ let found = number_within (first + 1) n k more in (omega (arith, found.0), omega (arith, found.1))
 ]
 
-number_there : (first n k : ℕ) → k < n → Contains (numbers first n) (first + k)
+pub number_there : (first n k : ℕ) → k < n → Contains (numbers first n) (first + k)
 unfolding numbers
 number_there first zero k lt = absurd (omega (arith, lt))
 number_there first (suc n) zero lt =

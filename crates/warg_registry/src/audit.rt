@@ -1,6 +1,6 @@
 //! That the map in a registry's pages is the one that the log's entries make.
 
-ghost use Rattle.std.specs.Prelude.{◌≡◌, ◌+◌, ◌<◌, ◌≤◌, ℕ, nat_eq, List, length, filter, Some, IfOk, OnOk, IfSome};
+ghost use Rattle.std.specs.Prelude.{◌≡◌, ◌+◌, ◌*◌, ◌<◌, ◌≤◌, ◌∷◌, ◌++◌, [], ℕ, nat_eq, List, length, filter, slice_get, Some, IfOk, IfErr, OnOk, IfNone, IfSome};
 ghost use Rattle.std.specs.Option.{is_some};
 ghost use Rattle.warg_crypto.specs.Digests.{sha256};
 ghost use Rattle.warg_crypto.specs.Tree.{leaf_digest};
@@ -9,8 +9,12 @@ ghost use Rattle.warg_pages.specs.ChangedPages.{ChangedPageAt};
 ghost use Rattle.warg_pages.specs.Visits.{lone_slots};
 ghost use Rattle.warg_store.specs.Audited.{IsOfEntries};
 ghost use Rattle.warg_folder.specs.Moments.{IsRead};
-ghost use Rattle.warg_store.specs.Reading.{checkpoint_said};
-ghost use Rattle.warg_registry.specs.Auditing.{AreOfRegistry, AreAllInFiles, IsReplayed};
+ghost use Rattle.warg_store.specs.Log.{LogOf};
+ghost use Rattle.warg_store.specs.Reading.{Reads, bundle_in, checkpoint_said};
+ghost use Rattle.warg_store.specs.Refusals.{IsNoFault};
+ghost use Rattle.warg_registry.specs.Auditing.{AreOfRegistry, AreAllInFiles, AreReplayed, HasVisited};
+ghost use Rattle.warg_registry.specs.Insertions.{entry_of, entries_of};
+ghost use Rattle.warg_registry.specs.Reading.{ReadsRegistry};
 
 use crate::error::damaged;
 use crate::insertion::{Insertion, read_insertion};
@@ -77,6 +81,24 @@ impl<F: Folder + Drop> RegistryReader<F> {
             × AreOfRegistry checkpoint self.old.root insertions) }
         ensures served { IfOk result (λ checkpoint. checkpoint ≡ checkpoint_said self.old.log.text) }
     {
+        let checkpoint = self.audited_map()?;
+        self.pages.log.audit(progress)?;
+        Ok(checkpoint)
+    }
+
+    // The checkpoint, once the map is shown to be the one of the log's entries.
+    fn audited_map(&mut self) -> Result<Checkpoint<Sha256>, LogError>
+        ensures entries { IfOk result IsOfEntries }
+        ensures insertions { F.IsFaithful → IfOk result (λ checkpoint. (insertions : List (List ℕ × List ℕ))
+            × AreOfRegistry checkpoint self.old.root insertions) }
+        ensures served { IfOk result (λ checkpoint. checkpoint ≡ checkpoint_said self.old.log.text) }
+        ensures whole { F.IsFaithful → (origin : List ℕ) (insertions : List (List ℕ × List ℕ))
+            → ReadsRegistry F.seen origin insertions self.old → IfErr result (IsNoFault ⊥) }
+        ensures reads { F.IsFaithful → OnOk result ((origin : List ℕ) (insertions : List (List ℕ × List ℕ))
+            → ReadsRegistry F.seen origin insertions self.old → ReadsRegistry F.seen origin insertions self.new) }
+        ensures read { F.IsFaithful → OnOk result
+            (IsRead F.seen F.may_leave F.moment F.left_since self.old.log.folder self.new.log.folder) }
+    {
         let keys = self.count_keys()?;
         let replay = self.replay()?;
         let checkpoint = self.checkpoint();
@@ -88,7 +110,6 @@ impl<F: Folder + Drop> RegistryReader<F> {
             let fault = "has a key that no entry has";
             return Err(damaged(self.alloc, "map", fault));
         }
-        self.pages.log.audit(progress)?;
         Ok(checkpoint)
     }
 
@@ -97,6 +118,8 @@ impl<F: Folder + Drop> RegistryReader<F> {
         ensures keys { F.IsFaithful → IfOk result (λ count. (all : List ChangedPageAt)
             × AreAllInFiles (F.seen self.old.log.folder) self.old.root self.old.log.text.length all
             × (count ≡ length (lone_slots all))) }
+        ensures whole { F.IsFaithful → (origin : List ℕ) (insertions : List (List ℕ × List ℕ))
+            → ReadsRegistry F.seen origin insertions self.old → IfErr result (IsNoFault ⊥) }
         ensures same { (self.new.root ≡ self.old.root) × (self.new.log.text ≡ self.old.log.text) }
         ensures read { F.IsFaithful
             → IsRead F.seen F.may_leave F.moment F.left_since self.old.log.folder self.new.log.folder }
@@ -118,8 +141,11 @@ impl<F: Folder + Drop> RegistryReader<F> {
 
     // Reads all entries, one bundle after the other.
     fn replay(&mut self) -> Result<Replay, LogError>
-        ensures replayed { IfOk result (λ replay. IsReplayed F.IsFaithful (F.seen self.old.log.folder)
-            self.old.log.text.length replay.log replay.last) }
+        ensures replayed { IfOk result (λ replay. (all : List (List ℕ × List ℕ)) × AreReplayed F.IsFaithful
+            (F.seen self.old.log.folder) self.old.log.text.length replay.log replay.last all
+            × (F.IsFaithful → (log : LogOf) → Reads F.seen log self.old.log → entries_of all ≡ log.entries)) }
+        ensures whole { F.IsFaithful → (insertions : List (List ℕ × List ℕ)) (all : List ChangedPageAt)
+            → HasVisited F.seen insertions all self.old → IfErr result (IsNoFault ⊥) }
         ensures same { (self.new.root ≡ self.old.root) × (self.new.log.text ≡ self.old.log.text) }
         ensures read { F.IsFaithful
             → IsRead F.seen F.may_leave F.moment F.left_since self.old.log.folder self.new.log.folder }
@@ -138,10 +164,15 @@ impl<F: Folder + Drop> RegistryReader<F> {
     fn replay_bundle(&mut self, replay: &mut Replay, bundle: usize) -> Result<(), LogError>
         requires { replay.old.last ≤ replay.old.log.len }
         ensures few { OnOk result (replay.new.last ≤ replay.new.log.len) }
-        ensures replayed { OnOk result (IsReplayed F.IsFaithful (F.seen self.old.log.folder) self.old.log.text.length
-            replay.old.log replay.old.last
-            → IsReplayed F.IsFaithful (F.seen self.old.log.folder) self.old.log.text.length
-            replay.new.log replay.new.last) }
+        ensures replayed { OnOk result ((before : List (List ℕ × List ℕ)) → AreReplayed F.IsFaithful
+            (F.seen self.old.log.folder) self.old.log.text.length replay.old.log replay.old.last before
+            → (more : List (List ℕ × List ℕ)) × AreReplayed F.IsFaithful (F.seen self.old.log.folder)
+            self.old.log.text.length replay.new.log replay.new.last (before ++ more)
+            × (F.IsFaithful → (log : LogOf) → Reads F.seen log self.old.log
+            → entries_of more ≡ bundle_in log bundle)) }
+        ensures whole { F.IsFaithful → (insertions : List (List ℕ × List ℕ)) (all : List ChangedPageAt)
+            → HasVisited F.seen insertions all self.old → 256 * bundle < length insertions
+            → replay.old.log.len ≡ 256 * bundle → IfErr result (IsNoFault ⊥) }
         ensures same { (self.new.root ≡ self.old.root) × (self.new.log.text ≡ self.old.log.text) }
         ensures read { F.IsFaithful
             → IsRead F.seen F.may_leave F.moment F.left_since self.old.log.folder self.new.log.folder }
@@ -157,10 +188,15 @@ impl<F: Folder + Drop> RegistryReader<F> {
     fn replay_entry(&mut self, replay: &mut Replay, entry: &Vec<u8>) -> Result<(), LogError>
         requires { replay.old.last ≤ replay.old.log.len }
         ensures few { OnOk result (replay.new.last ≤ replay.new.log.len) }
-        ensures replayed { OnOk result (IsReplayed F.IsFaithful (F.seen self.old.log.folder) self.old.log.text.length
-            replay.old.log replay.old.last
-            → IsReplayed F.IsFaithful (F.seen self.old.log.folder) self.old.log.text.length
-            replay.new.log replay.new.last) }
+        ensures count { OnOk result (replay.new.log.len ≡ replay.old.log.len + 1) }
+        ensures replayed { OnOk result ((before : List (List ℕ × List ℕ)) → AreReplayed F.IsFaithful
+            (F.seen self.old.log.folder) self.old.log.text.length replay.old.log replay.old.last before
+            → (e : List ℕ × List ℕ) × (entry.now.items ≡ entry_of e) × AreReplayed F.IsFaithful
+            (F.seen self.old.log.folder) self.old.log.text.length replay.new.log replay.new.last (before ++ e ∷ [])) }
+        ensures whole { F.IsFaithful → (insertions : List (List ℕ × List ℕ)) (all : List ChangedPageAt)
+            → HasVisited F.seen insertions all self.old → (e : List ℕ × List ℕ)
+            → slice_get insertions replay.old.log.len ≡ Some e → entry.now.items ≡ entry_of e
+            → IfErr result (IsNoFault ⊥) }
         ensures same { (self.new.root ≡ self.old.root) × (self.new.log.text ≡ self.old.log.text) }
         ensures read { F.IsFaithful
             → IsRead F.seen F.may_leave F.moment F.left_since self.old.log.folder self.new.log.folder }
@@ -185,6 +221,9 @@ impl<F: Folder + Drop> RegistryReader<F> {
         ensures held { F.IsFaithful → IfOk result (λ held. (root : List ℕ) (all : List ChangedPageAt)
             → AreAllInFiles (F.seen self.old.log.folder) root self.old.log.text.length all
             → IsHeldIn all key.now held) }
+        ensures whole { F.IsFaithful → (root : List ℕ) (all : List ChangedPageAt)
+            → AreAllInFiles (F.seen self.old.log.folder) root self.old.log.text.length all
+            → IfErr result (IsNoFault ⊥) }
         ensures same { (self.new.root ≡ self.old.root) × (self.new.log.text ≡ self.old.log.text) }
         ensures read { F.IsFaithful
             → IsRead F.seen F.may_leave F.moment F.left_since self.old.log.folder self.new.log.folder }
@@ -203,6 +242,10 @@ impl<F: Folder + Drop> RegistryReader<F> {
             → AreAllInFiles (F.seen self.old.log.folder) root self.old.log.text.length all → (version : ℕ)
             × IsInPages sha256 all index (insertion.now.key.now, insertion.now.value.now) version
             × (last ≡ nat_eq version (index + 1))) }
+        ensures whole { F.IsFaithful → (insertions : List (List ℕ × List ℕ)) (all : List ChangedPageAt)
+            → HasVisited F.seen insertions all self.old
+            → slice_get insertions index ≡ Some (insertion.now.key.now, insertion.now.value.now)
+            → IfErr result (IsNoFault ⊥) }
         ensures same { (self.new.root ≡ self.old.root) × (self.new.log.text ≡ self.old.log.text) }
         ensures read { F.IsFaithful
             → IsRead F.seen F.may_leave F.moment F.left_since self.old.log.folder self.new.log.folder }
@@ -223,8 +266,10 @@ impl<F: Folder + Drop> RegistryReader<F> {
 // isn't that of the value.
 fn is_next(held: &Option<HeldInPages<Sha256>>, index: u64, value: &[u8]) -> Option<bool>
     requires { index < GREATEST_LENGTH }
-    ensures { IfSome result (λ last. (found : ℕ × List ℕ) × (held.now ≡ Some found) × (index < found.0)
+    ensures some { IfSome result (λ last. (found : ℕ × List ℕ) × (held.now ≡ Some found) × (index < found.0)
         × (last ≡ nat_eq found.0 (index + 1)) × (found.0 ≡ index + 1 → found.1 ≡ leaf_digest sha256 value.now)) }
+    ensures none { IfNone result ((found : ℕ × List ℕ) → held.now ≡ Some found → index < found.0
+        → (found.0 ≡ index + 1 → found.1 ≡ leaf_digest sha256 value.now) → ⊥) }
 {
     let Some(held) = held else {
         return None;

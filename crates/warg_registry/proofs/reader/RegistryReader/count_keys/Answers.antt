@@ -4,7 +4,9 @@ use Rattle.warg_folder.specs.Moments.{IsRead}
 use Rattle.warg_store.specs.Reading.{ServedIn}
 use Rattle.warg_folder.proofs.ForCallers.{read_is}
 use Rattle.warg_registry.specs.Auditing.{AreAllInFiles}
-use Rattle.warg_registry.specs.Reading.{RegistryRead}
+use Rattle.warg_registry.specs.Reading.{RegistryRead, ReadsRegistry}
+use Rattle.warg_registry.proofs.Refused.{not_of_pages}
+use Rattle.warg_registry.proofs.RegistryPages.{read_source}
 use Rattle.warg_registry.proofs.reader.RegistryReader.count_keys.Goals.{in-Ok, in-Err}
 use Rattle.warg_registry.proofs.reader.RegistryReader.count_keys.Goals as goal
 
@@ -23,6 +25,22 @@ returns-clause-keys g c = λ faithful. elim c.match-visit_pages.branch [
       c.args.self.now.log.text.length seen.0 in
       (seen.0, subst Q c.self.view_is (subst P said all), seen.1))
   | in-Err w ↦ rw w.result-is tt
+]
+
+pub returns-clause-whole : goal.returns-clause-whole
+returns-clause-whole g c = λ faithful. elim c.match-visit_pages.branch [
+  | in-Ok w ↦ rw w.result-is (λ origin insertions has. tt)
+  | in-Err w ↦ rw w.result-is (λ origin insertions has.
+      let dev = g.F.Folder in
+      let log = c.self.inside.pages.log in
+      let inside = subst (λ (r : RegistryRead g.row.F.Denot). ReadsRegistry dev.seen origin insertions r)
+      (sym c.self.view_is) has in
+      let own = read_source origin insertions (dev.seen log.folder) c.self.inside.root c.length-version.result _
+      inside.reads.files has.reads.text
+      (c.length-version.ensures ∙ ap (λ (k : RootAndLength). k.length) c.checkpoint.ensures) inside.is_root in
+      w.refusal.ensures (not_of_pages _ w.in-Err.error (λ refused. refused (log, true) insertions
+      (refl, λ e. (faithful, read_is dev.seen dev.may_leave dev.moment dev.left_since log.folder)) own)
+      w.in-Err.ensures.refused))
 ]
 
 pub returns-clause-same : goal.returns-clause-same

@@ -5,6 +5,7 @@ use Rattle.warg_store.specs.Reading.{ServedIn}
 use Rattle.warg_folder.proofs.ForCallers.{read_is}
 use Rattle.warg_registry.specs.Auditing.{AreAllInFiles}
 use Rattle.warg_registry.specs.Reading.{RegistryRead}
+use Rattle.warg_registry.proofs.Refused.{not_of_pages}
 use Rattle.warg_registry.proofs.reader.RegistryReader.held_in_map.Goals.{in-Ok, in-Err}
 use Rattle.warg_registry.proofs.reader.RegistryReader.held_in_map.Goals as goal
 
@@ -22,6 +23,22 @@ returns-clause-held g c = λ faithful. elim c.match-held_in_pages.branch [
       (refl, λ e. (faithful, read_is dev.seen dev.may_leave dev.moment dev.left_since log.folder)) refl
       (subst P (sym said) (subst Q (sym c.self.view_is) led)))
   | in-Err w ↦ rw w.result-is tt
+]
+
+pub returns-clause-whole : goal.returns-clause-whole
+returns-clause-whole g c = λ faithful. elim c.match-held_in_pages.branch [
+  | in-Ok w ↦ rw w.result-is (λ root all led. tt)
+  | in-Err w ↦ rw w.result-is (λ root all led.
+      let dev = g.F.Folder in
+      let log = c.self.inside.pages.log in
+      let said : c.length-version.result ≡ c.args.self.now.log.text.length = c.length-version.ensures
+      ∙ ap (λ (k : RootAndLength). k.length) c.checkpoint.ensures in
+      let P : ℕ → Type 0 = λ n. AreAllInFiles (dev.seen log.folder) root n all in
+      let Q : RegistryRead g.row.F.Denot → Type 0 = λ r. AreAllInFiles (dev.seen r.log.folder) root
+      c.args.self.now.log.text.length all in
+      w.refusal.ensures (not_of_pages _ w.in-Err.error (λ refused. refused (log, true) root all
+      (refl, λ e. (faithful, read_is dev.seen dev.may_leave dev.moment dev.left_since log.folder)) refl
+      (subst P (sym said) (subst Q (sym c.self.view_is) led))) w.in-Err.ensures.refused))
 ]
 
 pub returns-clause-same : goal.returns-clause-same

@@ -1,0 +1,109 @@
+use Rattle.std.proofs.Common.{ℕ, List, length, sym, ap, subst, ◌∙◌}
+use Rattle.warg_crypto.specs.Digests.{sha256}
+use Rattle.warg_folder.specs.Files.{Files}
+use Rattle.warg_folder.proofs.ForCallers.{read_then}
+use Rattle.warg_pages.specs.Audits.{AreInPages}
+use Rattle.warg_store.specs.Reading.{checkpoint_said}
+use Rattle.warg_store.specs.Refusals.{IsNoFault}
+use Rattle.warg_tiles.specs.CheckpointText.{Said}
+use Rattle.warg_registry.specs.Auditing.{AreAllInFiles}
+use Rattle.warg_registry.specs.Folder.{registry_of}
+use Rattle.warg_registry.proofs.Entries.{one_list}
+use Rattle.warg_registry.proofs.Refused.{told_as}
+use Rattle.warg_registry.proofs.RegistryAudits.{registry_read, visited_read, counted_last, short_insertions}
+use Rattle.warg_registry.proofs.Replaying.{same_checkpoints, other_checkpoints, of_entries, of_insertions, own_checkpoint}
+use Rattle.warg_registry.proofs.reader.RegistryReader.audited_map.Goals as goal
+
+pub returns-clause-entries : goal.returns-clause-entries
+returns-clause-entries g c =
+    let dev = g.F.Folder in
+    let read = c.count_keys.new.self in
+    let replayed = c.in_ok-replay.ensures.replayed in
+    of_entries dev.IsFaithful (dev.seen read.log.folder) read.log.text.length c.in_ok-replay.replay.log
+    c.in_ok-replay.replay.last c.checkpoint.result c.checkpoint-checkpoint.result replayed.0 replayed.1
+    c.checkpoint.ensures.root c.checkpoint.ensures.length (same_checkpoints _ _ c.if-ne.ensures)
+
+pub returns-clause-insertions : goal.returns-clause-insertions
+returns-clause-insertions g c = λ faithful.
+    let dev = g.F.Folder in
+    let first = c.args.self.now in
+    let read = c.count_keys.new.self in
+    let was = c.in_ok-keys.ensures in
+    let keys = was.keys faithful in
+    let files = (was.read faithful).found in
+    let length = ap (λ (t : Said). t.length) was.same.1 in
+    let replayed = c.in_ok-replay.ensures.replayed in
+    let P : Files → Type 0 = λ f. AreAllInFiles f first.root first.log.text.length keys.0 in
+    let Q : ℕ → Type 0 = λ n. AreAllInFiles (dev.seen read.log.folder) first.root n keys.0 in (
+      replayed.0,
+      of_insertions dev.IsFaithful (dev.seen read.log.folder) read.log.text.length c.in_ok-replay.replay.log
+          c.in_ok-replay.replay.last c.checkpoint.result c.checkpoint-checkpoint.result replayed.0 replayed.1
+          c.checkpoint.ensures.root c.checkpoint.ensures.length (same_checkpoints _ _ c.if-ne.ensures) first.root
+          c.in_ok-keys.keys keys.0 faithful (subst Q (sym length) (subst P (sym files) keys.1)) keys.2
+          c.if-replay-keys.false,
+    )
+
+pub returns-in_err-keys-clause-whole : goal.returns-in_err-keys-clause-whole
+returns-in_err-keys-clause-whole g c = λ faithful origin insertions has.
+    told_as (IsNoFault ⊥) c.in_err-keys.field-0.0 c.from_residual.result c.from_residual.ensures.1
+    (c.in_err-keys.ensures.whole faithful origin insertions has)
+
+pub returns-clause-reads : goal.returns-clause-reads
+returns-clause-reads g c = λ faithful origin insertions has.
+    let dev = g.F.Folder in
+    let keys = c.in_ok-keys.ensures in
+    let replay = c.in_ok-replay.ensures in
+    registry_read dev.seen dev.may_leave dev.moment dev.left_since origin insertions c.count_keys.new.self c.replay.new.self
+    replay.same (replay.read faithful)
+    (registry_read dev.seen dev.may_leave dev.moment dev.left_since origin insertions c.args.self.now c.count_keys.new.self
+    keys.same (keys.read faithful) has)
+
+pub returns-clause-read : goal.returns-clause-read
+returns-clause-read g c = λ faithful.
+    let dev = g.F.Folder in
+    read_then dev.seen dev.may_leave dev.moment dev.left_since c.args.self.now.log.folder c.count_keys.new.self.log.folder
+    c.replay.new.self.log.folder (g.met.F.Folder.counts_now c.args.self.now.log.folder)
+    (c.in_ok-keys.ensures.read faithful) (c.in_ok-replay.ensures.read faithful)
+
+pub returns-in_err-replay-clause-whole : goal.returns-in_err-replay-clause-whole
+returns-in_err-replay-clause-whole g c = λ faithful origin insertions has.
+    let dev = g.F.Folder in
+    let was = c.in_ok-keys.ensures in
+    let keys = was.keys faithful in
+    let visited = visited_read dev.seen dev.may_leave dev.moment dev.left_since insertions keys.0 c.args.self.now
+    c.count_keys.new.self was.same (was.read faithful) (record { origin = origin; reads = has; are_all = keys.1 }) in
+    told_as (IsNoFault ⊥) c.in_err-replay.field-0.0 c.from_residual-in_err-replay.result
+    c.from_residual-in_err-replay.ensures.1 (c.in_err-replay.ensures.whole faithful insertions keys.0 visited)
+
+pub returns-then-ne-clause-whole : goal.returns-then-ne-clause-whole
+returns-then-ne-clause-whole g c = λ faithful origin insertions has.
+    let dev = g.F.Folder in
+    let mid = c.count_keys.new.self in
+    let was = c.in_ok-keys.ensures in
+    let done = c.in_ok-replay.ensures in
+    let has_mid = registry_read dev.seen dev.may_leave dev.moment dev.left_since origin insertions c.args.self.now mid
+    was.same (was.read faithful) has in
+    let same = own_checkpoint dev.IsFaithful (dev.seen mid.log.folder) mid.log.text.length c.in_ok-replay.replay.log
+    c.in_ok-replay.replay.last c.checkpoint.result c.checkpoint-checkpoint.result done.replayed.0 done.replayed.1
+    c.checkpoint.ensures.root c.checkpoint.ensures.length origin insertions
+    (done.replayed.2 faithful (registry_of origin insertions) has_mid.reads)
+    (c.checkpoint-checkpoint.ensures ∙ ap checkpoint_said (done.same.1 ∙ has_mid.reads.text)) in
+    absurd (other_checkpoints _ _ c.if-ne.ensures same.0 same.1)
+
+pub returns-then-replay-keys-clause-whole : goal.returns-then-replay-keys-clause-whole
+returns-then-replay-keys-clause-whole g c = λ faithful origin insertions has.
+    let dev = g.F.Folder in
+    let mid = c.count_keys.new.self in
+    let was = c.in_ok-keys.ensures in
+    let keys = was.keys faithful in
+    let replayed = c.in_ok-replay.ensures.replayed in
+    let visited = visited_read dev.seen dev.may_leave dev.moment dev.left_since insertions keys.0 c.args.self.now mid
+    was.same (was.read faithful) (record { origin = origin; reads = has; are_all = keys.1 }) in
+    let in_pages = replayed.1.in_pages faithful mid.root keys.0 visited.are_all in
+    let has_mid = registry_read dev.seen dev.may_leave dev.moment dev.left_since origin insertions c.args.self.now mid
+    was.same (was.read faithful) has in
+    let same = one_list insertions replayed.0 (short_insertions insertions has_mid.reads.can.short)
+    (sym (replayed.2 faithful (registry_of origin insertions) has_mid.reads)) in
+    let P : List (List ℕ × List ℕ) → Type 0 = λ es. AreInPages sha256 keys.0 0 es in_pages.0 in
+    let counted = counted_last dev.seen insertions keys.0 mid visited in_pages.0 (subst P (sym same) in_pages.1) in
+    absurd (c.if-replay-keys.true (in_pages.2 ∙ counted ∙ sym keys.2))
