@@ -7,12 +7,13 @@ ghost use Rattle.warg_crypto.specs.Tree.{leaf_digest};
 ghost use Rattle.warg_pages.specs.Audits.{IsHeldIn, IsInPages};
 ghost use Rattle.warg_pages.specs.ChangedPages.{ChangedPageAt};
 ghost use Rattle.warg_pages.specs.Visits.{lone_slots};
-ghost use Rattle.warg_store.specs.Audited.{IsOfEntries};
+ghost use Rattle.warg_store.specs.Audited.{IsOfEntries, ShowsLog, HasOlder};
 ghost use Rattle.warg_folder.specs.Moments.{IsRead};
 ghost use Rattle.warg_store.specs.Log.{LogOf};
 ghost use Rattle.warg_store.specs.Reading.{Reads, bundle_in, checkpoint_said};
 ghost use Rattle.warg_store.specs.Refusals.{IsNoFault};
 ghost use Rattle.warg_registry.specs.Auditing.{AreOfRegistry, AreAllInFiles, AreReplayed, HasVisited};
+ghost use Rattle.warg_registry.specs.Folder.{registry_of};
 ghost use Rattle.warg_registry.specs.Insertions.{entry_of, entries_of};
 ghost use Rattle.warg_registry.specs.Reading.{ReadsRegistry};
 
@@ -80,6 +81,10 @@ impl<F: Folder + Drop> RegistryReader<F> {
         ensures insertions { F.IsFaithful → IfOk result (λ checkpoint. (insertions : List (List ℕ × List ℕ))
             × AreOfRegistry checkpoint self.old.root insertions) }
         ensures served { IfOk result (λ checkpoint. checkpoint ≡ checkpoint_said self.old.log.text) }
+        ensures files { F.IsFaithful → IfOk result (ShowsLog (F.seen self.old.log.folder)) }
+        ensures whole { F.IsFaithful → (origin : List ℕ) (insertions : List (List ℕ × List ℕ))
+            → ReadsRegistry F.seen origin insertions self.old
+            → HasOlder (registry_of origin insertions) (F.seen self.old.log.folder) → IfErr result (IsNoFault ⊥) }
     {
         let checkpoint = self.audited_map()?;
         self.pages.log.audit(progress)?;

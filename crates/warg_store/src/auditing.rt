@@ -48,6 +48,7 @@ pub(crate) fn audited<F: Folder, P: Progress>(
 ) -> Result<Checkpoint<Sha256>, LogError>
     requires { checkpoint.now.length ≤ GREATEST_LENGTH }
     ensures entries { IfOk result IsOfEntries }
+    ensures said { IfOk result (λ found. found ≡ checkpoint.now) }
     ensures files { F.IsFaithful → IfOk result (ShowsLog (F.seen folder.old)) }
     ensures whole { F.IsFaithful → (log : LogOf) → AreOfLog log checkpoint.now (F.seen folder.old)
         → HasOlder log (F.seen folder.old) → IfErr result (IsNoFault ⊥) }
@@ -109,6 +110,7 @@ fn same_root(
 ) -> Result<Checkpoint<Sha256>, LogError>
     requires { HasEntries log.now }
     ensures entries { IfOk result IsOfEntries }
+    ensures said { IfOk result (λ found. found ≡ checkpoint.now) }
     ensures same { IfOk result (λ found. (ds : List (List ℕ)) → StandsFor sha256 log.now ds
         → (found.length ≡ length ds) × (found.root ≡ root_of sha256 ds)) }
     ensures whole { (ds : List (List ℕ)) → StandsFor sha256 log.now ds → checkpoint.now.length ≡ length ds

@@ -241,6 +241,7 @@ impl<F: Folder + Drop> LogReader<F> {
     /// As [`LogFolder::audit`], of the checkpoint.
     pub fn audit<P: Progress>(&mut self, progress: &mut P) -> Result<Checkpoint<Sha256>, LogError>
         ensures entries { IfOk result IsOfEntries }
+        ensures served { IfOk result (λ found. found ≡ checkpoint_said self.old.text) }
         ensures files { F.IsFaithful → IfOk result (ShowsLog (F.seen self.old.folder)) }
         ensures whole { F.IsFaithful → (log : LogOf) → Reads F.seen log self.old
             → HasOlder log (F.seen self.old.folder) → IfErr result (IsNoFault ⊥) }

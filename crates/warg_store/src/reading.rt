@@ -101,6 +101,7 @@ impl<F: Folder + Drop> LogFolder<F> {
     /// refused or the device fails. It changes nothing.
     pub fn audit<P: Progress>(&mut self, progress: &mut P) -> Result<Checkpoint<Sha256>, LogError>
         ensures entries { IfOk result IsOfEntries }
+        ensures kept { IfOk result (λ found. found ≡ checkpoint_said self.old.text) }
         ensures files { F.IsFaithful → IfOk result (ShowsLog (F.seen self.old.folder)) }
         ensures whole { F.IsFaithful → (served old next : LogOf) → Has F.seen F.may_leave served old next self.old
             → HasOlder old (F.seen self.old.folder) → IfErr result (IsNoFault ⊥) }
