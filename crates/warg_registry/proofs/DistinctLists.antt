@@ -7,7 +7,8 @@ use Rattle.warg_registry.proofs.Listed.{none_there, first_there, later_there, th
 -- the first element and a later one, and the later ones
 pub first_pair : {X : Type 0} (R : X → X → Type 0) (x : X) (xs : List X) (y : X) → AllPairs R (x ∷ xs) → Contains xs y
     → R x y
-first_pair R x xs y pairs there = subst (R x) there.2 (pairs 0 (suc there.0) y (omega arith) (let lt = there.1 in omega arith))
+first_pair R x xs y pairs there = subst (R x) there.2 (pairs 0 (suc there.0) y (omega arith)
+    (let lt = there.1 in omega arith))
 
 pub later_pairs : {X : Type 0} (R : X → X → Type 0) (x : X) (xs : List X) → AllPairs R (x ∷ xs) → AllPairs R xs
 later_pairs R x xs pairs = λ i j d lt within. pairs (suc i) (suc j) d (omega arith) (omega arith)
@@ -28,7 +29,8 @@ pairs-append R [] ys pairs others across = others
 pairs-append R (x ∷ xs) ys pairs others across = one_pair_more R x (xs ++ ys)
     (λ y there. ⊎_elim (λ own. first_pair R x xs y pairs own) (λ other. across x y (first_there xs x) other)
     (Contains-append_cases xs ys y there))
-    (pairs-append R xs ys (later_pairs R x xs pairs) others (λ z y here there. across z y (later_there xs z x here) there))
+    (pairs-append R xs ys (later_pairs R x xs pairs) others (λ z y here there. across z y
+    (later_there xs z x here) there))
 
 -- what follows of each two
 pub pairs_then : {X : Type 0} (R S : X → X → Type 0) (xs : List X)
@@ -45,7 +47,8 @@ one_alike f (z ∷ xs) x y apart here there same =
     ⊎_elim (λ x_first. ⊎_elim (λ y_first. sym x_first ∙ y_first)
     (λ y_later. absurd (first_pair (λ a b. f a ≢ f b) z xs y apart y_later (ap f x_first ∙ same)))
     (there_cases xs y z there))
-    (λ x_later. ⊎_elim (λ y_first. absurd (first_pair (λ a b. f a ≢ f b) z xs x apart x_later (ap f y_first ∙ sym same)))
+    (λ x_later. ⊎_elim (λ y_first. absurd (first_pair (λ a b. f a ≢ f b) z xs x apart x_later
+    (ap f y_first ∙ sym same)))
     (λ y_later. one_alike f xs x y (later_pairs (λ a b. f a ≢ f b) z xs apart) x_later y_later same)
     (there_cases xs y z there))
     (there_cases xs x z here)

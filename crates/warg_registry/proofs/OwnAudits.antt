@@ -95,10 +95,12 @@ picked_apart first (v ∷ vs) = one (eqb v (first + 1)) refl (picked_apart (firs
         (λ y c same. omega (arith, picked_above (first + 1) vs y c, eqb-true v (first + 1) e, same)) rest
     one false e rest = rest
 
-picked_first : (first v : ℕ) (vs : List ℕ) → v ≡ suc (first + zero) → Contains (picked first (v ∷ vs)) (suc (first + zero))
+picked_first : (first v : ℕ) (vs : List ℕ) → v ≡ suc (first + zero) → Contains (picked first (v ∷ vs))
+    (suc (first + zero))
 picked_first first v vs is =
     let P : List ℕ → Type 0 = λ ws. Contains ws (suc (first + zero)) in
-    subst P (sym (cond-true _ (v ∷ picked (first + 1) vs) (picked (first + 1) vs) (eq-eqb v (first + 1) (omega (arith, is)))))
+    subst P (sym (cond-true _ (v ∷ picked (first + 1) vs) (picked (first + 1) vs) (eq-eqb v (first + 1)
+    (omega (arith, is)))))
     (subst (Contains (v ∷ picked (first + 1) vs)) is (first_there (picked (first + 1) vs) v))
 
 picked_later : (first v w : ℕ) (vs : List ℕ) → Contains (picked (first + 1) vs) v → Contains (picked first (w ∷ vs)) v
@@ -140,14 +142,16 @@ picked_there H all first (d ∷ es) (w ∷ vs) are (suc i) e at is =
 
 module _ (H : List ℕ → List ℕ) (gives : GivesHashes H) (bytes_at : List ℕ → ℕ → Option (List ℕ)) (tells_all : Type 0)
     (root : List ℕ) (count : ℕ) (es : List (List ℕ × List ℕ)) (all : List ChangedPageAt) (fits : count < 2 ^ 64)
-    (source : IsOwnSource H bytes_at root count es) (are : AreAllPages H (IsAllowed bytes_at tells_all) root count all) where
+    (source : IsOwnSource H bytes_at root count es)
+    (are : AreAllPages H (IsAllowed bytes_at tells_all) root count all) where
   -- each page of the visit is the insertions' own
   own_page : (p : ChangedPageAt) → Contains all p → page_at H es p.prefix ≡ p
   own_page p there =
       let bytes = (visited_pages H (IsAllowed bytes_at tells_all) root count all are).bytes p there in
       let is = visit_own H (IsLoneBelow H) bytes_at tells_all root count es all gives fits source are p there in
       one_page_visited H (IsAllowed bytes_at tells_all) root count all are (page_at H es p.prefix) p
-      (own_visit H (IsLoneBelow H) bytes_at tells_all root count es all p.prefix gives fits source are bytes.0 bytes.1 is.0)
+      (own_visit H (IsLoneBelow H) bytes_at tells_all root count es all p.prefix gives fits source are bytes.0
+      bytes.1 is.0)
       there refl
 
   -- so its lone keys are those of insertions
@@ -181,7 +185,8 @@ module _ (H : List ℕ → List ℕ) (gives : GivesHashes H) (bytes_at : List �
         a.leaf,
         record {
           slot = a.slot;
-          there = joined_there (λ (p : ChangedPageAt). filter (λ x. is_some x.lone) p.page) all (page_at H es prefix) a.slot
+          there = joined_there (λ (p : ChangedPageAt). filter (λ x. is_some x.lone) p.page) all
+              (page_at H es prefix) a.slot
               page (passed_there (λ (x : SlotAt). is_some x.lone) (page_of H es (bits_of_bytes prefix)) a.slot
               (ap is_some a.is_lone) slot);
           is_version = refl;

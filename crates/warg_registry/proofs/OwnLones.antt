@@ -1,5 +1,5 @@
 -- The keys that stand alone in the slots of insertions' pages.
-use Rattle.std.proofs.Common.{◌≡◌, ⊎_elim, ℕ, zero, suc, ◌+◌, ◌-◌, ◌<◌, ◌≤◌, Bool, true, false, true≢false, not, ◌||◌, cond, eqb, List, [], ◌∷◌, ◌++◌, length, take, get_or, Option, Some, None, refl, sym, ap, subst, ◌∙◌, arith, ◌⊎◌}
+use Rattle.std.proofs.Common.{◌≡◌, ⊎_elim, ℕ, zero, suc, ◌+◌, ◌-◌, ◌<◌, ◌≤◌, Bool, true, false, true≢false, not, ◌||◌, cond, eqb, List, [], ◌∷◌, ◌++◌, length, take, get_or, Option, Some, None, refl, sym, ap, subst, ◌∙◌, arith}
 use Rattle.std.specs.Prelude.{slice_get}
 use Rattle.std.specs.Bool.{then_some}
 use Rattle.std.specs.List.{Contains, list_all}
@@ -23,7 +23,8 @@ use Rattle.warg_registry.proofs.Listed.{none_there, there_cases}
 some_last : {X : Type 0} (p : X → Bool) (xs : List X) (x : X) → Contains xs x → p x ≡ true
     → (y : X) × (last_with p xs ≡ Some y) × (p y ≡ true)
 unfolding last_with
-some_last {X = X} p xs x there passes = ⊎_elim (λ none. absurd (never xs x there passes none.1)) (λ some. (some.1, some.3, some.5))
+some_last {X = X} p xs x there passes = ⊎_elim (λ none. absurd (never xs x there passes none.1)) (λ some.
+    (some.1, some.3, some.5))
     (lasts p p (λ y. refl) xs)
   where
     or_none : (a b : Option X) → option_or a b ≡ None → (a ≡ None) × (b ≡ None)
@@ -34,7 +35,8 @@ some_last {X = X} p xs x there passes = ⊎_elim (λ none. absurd (never xs x th
     never [] y there passes none = none_there y there
     never (z ∷ ys) y there passes none =
         let parts = or_none (last_with p ys) (cond (p z) (Some z) None) none in
-        ⊎_elim (λ same. let here : cond (p z) (Some z) None ≡ Some z = ap (λ b. cond b (Some z) None) (ap p same ∙ passes) in
+        ⊎_elim (λ same. let here : cond (p z) (Some z) None ≡ Some z = ap (λ b. cond b (Some z) None) (ap p same
+        ∙ passes) in
         let clash : None ≡ Some z = sym parts.1 ∙ here in cc)
         (λ later. never ys y later passes parts.0) (there_cases ys y z there)
 
@@ -69,7 +71,8 @@ module _ (H : List ℕ → List ℕ) (gives : GivesHashes H) (es : List (List �
   one_key : (p : List Bool) (e f : List ℕ × List ℕ) → is_lone H es p f ≡ true → Contains es e → is_below H p e ≡ true
       → H f.0 ≡ H e.0
   one_key p e f lone there under =
-      let passes = each_passes (λ g. not (is_below H p g) || same_bits (key_bits H f.0) (key_bits H g.0)) es e lone there in
+      let passes = each_passes (λ g. not (is_below H p g) || same_bits (key_bits H f.0) (key_bits H g.0)) es e
+      lone there in
       let P : Bool → Type 0 = λ b. (not b || same_bits (key_bits H f.0) (key_bits H e.0)) ≡ true in
       same_digest H f.0 e.0 (gives f.0) (gives e.0)
       (same_bits-true (key_bits H f.0) (key_bits H e.0) (subst P under passes))
@@ -79,7 +82,8 @@ module _ (H : List ℕ → List ℕ) (gives : GivesHashes H) (es : List (List �
   whole_alone p f size under = each es
     where
       whole : (g : List ℕ × List ℕ) → is_below H p g ≡ true → p ≡ key_bits H g.0
-      whole g below = same_bits-true p (key_bits H g.0) (sym (begins_all p (key_bits H g.0) (size ∙ sym (all_bits H g.0))) ∙ below)
+      whole g below = same_bits-true p (key_bits H g.0) (sym (begins_all p (key_bits H g.0) (size
+          ∙ sym (all_bits H g.0))) ∙ below)
 
       one : (g : List ℕ × List ℕ) (b : Bool) → is_below H p g ≡ b
           → (not (is_below H p g) || same_bits (key_bits H f.0) (key_bits H g.0)) ≡ true
@@ -162,7 +166,8 @@ module _ (H : List ℕ → List ℕ) (gives : GivesHashes H) (es : List (List �
 
     down : (n depth : ℕ) → depth + suc n ≡ 32 → stands H es (at depth) ≡ true → IsAlone e
     down zero depth size is_there = step zero depth size is_there (λ m e more. absurd (omega arith))
-    down (suc n) depth size is_there = step (suc n) depth size is_there (λ m e more. down n (depth + 1) (omega arith) more)
+    down (suc n) depth size is_there = step (suc n) depth size is_there (λ m e more. down n (depth + 1)
+        (omega arith) more)
 
     pub alone : IsAlone e
     alone =
@@ -197,7 +202,8 @@ module _ (H : List ℕ → List ℕ) (gives : GivesHashes H) (es : List (List �
         where
           slot : is_lone H es q h.1 ≡ is_lone H es q h.1 → slot_at q s h.1 (is_lone H es q h.1) ≡ x
           slot same =
-              let both : Some (slot_at q s h.1 (is_lone H es q h.1)) ≡ Some x = sym (ap (slot_over H es q s) h.3) ∙ is in cc
+              let both : Some (slot_at q s h.1 (is_lone H es q h.1)) ≡ Some x = sym (ap (slot_over H es q s) h.3)
+              ∙ is in cc
 
           by_lone : (b : Bool) → is_lone H es q h.1 ≡ b → IsOfLast x
           by_lone false t =

@@ -39,7 +39,8 @@ module _ {F : Type 0} (seen : F → Files) (may_leave : F → Files → Type 0) 
     (left_since : F → ℕ → Files → Type 0) where
   -- a reader whose folder was only read has the same registry
   pub registry_read : (origin : List ℕ) (insertions : List (List ℕ × List ℕ)) (r t : RegistryRead F)
-      → (t.root ≡ r.root) × (t.log.text ≡ r.log.text) → IsRead seen may_leave moment left_since r.log.folder t.log.folder
+      → (t.root ≡ r.root) × (t.log.text ≡ r.log.text) → IsRead seen may_leave moment left_since r.log.folder
+      t.log.folder
       → ReadsRegistry seen origin insertions r → ReadsRegistry seen origin insertions t
   registry_read origin insertions r t same read has = record {
     reads = log_read seen (registry_of origin insertions) r.log t.log same.1 read.found has.reads;
@@ -48,7 +49,8 @@ module _ {F : Type 0} (seen : F → Files) (may_leave : F → Files → Type 0) 
 
   -- and has visited the same pages
   pub visited_read : (insertions : List (List ℕ × List ℕ)) (all : List ChangedPageAt) (r t : RegistryRead F)
-      → (t.root ≡ r.root) × (t.log.text ≡ r.log.text) → IsRead seen may_leave moment left_since r.log.folder t.log.folder
+      → (t.root ≡ r.root) × (t.log.text ≡ r.log.text) → IsRead seen may_leave moment left_since r.log.folder
+      t.log.folder
       → HasVisited seen insertions all r → HasVisited seen insertions all t
   visited_read insertions all r t same read has = record {
     origin = has.origin;
@@ -62,7 +64,8 @@ module _ {F : Type 0} (seen : F → Files) (may_leave : F → Files → Type 0) 
 module _ {F : Type 0} (seen : F → Files) (insertions : List (List ℕ × List ℕ)) (all : List ChangedPageAt)
     (r : RegistryRead F) (has : HasVisited seen insertions all r) where
   source : IsOwnSource sha256 (page_read (seen r.log.folder)) r.root r.log.text.length insertions
-  source = read_source has.origin insertions (seen r.log.folder) r.root r.log.text.length r.log.text has.reads.reads.files
+  source = read_source has.origin insertions (seen r.log.folder) r.root r.log.text.length r.log.text
+      has.reads.reads.files
       has.reads.reads.text refl has.reads.is_root
 
   fits : r.log.text.length < 2 ^ 64
@@ -79,7 +82,8 @@ module _ {F : Type 0} (seen : F → Files) (insertions : List (List ℕ × List 
   -- they have as many lone keys as last insertions
   pub counted_last : (versions : List ℕ) → AreInPages sha256 all 0 insertions versions
       → count_last 0 versions ≡ length (lone_slots all)
-  counted_last = own.own_count sha256 IsDigest-sha256 (page_read (seen r.log.folder)) (true ≡ true) r.root r.log.text.length
+  counted_last = own.own_count sha256 IsDigest-sha256 (page_read (seen r.log.folder)) (true ≡ true) r.root
+      r.log.text.length
       insertions all fits source has.are_all
 
 -- insertions of short entries
@@ -89,7 +93,8 @@ short_insertions (e ∷ es) short = All-cons IsInsertion e es
     (small_insertion e.0 e.1 (entry_of e) (let lt = short.0 in omega arith) refl) (short_insertions es short.1)
 
 -- an element of a part of a list
-in_front : {X : Type 0} (n : ℕ) (xs : List X) (i : ℕ) (x : X) → slice_get (take n xs) i ≡ Some x → slice_get xs i ≡ Some x
+in_front : {X : Type 0} (n : ℕ) (xs : List X) (i : ℕ) (x : X) → slice_get (take n xs) i ≡ Some x
+    → slice_get xs i ≡ Some x
 in_front zero xs i x is = absurd (cc)
 in_front (suc n) [] i x is = absurd (cc)
 in_front (suc n) (y ∷ xs) zero x is = is
@@ -114,7 +119,12 @@ entry_in_bundle insertions entries first i entry are at = by_place (slice_get in
     by_place : (o : Option (List ℕ × List ℕ)) → slice_get insertions (first + i) ≡ o
         → (e : List ℕ × List ℕ) × (slice_get insertions (first + i) ≡ Some e) × (entry ≡ entry_of e)
     by_place None e = absurd (let clash : None ≡ Some entry = sym (ap (option_map entry_of) e) ∙ there in cc)
-    by_place (Some f) e = (f, e, let both : Some entry ≡ Some (entry_of f) = sym there ∙ ap (option_map entry_of) e in cc)
+    by_place (Some f) e = (
+      f,
+      e,
+      let both : Some entry ≡ Some (entry_of f) = sym there
+          ∙ ap (option_map entry_of) e in cc,
+    )
 
 -- one element more of what is made of a list, and the element there
 pub next_made : {X Y : Type 0} (f : X → Y) (ys : List X) (i : ℕ) (x : X) → i < length ys → x ≡ get_or ys i x

@@ -136,6 +136,7 @@ module _ (IsFaithful : Type 0) (files : Files) (version : ℕ) (log : Blocks) (l
       → checkpoint ≡ checkpoint_said (said_of (registry_of origin insertions))
       → (found.root ≡ checkpoint.root) × (found.length ≡ checkpoint.length)
   own_checkpoint origin insertions same is = (
-    sym root_is ∙ ap (λ entries. root_of sha256 (leaves_of sha256 entries)) same ∙ sym (ap (λ (k : RootAndLength). k.root) is),
+    sym root_is ∙ ap (λ entries. root_of sha256 (leaves_of sha256 entries)) same
+        ∙ sym (ap (λ (k : RootAndLength). k.root) is),
     sym many ∙ ap length same ∙ sym (ap (λ (k : RootAndLength). k.length) is),
   )

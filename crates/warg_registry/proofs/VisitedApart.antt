@@ -87,10 +87,12 @@ module _ (H : List ℕ → List ℕ) (IsThere : List ℕ → ℕ → List SlotAt
   below_slots : (From : List ℕ → ℕ → List ℕ → List ChangedPageAt → Type 0) (prefix : List ℕ)
       → ((byte version : ℕ) (digest : List ℕ) (pages : List ChangedPageAt) → byte < 256
       → From (prefix ++ byte ∷ []) version digest pages → AreApart (prefix ++ byte ∷ []) pages)
-      → (slots : List SlotAt) (pages : List ChangedPageAt) → Ascends slots → ((z : SlotAt) → Contains slots z → z.byte < 256)
+      → (slots : List SlotAt) (pages : List ChangedPageAt) → Ascends slots → ((z : SlotAt) → Contains slots z
+      → z.byte < 256)
       → AreOfSlots (IsLoneBelow H) From prefix slots pages → AreApartBelow prefix slots pages
   unfolding AreOfSlots
-  below_slots From prefix deeper [] pages ascend bytes all = subst (AreApartBelow prefix []) (sym all) (nothing prefix [])
+  below_slots From prefix deeper [] pages ascend bytes all = subst (AreApartBelow prefix []) (sym all)
+      (nothing prefix [])
   below_slots From prefix deeper (x ∷ xs) pages ascend bytes all =
       subst (AreApartBelow prefix (x ∷ xs)) (sym all.2) (one_more prefix x xs all.0 all.1 ascend
       (one x.lone all.0 refl all.3)
@@ -119,7 +121,8 @@ module _ (H : List ℕ → List ℕ) (IsThere : List ℕ → ℕ → List SlotAt
   lones_below From prefix (y ∷ ys) pages all x l c is =
       let P : SlotAt → Type 0 = λ z. AreOfSlot (IsLoneBelow H) From prefix z z.lone all.0 in
       let Q : Option (List ℕ × List ℕ) → Type 0 = λ o. AreOfSlot (IsLoneBelow H) From prefix x o all.0 in
-      ⊎_elim (λ same. (subst Q is (subst P same all.3)).1) (λ later. lones_below From prefix ys all.1 all.4 x l later is)
+      ⊎_elim (λ same. (subst Q is (subst P same all.3)).1) (λ later. lones_below From prefix ys all.1 all.4 x l
+      later is)
       (there_cases ys x y c)
 
   -- the page at a prefix and those below it
@@ -130,7 +133,8 @@ module _ (H : List ℕ → List ℕ) (IsThere : List ℕ → ℕ → List SlotAt
   page_more prefix version slots below are_bytes short own sub = record {
     bytes = λ p c. ⊎_elim (λ same. let P : ChangedPageAt → Type 0 = λ q. All IsByte q.prefix × (length q.prefix < 32) in
         subst P same (are_bytes, short)) (sub.bytes p) (there_cases below p page c);
-    begin = λ i c. ⊎_elim (own.begin i) (λ later. let z = sub.owner i later in begin_shorter prefix (path i) z.0.byte z.3)
+    begin = λ i c. ⊎_elim (own.begin i) (λ later. let z = sub.owner i later in begin_shorter prefix
+        (path i) z.0.byte z.3)
         (Contains-append_cases (items page) (flat_map items below) i c);
     apart = pairs-append (λ i j. path i ≢ path j) (items page) (flat_map items below) own.apart sub.apart
         (λ i j c d same. let z = sub.owner j d in
@@ -144,17 +148,20 @@ module _ (H : List ℕ → List ℕ) (IsThere : List ℕ → ℕ → List SlotAt
       → ((x : SlotAt) (l : List ℕ × List ℕ) → Contains slots x → x.lone ≡ Some l → IsLoneBelow H prefix x l)
       → IsApart prefix slots (items (record { prefix = prefix; version = version; page = slots }))) where
     from_prefix : (n : ℕ) (prefix : List ℕ) (version : ℕ) (digest : List ℕ) (pages : List ChangedPageAt)
-        → length prefix + n ≡ 32 → All IsByte prefix → AreFromWhere H (IsLoneBelow H) IsThere n prefix version digest pages
+        → length prefix + n ≡ 32 → All IsByte prefix → AreFromWhere H (IsLoneBelow H) IsThere n prefix version
+        digest pages
         → AreApart prefix pages
     unfolding AreFromWhere
     from_prefix zero prefix version digest pages size are_bytes from = absurd from
     from_prefix (suc n) prefix version digest pages size are_bytes from =
         subst (AreApart prefix) (sym from.2) (page_more prefix version from.0 from.1 are_bytes (omega (arith, size))
-        (each prefix version from.0 from.3 (lones_below (AreFromWhere H (IsLoneBelow H) IsThere n) prefix from.0 from.1 from.6))
+        (each prefix version from.0 from.3 (lones_below (AreFromWhere H (IsLoneBelow H) IsThere n) prefix from.0
+        from.1 from.6))
         (below_slots (AreFromWhere H (IsLoneBelow H) IsThere n) prefix
         (λ byte later lower ps is_byte. from_prefix n (prefix ++ byte ∷ []) later lower ps
         (let k = length-append prefix (byte ∷ []) in omega (arith, size))
-        (All-append IsByte prefix (byte ∷ []) are_bytes (All-cons IsByte byte [] is_byte (λ i d lt. absurd (omega arith)))))
+        (All-append IsByte prefix (byte ∷ []) are_bytes (All-cons IsByte byte [] is_byte (λ i d lt. absurd
+        (omega arith)))))
         from.0 from.1 from.3.ascend
         (λ z c. (All-contains IsSlot from.0 z from.3.are_slots c).is_byte) from.6))
 
@@ -178,7 +185,8 @@ page_apart H IsThere prefix version slots = record {
   off = λ p z c d none longer.
       let same : prefix ≡ p.prefix = ap (λ (q : ChangedPageAt). q.prefix)
       (of_one (record { prefix = prefix; version = version; page = slots }) p c) in
-      let size = ap length (sym (take_all (length prefix + 1) prefix (omega arith)) ∙ ap (take (length prefix + 1)) same ∙ longer) in
+      let size = ap length (sym (take_all (length prefix + 1) prefix (omega arith))
+      ∙ ap (take (length prefix + 1)) same ∙ longer) in
       let more = length-append prefix (z.byte ∷ []) in
       omega arith;
   apart = λ i j d lt within. absurd (omega arith);
@@ -196,7 +204,8 @@ pub one_page_visited : (H : List ℕ → List ℕ) (IsThere : List ℕ → ℕ �
     → Contains all q → p.prefix ≡ q.prefix → p ≡ q
 one_page_visited H IsThere root version all are p q c d same =
     one_alike (λ (r : ChangedPageAt). r.prefix) all p q
-    (subst (AllPairs (λ (a b : ChangedPageAt). a.prefix ≢ b.prefix)) (each_alone all) (visited_pages H IsThere root version all are).apart)
+    (subst (AllPairs (λ (a b : ChangedPageAt). a.prefix ≢ b.prefix)) (each_alone all) (visited_pages H IsThere
+    root version all are).apart)
     c d same
   where
     each_alone : (ps : List ChangedPageAt) → flat_map (λ p. p ∷ []) ps ≡ ps
@@ -224,7 +233,8 @@ key_apart H IsThere prefix slots is lones = record {
       kept.1 d byte in
       let clash : true ≡ false = sym kept.0 ∙ ap (λ (y : SlotAt). is_some y.lone) same ∙ ap is_some none in
       cc;
-  apart = pairs_then (λ a b. a.byte < b.byte) (λ x y. key_of x.lone ≢ key_of y.lone) (filter (λ x. is_some x.lone) slots)
+  apart = pairs_then (λ a b. a.byte < b.byte) (λ x y. key_of x.lone ≢ key_of y.lone)
+      (filter (λ x. is_some x.lone) slots)
       (λ x y c d lt same.
       let byte = one_byte prefix x.byte y.byte (sym (begins x c) ∙ ap (take (length prefix + 1)) same ∙ begins y d) in
       omega arith) (AllPairs-filter (λ a b. a.byte < b.byte) (λ x. is_some x.lone) slots is.ascend);

@@ -23,8 +23,8 @@ pub record AreOfRegistry (checkpoint : RootAndLength) (said : List ℕ) (inserti
 abbrev pub AreAllInFiles : Files → List ℕ → ℕ → List ChangedPageAt → Type 0
 AreAllInFiles files root version all = AreAllPages sha256 (IsAllowed (page_read files) (true ≡ true)) root version all
 
--- The log stands for the entries of these insertions; and where a device is faithful, they are in all pages that a root leads
--- to, so many of them as the last ones of their keys.
+-- The log stands for the entries of these insertions; and where a device is faithful, they are in all pages that a root
+-- leads to, so many of them as the last ones of their keys.
 pub record AreReplayed (IsFaithful : Type 0) (files : Files) (version : ℕ) (log : Blocks) (last : ℕ)
     (insertions : List (List ℕ × List ℕ)) : Type 0 where
   pub entries : StandsFor sha256 log (leaves_of sha256 (entries_of insertions))

@@ -1,4 +1,4 @@
-use Rattle.std.proofs.Common.{ℕ, List, length, sym, ap, subst, ◌∙◌}
+use Rattle.std.proofs.Common.{ℕ, List, sym, ap, subst, ◌∙◌}
 use Rattle.warg_crypto.specs.Digests.{sha256}
 use Rattle.warg_folder.specs.Files.{Files}
 use Rattle.warg_folder.proofs.ForCallers.{read_then}
@@ -53,15 +53,18 @@ returns-clause-reads g c = λ faithful origin insertions has.
     let dev = g.F.Folder in
     let keys = c.in_ok-keys.ensures in
     let replay = c.in_ok-replay.ensures in
-    registry_read dev.seen dev.may_leave dev.moment dev.left_since origin insertions c.count_keys.new.self c.replay.new.self
+    registry_read dev.seen dev.may_leave dev.moment dev.left_since origin insertions c.count_keys.new.self
+    c.replay.new.self
     replay.same (replay.read faithful)
-    (registry_read dev.seen dev.may_leave dev.moment dev.left_since origin insertions c.args.self.now c.count_keys.new.self
+    (registry_read dev.seen dev.may_leave dev.moment dev.left_since origin insertions c.args.self.now
+    c.count_keys.new.self
     keys.same (keys.read faithful) has)
 
 pub returns-clause-read : goal.returns-clause-read
 returns-clause-read g c = λ faithful.
     let dev = g.F.Folder in
-    read_then dev.seen dev.may_leave dev.moment dev.left_since c.args.self.now.log.folder c.count_keys.new.self.log.folder
+    read_then dev.seen dev.may_leave dev.moment dev.left_since c.args.self.now.log.folder
+    c.count_keys.new.self.log.folder
     c.replay.new.self.log.folder (g.met.F.Folder.counts_now c.args.self.now.log.folder)
     (c.in_ok-keys.ensures.read faithful) (c.in_ok-replay.ensures.read faithful)
 

@@ -53,7 +53,8 @@ bundles-preserved g c =
             length more.1,
         λ faithful log reads.
             let next : 256 * (c.bundles.bundle + 1) ≡ 256 * c.bundles.bundle + 256 = omega arith in
-            let both = more.2 faithful log (log_read dev.seen log first.log mid.log was.same.1 (files faithful) reads) in
+            let both = more.2 faithful log (log_read dev.seen log first.log mid.log was.same.1 (files faithful)
+            reads) in
             map-append entry_of all more.0 ∙ (λ i. was.replayed.2 faithful log reads i ++ both i)
             ∙ sym (take-add (256 * c.bundles.bundle) 256 log.entries) ∙ ap (λ n. take n log.entries) (sym next),
       );
