@@ -101,6 +101,7 @@ impl<F: Folder + Drop> RegistryReader<F> {
             → ReadsRegistry F.seen origin insertions self.old → IfErr result (IsNoFault ⊥) }
         ensures reads { F.IsFaithful → OnOk result ((origin : List ℕ) (insertions : List (List ℕ × List ℕ))
             → ReadsRegistry F.seen origin insertions self.old → ReadsRegistry F.seen origin insertions self.new) }
+        ensures text { OnOk result (self.new.log.text ≡ self.old.log.text) }
         ensures read { F.IsFaithful → OnOk result
             (IsRead F.seen F.may_leave F.moment F.left_since self.old.log.folder self.new.log.folder) }
     {
