@@ -1,5 +1,5 @@
 -- A folder's files, as the entries of their bundles are read back: which of them are compared.
-use Rattle.std.proofs.Common.{◌≡◌, inl, inr, ⊎_elim, ℕ, zero, suc, ◌+◌, ◌-◌, ◌*◌, ◌/◌, ◌^◌, ◌<◌, ◌≤◌, min, List, [], ◌∷◌, ◌++◌, length, map, take, drop, get_or, Some, refl, sym, ap, subst, ◌∙◌, arith}
+use Rattle.std.proofs.Common.{◌≡◌, inl, inr, ⊎_elim, ℕ, zero, suc, ◌+◌, ◌-◌, ◌*◌, ◌^◌, ◌<◌, ◌≤◌, min, List, [], ◌∷◌, ◌++◌, length, map, take, drop, get_or, Some, refl, sym, ap, subst, ◌∙◌, arith}
 use Rattle.std.specs.List.{AllByRecursion, Contains, flat_map}
 use Rattle.std.proofs.lemmas.Bool.{cases_lt}
 use Rattle.std.proofs.lemmas.List.{length-append, length-map, map-append, take_all, take_more}
@@ -18,9 +18,8 @@ use Rattle.warg_tiles.specs.TilePaths.{tile_path, entries_path}
 use Rattle.warg_tiles.proofs.ForCallers.{full_tiles, partial_of, own_tile}
 use Rattle.warg_folder.specs.Files.{File, Files}
 use Rattle.warg_store.specs.Audited.{log_of, ShowsLog}
-use Rattle.warg_store.specs.Log.{LogOf, AreShort, Extends, HasFiles, IsTileIn, IsBundleIn, tile_bytes, bundle_bytes, said_of}
+use Rattle.warg_store.specs.Log.{LogOf, AreShort, Extends, IsTileIn, IsBundleIn, tile_bytes, bundle_bytes}
 use Rattle.warg_store.specs.Private.Compared.{HasTiles, HasBundles, HasAllFiles}
-use Rattle.warg_store.specs.Reading.{checkpoint_said}
 use Rattle.warg_store.proofs.GrowingLemmas.{same_tile, ground, from_ground}
 use Rattle.warg_store.proofs.LeadLemmas.{width_at_most, tile_kept, bundle_kept, tile_was, bundle_was}
 

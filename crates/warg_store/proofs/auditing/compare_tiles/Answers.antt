@@ -1,4 +1,4 @@
-use Rattle.std.proofs.Common.{◌≡◌, List, ℕ, Some, sym, ap, subst, ◌∙◌, arith, length, map, take}
+use Rattle.std.proofs.Common.{◌≡◌, List, ℕ, Some, sym, subst, arith}
 use Rattle.std.specs.declared.alloc.Global.{Global}
 use Rattle.std.specs.List.{flat_map}
 use Rattle.warg_crypto.specs.declared.hash.Sha256.{Sha256}
@@ -6,13 +6,13 @@ use Rattle.warg_tiles.specs.Tiles.{TileAt}
 use Rattle.warg_tiles.specs.TilePaths.{tile_path}
 use Rattle.warg_tiles.specs.declared.stored.StoredTile.{StoredTile}
 use Rattle.warg_folder.specs.Files.{Files}
-use Rattle.warg_folder.proofs.ForCallers.{read_is, read_then}
+use Rattle.warg_folder.proofs.ForCallers.{read_then}
 use Rattle.warg_protobuf.proofs.ForCallers.{all_at}
 use Rattle.warg_store.specs.Private.Compared.{IsWhole, IsOwnTile}
 use Rattle.warg_store.specs.Refusals.{IsNoFault}
 use Rattle.warg_store.proofs.ListLemmas.{all_made}
 use Rattle.warg_store.proofs.WholeLemmas.{err_same}
-use Rattle.warg_store.proofs.ComparedLemmas.{tile_more, tiles_all}
+use Rattle.warg_store.proofs.ComparedLemmas.{tile_more}
 use Rattle.warg_store.proofs.auditing.compare_tiles.Goals as goal
 
 pub tiles-preserved : goal.tiles-preserved

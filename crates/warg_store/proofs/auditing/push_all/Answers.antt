@@ -1,4 +1,4 @@
-use Rattle.std.proofs.Common.{List, ℕ, Vec, ◌∙◌, arith}
+use Rattle.std.proofs.Common.{ℕ, Vec, ◌∙◌, arith}
 use Rattle.std.specs.declared.alloc.Global.{Global}
 use Rattle.warg_store.proofs.AuditLemmas.{next_more}
 use Rattle.warg_store.proofs.auditing.push_all.Goals as goal

@@ -1,4 +1,4 @@
-use Rattle.std.proofs.Common.{◌≡◌, ◌+◌, ◌*◌, ◌∷◌, ◌++◌, take, List, ℕ, Vec, map, sym, ap, subst, ◌∙◌, arith}
+use Rattle.std.proofs.Common.{◌≡◌, ◌+◌, ◌*◌, ◌∷◌, ◌++◌, take, List, ℕ, Vec, map, sym, ap, subst, ◌∙◌}
 use Rattle.std.specs.declared.alloc.Global.{Global}
 use Rattle.std.proofs.lemmas.List.{length-map}
 use Rattle.std.proofs.lemmas.Result.{on_ok_weaker}
@@ -11,10 +11,8 @@ use Rattle.warg_tiles.specs.declared.stored.StoredTile.{StoredTile}
 use Rattle.warg_folder.specs.Files.{Files}
 use Rattle.warg_folder.proofs.ForCallers.{read_then}
 use Rattle.warg_store.specs.Private.Compared.{HasTiles, IsWhole}
-use Rattle.warg_store.specs.Log.{LogOf}
-use Rattle.warg_store.specs.Reading.{bundle_in}
 use Rattle.warg_store.specs.Refusals.{IsNoFault}
-use Rattle.warg_store.proofs.AuditLemmas.{entries_more, ok_holds}
+use Rattle.warg_store.proofs.AuditLemmas.{ok_holds}
 use Rattle.warg_store.proofs.OlderLemmas.{bundle_stands, own_full}
 use Rattle.warg_store.proofs.WholeLemmas.{err_same}
 use Rattle.warg_store.proofs.ComparedLemmas.{bundle_more}

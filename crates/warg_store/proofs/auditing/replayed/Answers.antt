@@ -1,4 +1,4 @@
-use Rattle.std.proofs.Common.{◌≡◌, ◌≤◌, ◌+◌, ◌*◌, List, [], ◌∷◌, ℕ, length, map, take, min, sym, ap, subst, ◌∙◌, arith}
+use Rattle.std.proofs.Common.{◌≡◌, ◌+◌, ◌*◌, List, [], ◌∷◌, ℕ, length, map, take, min, sym, ap, subst, ◌∙◌, arith}
 use Rattle.std.specs.declared.alloc.Global.{Global}
 use Rattle.std.proofs.lemmas.List.{length-map, take_all}
 use Rattle.warg_crypto.specs.Digests.{sha256}
@@ -9,7 +9,7 @@ use Rattle.warg_tiles.specs.TileLog.{RightEdge, StandsFor, AreTilesOf, partial_t
 use Rattle.warg_tiles.specs.declared.stored.StoredTile.{StoredTile}
 use Rattle.warg_folder.specs.Files.{Files}
 use Rattle.warg_folder.proofs.ForCallers.{read_is, read_then}
-use Rattle.warg_store.specs.Private.Compared.{HasTiles, HasBundles, IsWhole, IsOwnTile}
+use Rattle.warg_store.specs.Private.Compared.{HasTiles, HasBundles, IsWhole}
 use Rattle.warg_store.specs.Refusals.{IsNoFault}
 use Rattle.warg_store.proofs.OlderLemmas.{own_parts}
 use Rattle.warg_store.proofs.WholeLemmas.{err_same}

@@ -1,9 +1,9 @@
-use Rattle.std.proofs.Common.{◌≡◌, IsSome, sym, subst, ◌∙◌, arith}
+use Rattle.std.proofs.Common.{◌≡◌, IsSome, sym, subst, arith}
 use Rattle.std.specs.Prelude.{All, string_bytes}
 use Rattle.warg_folder.specs.Files.{Files}
 use Rattle.warg_store.specs.Audited.{HasOlder}
 use Rattle.warg_store.specs.Refusals.{IsNoFault}
-use Rattle.warg_folder.proofs.ForCallers.{read_is, read_then}
+use Rattle.warg_folder.proofs.ForCallers.{read_then}
 use Rattle.warg_store.proofs.WholeLemmas.{err_same}
 use Rattle.warg_store.proofs.older.compare_older.Goals as goal
 
