@@ -1,5 +1,4 @@
 use Rattle.std.proofs.Common.{sym, subst}
-use Rattle.warg_folder.specs.Files.{Files}
 use Rattle.warg_store.specs.Audited.{HasOlder}
 use Rattle.warg_store.specs.Reading.{Reads}
 use Rattle.warg_store.specs.Refusals.{IsNoFault}
