@@ -13,7 +13,7 @@ use Rattle.std.specs.Str.Parse.{AllDigits}
 use Rattle.warg_crypto.specs.Digests.{IsByte, IsDigest}
 use Rattle.warg_crypto.specs.Collisions.{GivesHashes}
 use Rattle.warg_crypto.specs.Tree.{leaf_digest}
-use Rattle.warg_map.specs.Bits.{bits_from, last_bits, key_bits}
+use Rattle.warg_map.specs.Bits.{bit_at, bits_from, last_bits, key_bits}
 use Rattle.warg_map.specs.Last.{last_with}
 use Rattle.warg_map.specs.Sparse.{root_of_levels, sparse_root, map_of}
 use Rattle.warg_pages.specs.Prefixes.{bits_of_bytes, byte_bits, is_below, below, version}
@@ -27,11 +27,12 @@ use Rattle.warg_pages.specs.ChangedPages.{ChangedPageAt, page_at}
 use Rattle.warg_pages.specs.Visits.{AreAllPagesWhere, AreAllPages, IsAnyPage, IsAllowed, held_by, lone_slots, lone_keys}
 use Rattle.warg_pages.specs.Audits.{IsInPages, AreInPages, count_last}
 use Rattle.warg_pages.proofs.PageFormat.{same_parts}
-use Rattle.warg_pages.proofs.KeyPrefixes.{length-bits_from}
+use Rattle.warg_pages.proofs.KeyPrefixes as keys
 use Rattle.warg_pages.proofs.BitParts.{key_at}
 use Rattle.warg_pages.proofs.HeldHalves.{begins-rest}
 use Rattle.warg_pages.proofs.LoneSlots.{last_passes}
-use Rattle.warg_pages.proofs.OwnDescent.{own_slot_is, bits_of_taken}
+use Rattle.warg_pages.proofs.OwnDescent.{own_slot_is}
+use Rattle.warg_pages.proofs.OwnDescent as descent
 use Rattle.warg_pages.proofs.PrefixBytes.{length-bits, same_bytes}
 use Rattle.warg_pages.proofs.MoreInsertions.{quiet_page, quiet_version, quiet_stands}
 use Rattle.warg_pages.proofs.PagesAfter.{nothing_new}
@@ -261,3 +262,18 @@ length_versions H all first [] [] h = refl
 length_versions H all first [] (v ∷ vs) h = absurd h
 length_versions H all first (e ∷ es) [] h = absurd h
 length_versions H all first (e ∷ es) (v ∷ vs) h = ap suc (length_versions H all (first + 1) es vs h.1)
+
+-- The bits of a key: as many as are asked for, those of two parts, the same ones of another key, and those of its first bytes.
+pub length-bits_from : (bytes : List ℕ) (i n : ℕ) → length (bits_from bytes i n) ≡ n
+length-bits_from = keys.length-bits_from
+
+pub bits_from-append : (bytes : List ℕ) (i m n : ℕ) → bits_from bytes i (m + n)
+    ≡ bits_from bytes i m ++ bits_from bytes (i + m) n
+bits_from-append = keys.bits_from-append
+
+pub bits_from-same : (a b : List ℕ) (i j n : ℕ) → ((m : ℕ) → m < n → bit_at a (i + m) ≡ bit_at b (j + m))
+    → bits_from a i n ≡ bits_from b j n
+bits_from-same = keys.bits_from-same
+
+pub bits_of_taken : (k : List ℕ) (depth : ℕ) → depth ≤ length k → bits_of_bytes (take depth k) ≡ bits_from k 0 (8 * depth)
+bits_of_taken = descent.bits_of_taken
