@@ -1,11 +1,10 @@
 -- What a result says, and an error.
-use Rattle.std.proofs.Common.{◌≡◌, ℕ, ◌<◌, ◌≤◌, List, length, map, get_or, Option, Some, Result, Ok, Err, IfOk, IfErr, refl, sym, ap, subst, arith}
+use Rattle.std.proofs.Common.{◌≡◌, ℕ, ◌<◌, List, length, map, get_or, Option, Some, Result, Ok, Err, IfOk, IfErr, refl, sym, ap, subst, arith}
 use Rattle.std.proofs.lemmas.List.{get_or-map, length-map}
 use Rattle.std.proofs.lemmas.List.Elements.{All-from_recursion}
 use Rattle.std.specs.Prelude.{IsErrOf}
 use Rattle.std.specs.Result.{IsErrAnd}
 use Rattle.warg_folder.specs.Moments.{HasCauseOf}
-use Rattle.warg_folder.specs.declared.device.FolderError.TheVariants.{Failed}
 use Rattle.warg_pages.specs.Refusals.{IsOfSourceUnless}
 use Rattle.warg_pages.specs.declared.error.ProveError.{ProveError}
 use Rattle.warg_pages.specs.declared.error.ProveError.TheVariants.{Pages, Way}
@@ -61,29 +60,6 @@ cause_of_pages told IsFaithful before now fault r was tells = record {
   later = was.later;
   failed = λ faithful is. was.failed faithful (tells is);
 }
-
--- that of one that another's is told by, behind calls before
-pub cause_behind : {T U D E : Type 0} (told : E) (inner : D) (IsFaithful : Type 0) (before mid now : ℕ) (r : Result T E)
-    (s : Result U D) → before ≤ mid → HasCauseOf inner IsFaithful mid now s → (IsErrOf r told → IsErrOf s inner)
-    → HasCauseOf told IsFaithful before now r
-cause_behind told inner IsFaithful before mid now r s le cause tells = record {
-  later = omega (arith, le, cause.later);
-  failed = λ faithful is. omega (arith, le, cause.failed faithful (tells is));
-}
-
--- a push, or a commit, that is told by a failed device
-pub failed_push : (error : PushError) → of_push error ≡ publish.Log (Folder Failed) → error ≡ push.Folder Failed
-failed_push push.TooLong e = absurd (cc)
-failed_push push.Full e = absurd (cc)
-failed_push push.Closed e = absurd (cc)
-failed_push (push.Folder cause) e = cc
-
-pub failed_commit : (error : CommitError) → of_commit error ≡ publish.Log (Folder Failed)
-    → error ≡ commit.Folder Failed
-failed_commit commit.Memory e = absurd (cc)
-failed_commit commit.TooLong e = absurd (cc)
-failed_commit commit.Closed e = absurd (cc)
-failed_commit (commit.Folder cause) e = cc
 
 -- a push that is refused, by what each refusal says
 pub push_refused : (long full : Type 0) (error : PushError) → (error ≡ push.TooLong → long)

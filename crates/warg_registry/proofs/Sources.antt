@@ -15,7 +15,7 @@ use Rattle.warg_registry.specs.Reading.{RegistryRead}
 use Rattle.warg_registry.specs.Sources.{LogBefore, IsFailureTold}
 use Rattle.warg_registry.proofs.FolderMoments.{log_read_then}
 
--- what is known of a log as it is, on a faithful device: of one that is added to, as it was before; and of one that is read
+-- what is known of a log on a faithful device: of one that is added to, as it was before, and of one that is read
 abbrev pub at_kept : {F : Type 0} → (F → ℕ) → LogIn F → LogIn F → LogBefore (LogIn F)
 at_kept faults known now = record { log = known; is_faithful = true; faults = faults now.folder }
 
@@ -31,9 +31,9 @@ pub none_told : (IsFaithful : Type 0) (n : ℕ) → IsFailureTold IsFaithful n n
 none_told IsFaithful n = record { later = omega arith; failed = λ faithful is. absurd (cc) }
 
 -- a reading more
-told_then : {T : Type 0} (IsFaithful : Type 0) (before mid now : ℕ) (fault : Option ReadFault) (read : Result T FolderError)
-    → before ≤ mid → HasCause IsFaithful mid now read → (fault ≡ Some DeviceFailed → IsErrOf read Failed)
-    → IsFailureTold IsFaithful before now fault
+told_then : {T : Type 0} (IsFaithful : Type 0) (before mid now : ℕ) (fault : Option ReadFault)
+    (read : Result T FolderError) → before ≤ mid → HasCause IsFaithful mid now read
+    → (fault ≡ Some DeviceFailed → IsErrOf read Failed) → IsFailureTold IsFaithful before now fault
 told_then IsFaithful before mid now fault read le cause tells = record {
   later = omega (arith, le, cause.later);
   failed = λ faithful is. omega (arith, le, cause.failed faithful (tells is));
@@ -131,8 +131,8 @@ module _ {F : Type 0} (IsFaithful : Type 0) (seen : F → Files) (may_leave : F 
       same ∙ ap (λ (l : ServedIn F). record l { folder = new.folder }) was.0,
       λ e. let old = was.1 e in (
         old.0,
-        read_then seen may_leave moment left_since known.log.folder mid.folder new.folder (counts known.log.folder) old.1
-            (then old.0),
+        read_then seen may_leave moment left_since known.log.folder mid.folder new.folder (counts known.log.folder)
+            old.1 (then old.0),
       ),
       told_then IsFaithful known.faults (faults mid.folder) (faults new.folder) next read was.2.later cause tells,
     )

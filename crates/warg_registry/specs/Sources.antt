@@ -9,7 +9,7 @@ pub record LogBefore (L : Type 0) : Type 0 where
   pub is_faithful : Bool
   pub faults : ℕ
 
--- The device has failed no less often than before; and where it is faithful, more often, if the last page's reading met that.
+-- The device has failed no less often than before; and if it is faithful, more often where the last reading met that.
 pub record IsFailureTold (IsFaithful : Type 0) (before now : ℕ) (fault : Option ReadFault) : Type 0 where
   pub later : before ≤ now
   pub failed : IsFaithful → fault ≡ Some DeviceFailed → before < now

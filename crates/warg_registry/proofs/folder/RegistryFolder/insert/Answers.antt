@@ -19,8 +19,8 @@ returns-in-Ok-clause-pages g c = λ faithful kept own.
     let at = at_kept dev.faults log log in
     let known = kept_known dev.IsFaithful dev.seen dev.may_leave dev.moment dev.left_since dev.faults log log faithful
     (log_is_read dev.IsFaithful dev.seen dev.may_leave dev.moment dev.left_since dev.faults log) in
-    let Own : RegistryIn g.row.F.Denot → Type 0 = λ r. IsOwnSource sha256 (page_read (dev.seen r.log.folder)) r.root r.count
-    kept in
+    let Own : RegistryIn g.row.F.Denot → Type 0 = λ r. IsOwnSource sha256 (page_read (dev.seen r.log.folder)) r.root
+    r.count kept in
     let inside = subst Own (sym c.self.view_is) own in
     (c.in-Ok.ensures.pages at kept known inside, c.in-Ok.ensures.root at kept known inside)
 
@@ -70,8 +70,8 @@ returns-in-Err-Way-WrongDigest-clause-whole g c = λ faithful kept own.
     let at = at_kept dev.faults log log in
     let known = kept_known dev.IsFaithful dev.seen dev.may_leave dev.moment dev.left_since dev.faults log log faithful
     (log_is_read dev.IsFaithful dev.seen dev.may_leave dev.moment dev.left_since dev.faults log) in
-    let Own : RegistryIn g.row.F.Denot → Type 0 = λ r. IsOwnSource sha256 (page_read (dev.seen r.log.folder)) r.root r.count
-    kept in
+    let Own : RegistryIn g.row.F.Denot → Type 0 = λ r. IsOwnSource sha256 (page_read (dev.seen r.log.folder)) r.root
+    r.count kept in
     let inside = subst Own (sym c.self.view_is) own in
     let is = c.in-Err-Way-WrongDigest in
     let refused = rw (is.field-0-is, is.field-0-0-is) at is.ensures.refused in
@@ -112,8 +112,8 @@ returns-in-Err-clause-whole g c = λ faithful kept own.
     let at = at_kept dev.faults log log in
     let known = kept_known dev.IsFaithful dev.seen dev.may_leave dev.moment dev.left_since dev.faults log log faithful
     (log_is_read dev.IsFaithful dev.seen dev.may_leave dev.moment dev.left_since dev.faults log) in
-    let Own : RegistryIn g.row.F.Denot → Type 0 = λ r. IsOwnSource sha256 (page_read (dev.seen r.log.folder)) r.root r.count
-    kept in
+    let Own : RegistryIn g.row.F.Denot → Type 0 = λ r. IsOwnSource sha256 (page_read (dev.seen r.log.folder)) r.root
+    r.count kept in
     let inside = subst Own (sym c.self.view_is) own in
     let fact : IsOfSourceUnless ⊥ c.in-Err.error =
     not_of_pages _ c.in-Err.error (λ refused. refused at kept known inside) c.in-Err.ensures.refused in

@@ -16,9 +16,9 @@ returns-in-Ok-clause-added g c = λ before named only.
       seen.1.0,
       seen.1.1,
       λ faithful known es read own.
-          (let all = seen.2 (at_kept dev.faults known log)
-          (kept_known dev.IsFaithful dev.seen dev.may_leave dev.moment dev.left_since dev.faults known log faithful read)
-          in (
+          (let at = kept_known dev.IsFaithful dev.seen dev.may_leave dev.moment dev.left_since dev.faults known log
+          faithful read in
+          let all = seen.2 (at_kept dev.faults known log) at in (
             λ names have. all_named _ (dev.seen known.folder) (true ≡ true) c.args.root.now c.args.version es seen.0
                 names c.ranges.version.fits own all (λ p there. have p (Contains-append_right before seen.0 p there)),
             own_named _ (dev.seen known.folder) (true ≡ true) c.args.root.now c.args.version es seen.0

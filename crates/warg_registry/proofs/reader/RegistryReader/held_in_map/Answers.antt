@@ -37,32 +37,33 @@ returns-clause-whole g c = λ faithful. elim c.match-held_in_pages.branch [
       let Q : RegistryRead g.row.F.Denot → Type 0 = λ r. AreAllInFiles (dev.seen r.log.folder) root
       c.args.self.now.log.text.length all in
       w.refusal.ensures.whole (not_of_pages _ w.in-Err.error (λ refused. refused (at_served dev.faults log)
-      root all (served_known dev.IsFaithful dev.seen dev.may_leave dev.moment dev.left_since dev.faults log faithful) refl
+      root all (served_known dev.IsFaithful dev.seen dev.may_leave dev.moment dev.left_since dev.faults log faithful)
+      refl
       (subst P (sym said) (subst Q (sym c.self.view_is) led))) w.in-Err.ensures.refused))
 ]
 
 pub returns-clause-same : goal.returns-clause-same
 returns-clause-same g c =
     let dev = g.F.Folder in
+    let new = c.held_in_pages.new.pages in
     (served_read dev.IsFaithful dev.seen dev.may_leave dev.moment dev.left_since dev.faults c.args.self.now
-    c.self.inside.pages.log c.held_in_pages.new.pages.log c.self.inside.root c.held_in_pages.new.pages.fault c.self.view_is
-    c.held_in_pages.ensures.known).same
+    c.self.inside.pages.log new.log c.self.inside.root new.fault c.self.view_is c.held_in_pages.ensures.known).same
 
 pub returns-clause-read : goal.returns-clause-read
 returns-clause-read g c =
     let dev = g.F.Folder in
+    let new = c.held_in_pages.new.pages in
     (served_read dev.IsFaithful dev.seen dev.may_leave dev.moment dev.left_since dev.faults c.args.self.now
-    c.self.inside.pages.log c.held_in_pages.new.pages.log c.self.inside.root c.held_in_pages.new.pages.fault c.self.view_is
-    c.held_in_pages.ensures.known).read
+    c.self.inside.pages.log new.log c.self.inside.root new.fault c.self.view_is c.held_in_pages.ensures.known).read
 
 pub returns-clause-cause : goal.returns-clause-cause
 returns-clause-cause g c =
     let dev = g.F.Folder in
+    let new = c.held_in_pages.new.pages in
     let was = served_read dev.IsFaithful dev.seen dev.may_leave dev.moment dev.left_since dev.faults c.args.self.now
-    c.self.inside.pages.log c.held_in_pages.new.pages.log c.self.inside.root c.held_in_pages.new.pages.fault c.self.view_is
-    c.held_in_pages.ensures.known in
+    c.self.inside.pages.log new.log c.self.inside.root new.fault c.self.view_is c.held_in_pages.ensures.known in
     cause_of_pages (Folder Failed) dev.IsFaithful (dev.faults c.args.self.now.log.folder)
-    (dev.faults c.held_in_pages.new.pages.log.folder) c.held_in_pages.new.pages.fault c.match-held_in_pages.result was.told
+    (dev.faults new.log.folder) new.fault c.match-held_in_pages.result was.told
     (elim c.match-held_in_pages.branch [
       | in-Ok w ↦ rw w.result-is (λ is. absurd (cc))
       | in-Err w ↦ rw w.result-is (λ is. w.refusal.ensures.cause (cc))

@@ -37,35 +37,35 @@ returns-clause-whole g c = λ faithful. elim c.match-prove_by_pages.branch [
       inside.reads.files has.reads.text
       (c.length-version.ensures ∙ ap (λ (k : RootAndLength). k.length) c.checkpoint.ensures) inside.is_root in
       w.refusal.ensures.whole (not_of_pages _ w.in-Err.error (λ refused. refused (at_served dev.faults log)
-      insertions (served_known dev.IsFaithful dev.seen dev.may_leave dev.moment dev.left_since dev.faults log faithful) own)
+      insertions (served_known dev.IsFaithful dev.seen dev.may_leave dev.moment dev.left_since dev.faults log faithful)
+      own)
       w.in-Err.ensures.refused))
 ]
 
 pub returns-clause-same : goal.returns-clause-same
 returns-clause-same g c =
     let dev = g.F.Folder in
+    let new = c.prove_by_pages.new.pages in
     (served_read dev.IsFaithful dev.seen dev.may_leave dev.moment dev.left_since dev.faults c.args.self.now
-    c.self.inside.pages.log c.prove_by_pages.new.pages.log c.self.inside.root c.prove_by_pages.new.pages.fault c.self.view_is
-    c.prove_by_pages.ensures.known).same
+    c.self.inside.pages.log new.log c.self.inside.root new.fault c.self.view_is c.prove_by_pages.ensures.known).same
 
 pub returns-clause-reads : goal.returns-clause-reads
 returns-clause-reads g c = λ faithful origin insertions has.
     let dev = g.F.Folder in
+    let new = c.prove_by_pages.new.pages in
     let was = served_read dev.IsFaithful dev.seen dev.may_leave dev.moment dev.left_since dev.faults c.args.self.now
-    c.self.inside.pages.log c.prove_by_pages.new.pages.log c.self.inside.root c.prove_by_pages.new.pages.fault c.self.view_is
-    c.prove_by_pages.ensures.known in
+    c.self.inside.pages.log new.log c.self.inside.root new.fault c.self.view_is c.prove_by_pages.ensures.known in
     registry_read dev.seen dev.may_leave dev.moment dev.left_since origin insertions c.args.self.now
-    (with_root c.prove_by_pages.new.pages.log
-    c.self.inside.root) was.same (was.read faithful) has
+    (with_root new.log c.self.inside.root) was.same (was.read faithful) has
 
 pub returns-clause-cause : goal.returns-clause-cause
 returns-clause-cause g c =
     let dev = g.F.Folder in
+    let new = c.prove_by_pages.new.pages in
     let was = served_read dev.IsFaithful dev.seen dev.may_leave dev.moment dev.left_since dev.faults c.args.self.now
-    c.self.inside.pages.log c.prove_by_pages.new.pages.log c.self.inside.root c.prove_by_pages.new.pages.fault c.self.view_is
-    c.prove_by_pages.ensures.known in
+    c.self.inside.pages.log new.log c.self.inside.root new.fault c.self.view_is c.prove_by_pages.ensures.known in
     cause_of_pages (Folder Failed) dev.IsFaithful (dev.faults c.args.self.now.log.folder)
-    (dev.faults c.prove_by_pages.new.pages.log.folder) c.prove_by_pages.new.pages.fault c.match-prove_by_pages.result was.told
+    (dev.faults new.log.folder) new.fault c.match-prove_by_pages.result was.told
     (elim c.match-prove_by_pages.branch [
       | in-Ok w ↦ rw w.result-is (λ is. absurd (cc))
       | in-Err w ↦ rw w.result-is (λ is. w.refusal.ensures.cause (cc))
