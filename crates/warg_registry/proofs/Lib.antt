@@ -18,5 +18,6 @@ mod Replaying
 mod FolderMoments
 mod Publishing
 mod WhilePruned
+mod Sources
 mod PremiseLemmas
 pub mod ForCallers

@@ -1,8 +1,10 @@
 -- What a result says, and an error.
-use Rattle.std.proofs.Common.{◌≡◌, ℕ, ◌<◌, List, length, map, get_or, Result, Ok, Err, IfOk, IfErr, refl, sym, ap, subst, arith}
+use Rattle.std.proofs.Common.{◌≡◌, ℕ, ◌<◌, List, length, map, get_or, Option, Some, Result, Ok, Err, IfOk, IfErr, refl, sym, ap, subst, arith}
 use Rattle.std.proofs.lemmas.List.{get_or-map, length-map}
 use Rattle.std.proofs.lemmas.List.Elements.{All-from_recursion}
+use Rattle.std.specs.Prelude.{IsErrOf}
 use Rattle.std.specs.Result.{IsErrAnd}
+use Rattle.warg_folder.specs.Moments.{HasCauseOf}
 use Rattle.warg_pages.specs.Refusals.{IsOfSourceUnless}
 use Rattle.warg_pages.specs.declared.error.ProveError.{ProveError}
 use Rattle.warg_pages.specs.declared.error.ProveError.TheVariants.{Pages, Way}
@@ -16,8 +18,11 @@ use Rattle.warg_store.specs.declared.log_folder.CommitError.TheVariants as commi
 use Rattle.warg_store.specs.declared.log_folder.PushError.{PushError}
 use Rattle.warg_store.specs.declared.log_folder.PushError.TheVariants as push
 use Rattle.warg_registry.specs.Publishing.{IsRefusedFor, of_push, of_commit}
+use Rattle.warg_registry.specs.Sources.{IsFailureTold}
 use Rattle.warg_registry.specs.declared.error.PublishError.{PublishError}
 use Rattle.warg_registry.specs.declared.error.PublishError.TheVariants as publish
+use Rattle.warg_registry.specs.declared.error.ReadFault.{ReadFault}
+use Rattle.warg_registry.specs.declared.error.ReadFault.TheVariants.{DeviceFailed}
 
 -- a refusal that is told by an error
 pub told_as : {T E : Type 0} (P : E → Type 0) (error : E) (r : Result T E) → IsErrAnd r (λ e. e ≡ error) → P error
@@ -46,6 +51,15 @@ not_of_pages P (Way Memory) never h = tt
 not_of_pages P (Way BadPage) never h = never h
 not_of_pages P (Way WrongDigest) never h = never h
 not_of_pages P (Way WrongLoneKey) never h = never h
+
+-- the cause of a refusal that is the pages' last fault, where they were read
+pub cause_of_pages : {T E : Type 0} (told : E) (IsFaithful : Type 0) (before now : ℕ) (fault : Option ReadFault)
+    (r : Result T E) → IsFailureTold IsFaithful before now fault → (IsErrOf r told → fault ≡ Some DeviceFailed)
+    → HasCauseOf told IsFaithful before now r
+cause_of_pages told IsFaithful before now fault r was tells = record {
+  later = was.later;
+  failed = λ faithful is. was.failed faithful (tells is);
+}
 
 -- a push that is refused, by what each refusal says
 pub push_refused : (long full : Type 0) (error : PushError) → (error ≡ push.TooLong → long)

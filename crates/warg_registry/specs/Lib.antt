@@ -5,3 +5,4 @@ pub mod Pruning
 pub mod Publishing
 pub mod Reading
 pub mod Registry
+pub mod Sources

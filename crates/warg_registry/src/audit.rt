@@ -8,10 +8,10 @@ ghost use Rattle.warg_pages.specs.Audits.{IsHeldIn, IsInPages};
 ghost use Rattle.warg_pages.specs.ChangedPages.{ChangedPageAt};
 ghost use Rattle.warg_pages.specs.Visits.{lone_slots};
 ghost use Rattle.warg_store.specs.Audited.{IsOfEntries, ShowsLog, HasOlder};
-ghost use Rattle.warg_folder.specs.Moments.{IsRead};
+ghost use Rattle.warg_folder.specs.Moments.{IsRead, HasCauseOf};
 ghost use Rattle.warg_store.specs.Log.{LogOf};
 ghost use Rattle.warg_store.specs.Reading.{Reads, bundle_in, checkpoint_said};
-ghost use Rattle.warg_store.specs.Refusals.{IsNoFault};
+ghost use Rattle.warg_store.specs.Refusals.{IsNoFault, IsNoFailure};
 ghost use Rattle.warg_registry.specs.Auditing.{AreOfRegistry, AreAllInFiles, AreReplayed, HasVisited};
 ghost use Rattle.warg_registry.specs.Folder.{registry_of};
 ghost use Rattle.warg_registry.specs.Insertions.{entry_of, entries_of};
@@ -24,7 +24,7 @@ use std::alloc::{AllocError, Global};
 use warg_crypto::{Hash, Sha256, hash_leaf};
 use warg_log::{Checkpoint, GREATEST_LENGTH, LogBuilder, StackLog};
 use warg_pages::{HeldInPages, LoneKeyCheck, MapPage, PageVisitor, held_in_pages, visit_pages};
-use warg_store::{Folder, LogError, Progress};
+use warg_store::{Folder, FolderError, LogError, Progress};
 use warg_tiles::Tile;
 
 // How many keys stand alone in the slots of pages.
@@ -85,6 +85,8 @@ impl<F: Folder + Drop> RegistryReader<F> {
         ensures whole { F.IsFaithful → (origin : List ℕ) (insertions : List (List ℕ × List ℕ))
             → ReadsRegistry F.seen origin insertions self.old
             → HasOlder (registry_of origin insertions) (F.seen self.old.log.folder) → IfErr result (IsNoFault ⊥) }
+        ensures cause { HasCauseOf (LogError.Folder FolderError.Failed) F.IsFaithful
+            (F.faults self.old.log.folder) (F.faults self.new.log.folder) result }
     {
         let checkpoint = self.audited_map()?;
         self.pages.log.audit(progress)?;
@@ -104,6 +106,8 @@ impl<F: Folder + Drop> RegistryReader<F> {
         ensures text { OnOk result (self.new.log.text ≡ self.old.log.text) }
         ensures read { F.IsFaithful → OnOk result
             (IsRead F.seen F.may_leave F.moment F.left_since self.old.log.folder self.new.log.folder) }
+        ensures cause { HasCauseOf (LogError.Folder FolderError.Failed) F.IsFaithful
+            (F.faults self.old.log.folder) (F.faults self.new.log.folder) result }
     {
         let keys = self.count_keys()?;
         let replay = self.replay()?;
@@ -129,9 +133,12 @@ impl<F: Folder + Drop> RegistryReader<F> {
         ensures same { (self.new.root ≡ self.old.root) × (self.new.log.text ≡ self.old.log.text) }
         ensures read { F.IsFaithful
             → IsRead F.seen F.may_leave F.moment F.left_since self.old.log.folder self.new.log.folder }
+        ensures cause { HasCauseOf (LogError.Folder FolderError.Failed) F.IsFaithful
+            (F.faults self.old.log.folder) (F.faults self.new.log.folder) result }
     {
         let version = self.checkpoint().length() as u64;
         let mut lones = LoneKeys { count: 0 };
+        self.pages.fault = None;
         match visit_pages(
             self.alloc,
             &mut self.pages,
@@ -155,6 +162,8 @@ impl<F: Folder + Drop> RegistryReader<F> {
         ensures same { (self.new.root ≡ self.old.root) × (self.new.log.text ≡ self.old.log.text) }
         ensures read { F.IsFaithful
             → IsRead F.seen F.may_leave F.moment F.left_since self.old.log.folder self.new.log.folder }
+        ensures cause { HasCauseOf (LogError.Folder FolderError.Failed) F.IsFaithful
+            (F.faults self.old.log.folder) (F.faults self.new.log.folder) result }
     {
         let mut replay = Replay {
             log: StackLog::default(self.alloc),
@@ -182,6 +191,8 @@ impl<F: Folder + Drop> RegistryReader<F> {
         ensures same { (self.new.root ≡ self.old.root) × (self.new.log.text ≡ self.old.log.text) }
         ensures read { F.IsFaithful
             → IsRead F.seen F.may_leave F.moment F.left_since self.old.log.folder self.new.log.folder }
+        ensures cause { HasCauseOf (LogError.Folder FolderError.Failed) F.IsFaithful
+            (F.faults self.old.log.folder) (F.faults self.new.log.folder) result }
     {
         let entries = self.pages.log.entries(bundle)?;
         'entries: for entry in &entries {
@@ -206,6 +217,8 @@ impl<F: Folder + Drop> RegistryReader<F> {
         ensures same { (self.new.root ≡ self.old.root) × (self.new.log.text ≡ self.old.log.text) }
         ensures read { F.IsFaithful
             → IsRead F.seen F.may_leave F.moment F.left_since self.old.log.folder self.new.log.folder }
+        ensures cause { HasCauseOf (LogError.Folder FolderError.Failed) F.IsFaithful
+            (F.faults self.old.log.folder) (F.faults self.new.log.folder) result }
     {
         let index = replay.log.length();
         if index >= GREATEST_LENGTH {
@@ -233,8 +246,11 @@ impl<F: Folder + Drop> RegistryReader<F> {
         ensures same { (self.new.root ≡ self.old.root) × (self.new.log.text ≡ self.old.log.text) }
         ensures read { F.IsFaithful
             → IsRead F.seen F.may_leave F.moment F.left_since self.old.log.folder self.new.log.folder }
+        ensures cause { HasCauseOf (LogError.Folder FolderError.Failed) F.IsFaithful
+            (F.faults self.old.log.folder) (F.faults self.new.log.folder) result }
     {
         let version = self.checkpoint().length() as u64;
+        self.pages.fault = None;
         match held_in_pages(self.alloc, &mut self.pages, version, key) {
             Ok(held) => Ok(held),
             Err(error) => Err(self.pages.refusal(error)),
@@ -255,6 +271,8 @@ impl<F: Folder + Drop> RegistryReader<F> {
         ensures same { (self.new.root ≡ self.old.root) × (self.new.log.text ≡ self.old.log.text) }
         ensures read { F.IsFaithful
             → IsRead F.seen F.may_leave F.moment F.left_since self.old.log.folder self.new.log.folder }
+        ensures cause { HasCauseOf (LogError.Folder FolderError.Failed) F.IsFaithful
+            (F.faults self.old.log.folder) (F.faults self.new.log.folder) result }
     {
         let key: Hash<Sha256> = Hash::of(&insertion.key);
         let held = self.held_in_map(&key)?;
@@ -290,7 +308,9 @@ fn is_next(held: &Option<HeldInPages<Sha256>>, index: u64, value: &[u8]) -> Opti
 }
 
 // That the bundle with an entry has one that is no insertion.
-fn no_insertion(alloc: Global, length: usize, index: usize) -> LogError {
+fn no_insertion(alloc: Global, length: usize, index: usize) -> LogError
+    ensures { IsNoFailure result }
+{
     let number = index / 256;
     let width = length.saturating_sub(256 * number).clamp(1, 256);
     match Tile::new(0, number, width).entries_path(alloc) {

@@ -1,7 +1,8 @@
 //! Why bytes are read as no insertion, a text as none of a registry, and a call on a registry's folder is refused.
 
+ghost use Rattle.std.specs.Prelude.{◌≡◌, ◌↔◌, Some, IsErrOf};
 ghost use Rattle.warg_pages.specs.Refusals.{IsMemoryUnless, IsOfSourceUnless};
-ghost use Rattle.warg_store.specs.Refusals.{IsNoFault};
+ghost use Rattle.warg_store.specs.Refusals.{IsNoFault, IsNoFailure};
 
 use std::alloc::{AllocError, AllocFailed, Global};
 use thiserror::Error;
@@ -135,33 +136,73 @@ impl From<CommitError> for PublishError {
     }
 }
 
+/// What was wrong when a page was read.
+#[derive(Clone, Copy, PartialEq, Eq)]
+pub(crate) enum ReadFault {
+    /// No file has its name.
+    NoFile,
+    /// The device failed.
+    DeviceFailed,
+}
+
+impl ReadFault {
+    /// What was wrong, where something was: a refusal of memory says nothing of the page.
+    pub(crate) fn of(read: &Result<Option<Vec<u8>>, FolderError>) -> Option<ReadFault>
+        ensures { result ≡ Some ReadFault.DeviceFailed → IsErrOf read.now FolderError.Failed }
+    {
+        match read {
+            Ok(Some(_)) => None,
+            Ok(None) => Some(ReadFault::NoFile),
+            Err(FolderError::Memory) => None,
+            Err(FolderError::Failed) => Some(ReadFault::DeviceFailed),
+        }
+    }
+}
+
 /// That a file is missing or corrupt.
-pub(crate) fn damaged(alloc: Global, name: &str, fault: &'static str) -> LogError {
+pub(crate) fn damaged(alloc: Global, name: &str, fault: &'static str) -> LogError
+    ensures { IsNoFailure result }
+{
     match String::from_str(alloc, name) {
         Ok(name) => LogError::Damaged(Damage { name, fault }),
         Err(_) => LogError::Folder(FolderError::Memory),
     }
 }
 
-/// Why pages lead to nothing, where this one was read last, and may be missing.
+/// Why pages lead to nothing, where this one was read last, and this was wrong with it.
 pub(crate) fn of_source(
     alloc: Global,
     last: &str,
-    is_missing: bool,
+    fault: Option<ReadFault>,
     error: ProveError<FolderError>,
 ) -> LogError
-    ensures { IsOfSourceUnless ⊥ error → IsNoFault ⊥ result }
+    ensures whole { IsOfSourceUnless ⊥ error → IsNoFault ⊥ result }
+    ensures cause { result ≡ LogError.Folder FolderError.Failed → fault ≡ Some ReadFault.DeviceFailed }
 {
     match error {
-        ProveError::Pages(error) => LogError::Folder(error),
-        ProveError::Way(WayError::BadPage) if is_missing => damaged(alloc, last, "is missing"),
+        ProveError::Pages(_) => LogError::Folder(of_reading(fault)),
+        ProveError::Way(WayError::BadPage) if fault == Some(ReadFault::NoFile) => {
+            damaged(alloc, last, "is missing")
+        }
         ProveError::Way(error) => of_pages(alloc, last, error),
+    }
+}
+
+// Why a page wasn't read: its device failed, or memory was refused.
+fn of_reading(fault: Option<ReadFault>) -> FolderError
+    ensures { (result ≡ FolderError.Failed) ↔ (fault ≡ Some ReadFault.DeviceFailed) }
+{
+    match fault {
+        Some(ReadFault::DeviceFailed) => FolderError::Failed,
+        Some(ReadFault::NoFile) => FolderError::Memory,
+        None => FolderError::Memory,
     }
 }
 
 /// What is wrong with pages, where this one was read last.
 pub(crate) fn of_pages(alloc: Global, last: &str, error: WayError) -> LogError
-    ensures { IsMemoryUnless ⊥ error → IsNoFault ⊥ result }
+    ensures whole { IsMemoryUnless ⊥ error → IsNoFault ⊥ result }
+    ensures other { IsNoFailure result }
 {
     match error {
         WayError::Memory => LogError::Folder(FolderError::Memory),

@@ -1,6 +1,6 @@
 //! A registry in a folder, as whoever adds to it holds it.
 
-ghost use Rattle.std.specs.Prelude.{◌≡◌, ◌⊎◌, ◌+◌, ◌++◌, ◌^◌, ◌<◌, ℕ, List, [], ◌∷◌, length, map, true, false, Err, IfOk, IfErr, OnOk, OnErr, IsSome};
+ghost use Rattle.std.specs.Prelude.{◌≡◌, ◌≢◌, ◌⊎◌, ◌+◌, ◌++◌, ◌^◌, ◌<◌, ◌≤◌, ℕ, List, [], ◌∷◌, length, map, true, false, Err, IfOk, IfErr, OnOk, OnErr, IsSome};
 ghost use Rattle.std.specs.List.{AllByRecursion};
 ghost use Rattle.warg_crypto.specs.Digests.{sha256, IsDigest};
 ghost use Rattle.warg_map.specs.Sparse.{map_of, sparse_root, pair_bytes};
@@ -9,7 +9,7 @@ ghost use Rattle.warg_pages.specs.ProvedKeys.{IsOwnSource};
 ghost use Rattle.warg_tiles.specs.CheckpointText.{IsLine};
 ghost use Rattle.warg_store.specs.Growing.{LogIn, IsReady, Has, HasNext, IsFresh, with_page};
 ghost use Rattle.warg_store.specs.Log.{LogOf, HasLog, IsOneOf, IsCommitting, AreShort, CanBeKept};
-ghost use Rattle.warg_folder.specs.Moments.{LeavesOnly, HasLostCause};
+ghost use Rattle.warg_folder.specs.Moments.{LeavesOnly, HasCauseOf, HasLostCause};
 ghost use Rattle.warg_folder.specs.Names.{is_page};
 ghost use Rattle.warg_folder.specs.Commits.{IsBeside, opened};
 ghost use Rattle.warg_store.specs.Opening.{IsOpening, HasNoLogFile, HasLogFile};
@@ -96,6 +96,8 @@ impl<F: Folder + Drop> RegistryFolder<F> {
             → IfErr result IsNoFault }
         ensures any_moment { F.IsFaithful → IfOk result (λ r. LeavesOnly F.moment F.left_since folder r.log.folder
             (λ c. F.may_leave folder c ⊎ IsOpening (F.seen folder) c)) }
+        ensures cause { HasLostCause F.faults (RegistryError.Log (LogError.Folder FolderError.Failed)) F.IsFaithful
+            folder result }
     {
         let log = LogFolder::open(alloc, folder)?;
         let root = root_said(alloc, log.text())?;
@@ -132,6 +134,8 @@ impl<F: Folder + Drop> RegistryFolder<F> {
             → let more = pair_bytes (λ k. k.now) (λ v. v.now) insertions.now in
             IfErr result (IsRefusedFor (¬ (AreShort (entries_of more)))
             (¬ (CanBeKept (registry_of origin (kept ++ more))))) }
+        ensures cause { HasCauseOf (PublishError.Log (LogError.Folder FolderError.Failed)) F.IsFaithful
+            (F.faults self.old.log.folder) (F.faults self.new.log.folder) result }
     {
         if !self.is_open {
             return Err(PublishError::Closed);
@@ -176,7 +180,10 @@ impl<F: Folder + Drop> RegistryFolder<F> {
         ensures whole { F.IsFaithful → (kept : List (List ℕ × List ℕ))
             → IsOwnSource sha256 (page_read (F.seen self.old.log.folder)) self.old.root self.old.count kept
             → IfErr result (IsRefusedFor ⊥ ⊥) }
+        ensures cause { HasCauseOf (PublishError.Log (LogError.Folder FolderError.Failed)) F.IsFaithful
+            (F.faults self.old.log.folder) (F.faults self.new.log.folder) result }
     {
+        self.pages.fault = None;
         match self.map.insert_all(self.alloc, &mut self.pages, insertions) {
             Ok(changed) => Ok(changed),
             Err(ProveError::Way(WayError::WrongDigest)) => {
@@ -210,6 +217,8 @@ impl<F: Folder + Drop> RegistryFolder<F> {
             → IsSome (F.seen self.new.log.folder n) → IsPageOf served n ⊎ IsPageOf kept n) }
         ensures whole { F.IsFaithful → (origin : List ℕ) (served kept : List (List ℕ × List ℕ))
             → HasRegistry F.seen F.may_leave origin served kept self.old → IfErr result (IsNoLogFault ⊥) }
+        ensures cause { HasCauseOf (LogError.Folder FolderError.Failed) F.IsFaithful
+            (F.faults self.old.log.folder) (F.faults self.new.log.folder) result }
     {
         let spare = self.pages.spare(&self.map.root, self.map.version)?;
         let log = &mut self.pages.log;
@@ -251,6 +260,7 @@ pub(crate) fn root_said(
     ensures ok { IfOk result (λ root. IsDigest root × (text.now.extensions ≡ line_of root ∷ [])) }
     ensures err { (root : List ℕ) → IsDigest root → text.now.extensions ≡ line_of root ∷ []
         → IfErr result IsNoFault }
+    ensures other { IfErr result (λ error. error ≢ RegistryError.Log (LogError.Folder FolderError.Failed)) }
 {
     match map_root(text) {
         Ok(Some(root)) => {
@@ -282,10 +292,14 @@ fn find_fault<F: Folder + Drop>(
     map: &PagedMap<Sha256>,
     insertions: &[(&[u8], &[u8])],
 ) -> LogError
-    ensures { F.IsFaithful → (known : LogIn F)
+    ensures read { F.IsFaithful → (known : LogIn F)
         → IsLogRead F.seen F.may_leave F.moment F.left_since known pages.old.log
         → IsLogRead F.seen F.may_leave F.moment F.left_since known pages.new.log }
+    ensures later { F.faults pages.old.log.folder ≤ F.faults pages.new.log.folder }
+    ensures cause { F.IsFaithful → result ≡ LogError.Folder FolderError.Failed
+        → F.faults pages.old.log.folder < F.faults pages.new.log.folder }
 {
+    pages.fault = None;
     'keys: for insertion in insertions {
         if let Err(error) = prove_by_pages(alloc, pages, &map.root, map.version, &insertion.0) {
             return pages.refusal(error);
@@ -304,6 +318,7 @@ fn entries_in(alloc: Global, insertions: &[(&[u8], &[u8])]) -> Result<Vec<Vec<u8
         ≡ entries_of (pair_bytes (λ k. k.now) (λ v. v.now) insertions.now)) }
     ensures refused { IfErr result (IsRefusedFor
         (¬ (AreShort (entries_of (pair_bytes (λ k. k.now) (λ v. v.now) insertions.now)))) ⊥) }
+    ensures other { IfErr result (λ error. error ≢ PublishError.Log (LogError.Folder FolderError.Failed)) }
 {
     let mut entries = Vec::new(alloc);
     'insertions: for insertion in insertions {
@@ -316,6 +331,7 @@ fn entry_in(alloc: Global, insertion: &(&[u8], &[u8])) -> Result<Vec<u8>, Publis
     ensures made { IfOk result (λ entry. entry.items ≡ entry_of (insertion.now.0.now, insertion.now.1.now)) }
     ensures refused { IfErr result (IsRefusedFor
         (65535 < length (entry_of (insertion.now.0.now, insertion.now.1.now))) ⊥) }
+    ensures other { IfErr result (λ error. error ≢ PublishError.Log (LogError.Folder FolderError.Failed)) }
 {
     match write_insertion(alloc, insertion.0, insertion.1) {
         Ok(entry) => Ok(entry),
@@ -348,6 +364,8 @@ fn grow<F: Folder + Drop>(
         → IsNextLog old next (map (λ e. e.items) entries.now) (files_of changed.now) root.now
         → AreFresh served old (with_entries old (map (λ e. e.items) entries.now)) (files_of changed.now)
         → IfErr result (IsRefusedFor (¬ (AreShort (map (λ e. e.items) entries.now))) (¬ (CanBeKept next))) }
+    ensures cause { HasCauseOf (PublishError.Log (LogError.Folder FolderError.Failed)) F.IsFaithful
+        (F.faults log.old.folder) (F.faults log.new.folder) result }
 {
     push_all(log, entries)?;
     put_all(alloc, log, changed)?;
@@ -368,6 +386,8 @@ fn push_all<F: Folder + Drop>(log: &mut LogFolder<F>, entries: &[Vec<u8>]) -> Re
     ensures refused { F.IsFaithful → (served old next : LogOf) → Has F.seen F.may_leave served old next log.old
         → IfErr result (λ e. IsRefusedFor (¬ (AreShort (map (λ e. e.items) entries.now)))
         (2 ^ 63 < length next.entries + length entries.now) (of_push e)) }
+    ensures cause { HasCauseOf (PushError.Folder FolderError.Failed) F.IsFaithful
+        (F.faults log.old.folder) (F.faults log.new.folder) result }
 {
     'entries: for entry in entries {
         log.push(entry.as_slice())?;
@@ -389,6 +409,8 @@ fn put_all<F: Folder + Drop>(
     ensures any_moment { F.IsFaithful → (served old next : LogOf) → Has F.seen F.may_leave served old next log.old
         → LeavesOnly F.moment F.left_since log.old.folder log.new.folder (IsBeside (F.seen log.old.folder)) }
     ensures refused { log.old.is_open ≡ true → IfErr result (λ e. IsRefusedFor ⊥ ⊥ (of_push e)) }
+    ensures cause { HasCauseOf (PushError.Folder FolderError.Failed) F.IsFaithful
+        (F.faults log.old.folder) (F.faults log.new.folder) result }
 {
     'pages: for page in changed {
         put_one(alloc, log, page)?;
@@ -411,6 +433,8 @@ fn put_one<F: Folder + Drop>(
     ensures refused { log.old.is_open ≡ true → IfErr result (λ e. IsRefusedFor ⊥ ⊥ (of_push e)) }
     ensures any_moment { F.IsFaithful → log.old.is_open ≡ true
         → LeavesOnly F.moment F.left_since log.old.folder log.new.folder (IsBeside (F.seen log.old.folder)) }
+    ensures cause { HasCauseOf (PushError.Folder FolderError.Failed) F.IsFaithful
+        (F.faults log.old.folder) (F.faults log.new.folder) result }
 {
     let path = page_path(alloc, page.prefix.as_slice(), page.version)?;
     let bytes = page.page.write(alloc)?;

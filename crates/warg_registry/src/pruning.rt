@@ -6,6 +6,7 @@ ghost use Rattle.warg_crypto.specs.Digests.{sha256};
 ghost use Rattle.warg_pages.specs.ChangedPages.{ChangedPageAt};
 ghost use Rattle.warg_pages.specs.PagePaths.{page_path};
 ghost use Rattle.warg_pages.specs.ProvedKeys.{IsOwnSource};
+ghost use Rattle.warg_folder.specs.Moments.{HasCauseOf};
 ghost use Rattle.warg_store.specs.Growing.{LogIn};
 ghost use Rattle.warg_store.specs.Log.{Serves};
 ghost use Rattle.warg_folder.specs.Names.{is_page};
@@ -21,7 +22,7 @@ use std::alloc::{AllocError, Global};
 use std::collections::BTreeSet;
 use warg_crypto::{Hash, Sha256};
 use warg_pages::{LoneKeyCheck, MapPage, PageVisitor, PagedMap, page_path, visit_pages};
-use warg_store::{Folder, LogError};
+use warg_store::{Folder, FolderError, LogError};
 
 /// The names of pages that are needed.
 #[derive(Drop)]
@@ -81,7 +82,10 @@ impl NeededPages {
         ensures read { F.IsFaithful → (known : LogIn F)
             → IsLogRead F.seen F.may_leave F.moment F.left_since known pages.old.log
             → IsLogRead F.seen F.may_leave F.moment F.left_since known pages.new.log }
+        ensures cause { HasCauseOf (LogError.Folder FolderError.Failed) F.IsFaithful
+            (F.faults pages.old.log.folder) (F.faults pages.new.log.folder) result }
     {
+        pages.fault = None;
         match visit_pages(
             self.alloc,
             pages,
@@ -139,6 +143,8 @@ impl<F: Folder + Drop> KeptPages<F> {
         ensures read { F.IsFaithful → (known : LogIn F)
             → IsLogRead F.seen F.may_leave F.moment F.left_since known self.old.log
             → IsLogRead F.seen F.may_leave F.moment F.left_since known self.new.log }
+        ensures cause { HasCauseOf (LogError.Folder FolderError.Failed) F.IsFaithful
+            (F.faults self.old.log.folder) (F.faults self.new.log.folder) result }
     {
         let needed = self.needed(root, version)?;
         let names = self.names()?;
@@ -161,6 +167,8 @@ impl<F: Folder + Drop> KeptPages<F> {
         ensures read { F.IsFaithful → (known : LogIn F)
             → IsLogRead F.seen F.may_leave F.moment F.left_since known self.old.log
             → IsLogRead F.seen F.may_leave F.moment F.left_since known self.new.log }
+        ensures cause { HasCauseOf (LogError.Folder FolderError.Failed) F.IsFaithful
+            (F.faults self.old.log.folder) (F.faults self.new.log.folder) result }
     {
         let mut needed = NeededPages::new(self.alloc);
         needed.add(self, root, version)?;
@@ -186,6 +194,8 @@ impl<F: Folder + Drop> KeptPages<F> {
         ensures read { F.IsFaithful → (known : LogIn F)
             → IsLogRead F.seen F.may_leave F.moment F.left_since known self.old.log
             → IsLogRead F.seen F.may_leave F.moment F.left_since known self.new.log }
+        ensures cause { HasCauseOf (LogError.Folder FolderError.Failed) F.IsFaithful
+            (F.faults self.old.log.folder) (F.faults self.new.log.folder) result }
     {
         let text = self.log.served()?;
         let version = text.checkpoint().length() as u64;
@@ -205,6 +215,8 @@ impl<F: Folder + Drop> KeptPages<F> {
         ensures read { F.IsFaithful → (known : LogIn F)
             → IsLogRead F.seen F.may_leave F.moment F.left_since known self.old.log
             → IsLogRead F.seen F.may_leave F.moment F.left_since known self.new.log }
+        ensures cause { HasCauseOf (LogError.Folder FolderError.Failed) F.IsFaithful
+            (F.faults self.old.log.folder) (F.faults self.new.log.folder) result }
     {
         Ok(self.log.pages()?)
     }

@@ -6,9 +6,10 @@ ghost use Rattle.warg_crypto.specs.Tree.{leaf_digest};
 ghost use Rattle.warg_map.specs.Bits.{key_bits};
 ghost use Rattle.warg_map.specs.ProofValue.{proof_value};
 ghost use Rattle.warg_pages.specs.ProvedKeys.{LeadsTo, IsProved};
+ghost use Rattle.warg_folder.specs.Moments.{HasCauseOf, HasLostCause};
 ghost use Rattle.warg_store.specs.Log.{Serves};
 ghost use Rattle.warg_store.specs.Reading.{IsShown, checkpoint_said};
-ghost use Rattle.warg_store.specs.Refusals.{IsNoFault as IsNoLogFault};
+ghost use Rattle.warg_store.specs.Refusals.{IsNoFault as IsNoLogFault, IsNoFailure};
 ghost use Rattle.warg_registry.specs.Folder.{registry_of, IsNoFault};
 ghost use Rattle.warg_registry.specs.Reading.{ReadsRegistry, IsKeyShown, IsLogged, IsOfEntry, IsOwnKey, IsHeldAt, IsKeyIn};
 ghost use Rattle.warg_registry.specs.Insertions.{entry_of, entries_of, IsInsertion};
@@ -22,7 +23,7 @@ use std::marker::Model;
 use warg_crypto::{Hash, Sha256};
 use warg_log::Checkpoint;
 use warg_pages::{KeyInPages, prove_by_pages};
-use warg_store::{Folder, LogError, LogReader};
+use warg_store::{Folder, FolderError, LogError, LogReader};
 
 /// What a registry has under a key, with the peers of the map's proof, from the bottom of the tree to the top.
 #[derive(Drop)]
@@ -67,6 +68,8 @@ impl<F: Folder + Drop> RegistryReader<F> {
         ensures opens { F.IsFaithful → (origin : List ℕ) (insertions : List (List ℕ × List ℕ))
             → Serves (registry_of origin insertions) (F.seen folder)
             → IfErr result IsNoFault }
+        ensures cause { HasLostCause F.faults (RegistryError.Log (LogError.Folder FolderError.Failed)) F.IsFaithful
+            folder result }
     {
         let log = LogReader::open_served(alloc, folder)?;
         let root = root_said(alloc, log.text())?;
@@ -74,7 +77,7 @@ impl<F: Folder + Drop> RegistryReader<F> {
             alloc,
             log,
             last: String::new(alloc),
-            is_missing: false,
+            fault: None,
         };
         Ok(RegistryReader { alloc, pages, root })
     }
@@ -117,6 +120,8 @@ impl<F: Folder + Drop> RegistryReader<F> {
             → IfErr result (IsNoLogFault ⊥) }
         ensures reads { F.IsFaithful → (origin : List ℕ) (insertions : List (List ℕ × List ℕ))
             → ReadsRegistry F.seen origin insertions self.old → ReadsRegistry F.seen origin insertions self.new }
+        ensures cause { HasCauseOf (LogError.Folder FolderError.Failed) F.IsFaithful
+            (F.faults self.old.log.folder) (F.faults self.new.log.folder) result }
     {
         self.found(key, EntryFrom::Bundle)
     }
@@ -133,6 +138,8 @@ impl<F: Folder + Drop> RegistryReader<F> {
             → IfErr result (IsNoLogFault ⊥) }
         ensures reads { F.IsFaithful → (origin : List ℕ) (insertions : List (List ℕ × List ℕ))
             → ReadsRegistry F.seen origin insertions self.old → ReadsRegistry F.seen origin insertions self.new }
+        ensures cause { HasCauseOf (LogError.Folder FolderError.Failed) F.IsFaithful
+            (F.faults self.old.log.folder) (F.faults self.new.log.folder) result }
     {
         self.found(key, EntryFrom::Log)
     }
@@ -148,6 +155,8 @@ impl<F: Folder + Drop> RegistryReader<F> {
             → IfErr result (IsNoLogFault ⊥) }
         ensures reads { F.IsFaithful → (origin : List ℕ) (insertions : List (List ℕ × List ℕ))
             → ReadsRegistry F.seen origin insertions self.old → ReadsRegistry F.seen origin insertions self.new }
+        ensures cause { HasCauseOf (LogError.Folder FolderError.Failed) F.IsFaithful
+            (F.faults self.old.log.folder) (F.faults self.new.log.folder) result }
     {
         match self.prove(key)? {
             KeyInPages::Held(index, leaf, peers) => self.value(key, index, &leaf, peers, from),
@@ -165,8 +174,11 @@ impl<F: Folder + Drop> RegistryReader<F> {
         ensures same { (self.new.root ≡ self.old.root) × (self.new.log.text ≡ self.old.log.text) }
         ensures reads { F.IsFaithful → (origin : List ℕ) (insertions : List (List ℕ × List ℕ))
             → ReadsRegistry F.seen origin insertions self.old → ReadsRegistry F.seen origin insertions self.new }
+        ensures cause { HasCauseOf (LogError.Folder FolderError.Failed) F.IsFaithful
+            (F.faults self.old.log.folder) (F.faults self.new.log.folder) result }
     {
         let version = self.checkpoint().length() as u64;
+        self.pages.fault = None;
         match prove_by_pages(self.alloc, &mut self.pages, &self.root, version, &key) {
             Ok(found) => Ok(found),
             Err(error) => Err(self.pages.refusal(error)),
@@ -195,6 +207,8 @@ impl<F: Folder + Drop> RegistryReader<F> {
             → IfErr result (IsNoLogFault ⊥) }
         ensures reads { F.IsFaithful → (origin : List ℕ) (insertions : List (List ℕ × List ℕ))
             → ReadsRegistry F.seen origin insertions self.old → ReadsRegistry F.seen origin insertions self.new }
+        ensures cause { HasCauseOf (LogError.Folder FolderError.Failed) F.IsFaithful
+            (F.faults self.old.log.folder) (F.faults self.new.log.folder) result }
     {
         let entry = self.entry(index as usize, from)?;
         self.held(key, index, leaf, entry.as_slice(), peers)
@@ -213,6 +227,8 @@ impl<F: Folder + Drop> RegistryReader<F> {
         ensures root { self.new.root ≡ self.old.root }
         ensures reads { F.IsFaithful → (origin : List ℕ) (insertions : List (List ℕ × List ℕ))
             → ReadsRegistry F.seen origin insertions self.old → ReadsRegistry F.seen origin insertions self.new }
+        ensures cause { HasCauseOf (LogError.Folder FolderError.Failed) F.IsFaithful
+            (F.faults self.old.log.folder) (F.faults self.new.log.folder) result }
     {
         match from {
             EntryFrom::Bundle => self.pages.log.bundle_entry(index),
@@ -232,6 +248,7 @@ impl<F: Folder + Drop> RegistryReader<F> {
         ensures of_entry { IfOk result (IsOfEntry key.now index leaf.now entry.now peers.items) }
         ensures whole { (value : List ℕ) → IsInsertion (key.now, value) → entry.now ≡ entry_of (key.now, value)
             → leaf_digest sha256 value ≡ leaf.now → IfErr result (IsNoLogFault ⊥) }
+        ensures other { IfErr result IsNoFailure }
     {
         match inserted_value(entry, key, leaf) {
             Some(value) => Ok(KeyInRegistry::Held(

@@ -24,6 +24,7 @@ entries-init g c =
       moments = λ faithful served old next has. read_leaves dev.seen dev.may_leave dev.moment dev.left_since
           log.folder log.folder (IsBeside (dev.seen log.folder)) (g.met.F.Folder.only_now log.folder)
           (λ f left. has.staging f left) (read_is dev.seen dev.may_leave dev.moment dev.left_since log.folder);
+      faults = omega arith;
     }
 
 pub push-requires : goal.push-requires
@@ -54,6 +55,7 @@ entries-preserved g c =
           g.met.F.Folder.only_now g.met.F.Folder.seen_may_stay c.args.log.now.folder c.entries.log.folder
           c.push.new.self.folder (c.entries.invariant.moments faithful served old next has)
           (c.push.ensures.any_moment faithful now.is_open);
+      faults = omega (arith, c.entries.invariant.faults, c.push.ensures.cause.later);
     }
 
 pub returns-clause-pushed : goal.returns-clause-pushed

@@ -19,6 +19,7 @@ pages-init g c =
       moments = λ faithful served old next has. read_leaves dev.seen dev.may_leave dev.moment dev.left_since
           log.folder log.folder (IsBeside (dev.seen log.folder)) (g.met.F.Folder.only_now log.folder)
           (λ f left. has.staging f left) (read_is dev.seen dev.may_leave dev.moment dev.left_since log.folder);
+      faults = omega arith;
       stays = refl;
     }
 
@@ -51,6 +52,7 @@ pages-preserved g c =
           g.met.F.Folder.only_now g.met.F.Folder.seen_may_stay c.args.log.now.folder c.pages.log.folder
           c.put_one.new.log.folder (c.pages.invariant.moments faithful served old next has)
           (c.put_one.ensures.any_moment faithful (c.pages.invariant.stays ∙ has.is_open));
+      faults = omega (arith, c.pages.invariant.faults, c.put_one.ensures.cause.later);
       stays = c.put_one.ensures.open ∙ c.pages.invariant.stays;
     }
 

@@ -1,4 +1,4 @@
-use Rattle.std.proofs.Common.{◌≡◌, take}
+use Rattle.std.proofs.Common.{◌≡◌, ◌≤◌, take}
 use Rattle.warg_store.specs.Growing.{IsReady, Has}
 use Rattle.warg_store.specs.Log.{LogOf}
 use Rattle.warg_folder.specs.Moments.{LeavesOnly}
@@ -17,5 +17,6 @@ invariant-pages g l = record {
       → Has g.F.Folder.seen g.F.Folder.may_leave served old next l.fn.log
       → LeavesOnly g.F.Folder.moment g.F.Folder.left_since l.fn.log.folder l.log.folder
       (IsBeside (g.F.Folder.seen l.fn.log.folder));
+  faults : g.F.Folder.faults l.fn.log.folder ≤ g.F.Folder.faults l.log.folder;
   stays : l.log.is_open ≡ l.fn.log.is_open;
 }

@@ -19,6 +19,7 @@ bundles-init g c =
       few = omega arith;
       same = (refl, refl);
       read = λ faithful. read_is dev.seen dev.may_leave dev.moment dev.left_since first.log.folder;
+      faults = omega arith;
       replayed = (
         [],
         none_replayed dev.IsFaithful (dev.seen first.log.folder) first.log.text.length c.default.result
@@ -46,6 +47,7 @@ bundles-preserved g c =
       read = λ faithful. read_then dev.seen dev.may_leave dev.moment dev.left_since first.log.folder mid.log.folder
           c.replay_bundle.new.self.log.folder (g.met.F.Folder.counts_now first.log.folder) (was.read faithful)
           (done.read faithful);
+      faults = omega (arith, was.faults, done.cause.later);
       replayed = (
         all ++ more.0,
         replayed_at dev.IsFaithful (dev.seen mid.log.folder) (dev.seen first.log.folder) mid.log.text.length

@@ -1,4 +1,4 @@
-use Rattle.std.proofs.Common.{◌≡◌, ◌+◌, ◌*◌, ◌++◌, [], ◌∷◌, ℕ, List, Vec, Global, map, length, refl, sym, ap, subst, ◌∙◌, arith, append_assoc}
+use Rattle.std.proofs.Common.{◌≡◌, ◌≤◌, ◌+◌, ◌*◌, ◌++◌, [], ◌∷◌, ℕ, List, Vec, Global, map, length, refl, sym, ap, subst, ◌∙◌, arith, append_assoc}
 use Rattle.std.proofs.lemmas.List.{map-append, append-nil, length-map, take_all}
 use Rattle.std.specs.Prelude.{slice_get}
 use Rattle.warg_folder.specs.Moments.{IsRead}
@@ -31,6 +31,9 @@ entries-init g c =
           (let P : RegistryRead g.row.F.Denot → Type 0 = λ r. IsRead dev.seen dev.may_leave dev.moment dev.left_since
           r.log.folder c.entries-2.new.self.folder in
           subst P c.self.view_is (c.in_ok-entries.ensures.read faithful));
+      faults = (let P : RegistryRead g.row.F.Denot → Type 0 = λ r. dev.faults r.log.folder
+          ≤ dev.faults c.entries-2.new.self.folder in
+          subst P c.self.view_is c.in_ok-entries.ensures.cause.later);
       replayed = λ before was.
           (let P : List (List ℕ × List ℕ) → Type 0 = λ es. AreReplayed dev.IsFaithful (dev.seen first.log.folder)
           first.log.text.length replay.log replay.last es in
@@ -53,6 +56,7 @@ entries-preserved g c =
       read = λ faithful. read_then dev.seen dev.may_leave dev.moment dev.left_since first.log.folder mid.log.folder
           c.replay_entry.new.self.log.folder (g.met.F.Folder.counts_now first.log.folder) (was.read faithful)
           (done.read faithful);
+      faults = omega (arith, was.faults, done.cause.later);
       replayed = λ before old.
           (let prior = was.replayed before old in
           let one = done.replayed (before ++ prior.0) (replayed_at dev.IsFaithful (dev.seen first.log.folder)

@@ -11,6 +11,7 @@ invariant-entries g l = record {
   same : (l.self.root ≡ l.fn.self.root) × (l.self.log.text ≡ l.fn.self.log.text);
   read : g.F.Folder.IsFaithful → IsRead g.F.Folder.seen g.F.Folder.may_leave g.F.Folder.moment g.F.Folder.left_since
       l.fn.self.log.folder l.self.log.folder;
+  faults : g.F.Folder.faults l.fn.self.log.folder ≤ g.F.Folder.faults l.self.log.folder;
   replayed : (before : List (List ℕ × List ℕ)) → AreReplayed g.F.Folder.IsFaithful
       (g.F.Folder.seen l.fn.self.log.folder) l.fn.self.log.text.length l.fn.replay.log l.fn.replay.last before
       → (more : List (List ℕ × List ℕ)) × AreReplayed g.F.Folder.IsFaithful (g.F.Folder.seen l.fn.self.log.folder)
