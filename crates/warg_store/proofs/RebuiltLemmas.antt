@@ -1,25 +1,31 @@
 -- A log's tiles made again: what is staged, and what its commit makes.
-use Rattle.std.proofs.Common.{◌≡◌, ◌≢◌, ◌⊎◌, inl, inr, ⊎_elim, ℕ, ◌^◌, ◌≤◌, true, false, nat_eq, List, length, Option, Some, None, refl, sym, ap, subst, ◌∙◌, arith, if◌then◌else◌}
+use Rattle.std.proofs.Common.{◌≡◌, ◌≢◌, inl, inr, ⊎_elim, ℕ, ◌^◌, ◌≤◌, true, false, nat_eq, List, length, Option, Some, None, refl, sym, ap, ◌∙◌, arith, if◌then◌else◌}
 use mathlib.Core.Path.{fun_ext}
 use Rattle.std.specs.Cmp.Lexicographic.{pointwise}
 use Rattle.std.specs.Option.{option_or}
 use Rattle.std.proofs.lemmas.Bool.{cases_Bool}
+use Rattle.warg_crypto.specs.Digests.{sha256}
+use Rattle.warg_log.specs.Claims.{RootAndLength}
+use Rattle.warg_log.specs.Tree.{root_of, leaves_of}
 use Rattle.warg_tiles.specs.Tiles.{TileAt}
 use Rattle.warg_tiles.specs.CheckpointText.{Said, text_of}
-use Rattle.warg_tiles.specs.TileLog.{RightEdge}
+use Rattle.warg_tiles.specs.TileLog.{RightEdge, StandsFor}
 use Rattle.warg_tiles.specs.TilePaths.{tile_path, entries_path}
 use Rattle.warg_folder.specs.Files.{Files, put}
+use Rattle.warg_folder.specs.Moments.{LeavesOnly}
 use Rattle.warg_folder.specs.Names.{checkpoint, state, mark, staged, is_staged, is_served}
-use Rattle.warg_folder.specs.Commits.{checkpoint_after, told, published, without_staged, finished, opened, opened_by, committed, NothingStaged, IsBeside, IsStaging, IsBetween}
-use Rattle.warg_folder.proofs.ForCallers.{one_name, apart, not_staged, served_not_staged, served_not_checkpoint, served_not_state, put_apart, told_apart, without_at, idle_opened}
+use Rattle.warg_folder.specs.Commits.{checkpoint_after, told, published, finished, opened, opened_by, committed, NothingStaged, IsBeside, IsStaging, IsBetween}
+use Rattle.warg_folder.proofs.ForCallers.{apart, leaves_then, not_staged, served_not_staged, served_not_checkpoint, served_not_state, put_apart, told_apart, without_at, idle_opened}
 use Rattle.warg_store.specs.Audited.{log_of, ShowsLog}
-use Rattle.warg_store.specs.Log.{LogOf, HasState, IsTileIn, IsBundleIn, checkpoint_of, said_of}
+use Rattle.warg_store.specs.Log.{LogOf, HasState, IsTileIn, checkpoint_of, said_of}
 use Rattle.warg_store.specs.Reading.{checkpoint_said}
 use Rattle.warg_store.specs.Rebuilt.{IsStated, IsRebuilt}
-use Rattle.warg_store.specs.Private.Used.{HasUsedAll}
+use Rattle.warg_store.specs.Private.Used.{IsStagedIn, HasUsedAll, IsRemaking}
 use Rattle.warg_store.specs.declared.auditing.Use.TheVariants.{Stage}
 use Rattle.warg_store.proofs.PathLemmas.{no_tile_a_bundle}
 use Rattle.warg_store.proofs.ServeLemmas.{committed_served}
+use Rattle.warg_store.proofs.UsedLemmas.{said_by}
+use Rattle.warg_store.proofs.WholeLemmas.{same_said}
 
 -- Files beside others where nothing is staged.
 
@@ -137,6 +143,36 @@ module _ (first mid : Files) (edge : RightEdge) (said : Said) (nothing : Nothing
       | inr isnt ↦ elim (cases_Bool (is_served n)) [ inl is ↦ served n is none | inr other ↦ kept n isnt other ]
     ];
   }
+
+-- The checkpoint that a state says is that of the entries, once it was found to be theirs.
+pub state_says : (checkpoint found : RootAndLength) (said : Said) (entries : List (List ℕ)) (edge : RightEdge)
+    → found ≡ checkpoint → checkpoint.root ≡ said.root → checkpoint.length ≡ said.length
+    → ((ds : List (List ℕ)) → StandsFor sha256 edge ds → (found.length ≡ length ds) × (found.root ≡ root_of sha256 ds))
+    → StandsFor sha256 edge (leaves_of sha256 entries)
+    → checkpoint_said said ≡ checkpoint_said (said_of (log_of entries))
+state_says checkpoint found said entries edge is root length same stands =
+    sym (is ∙ same_said checkpoint said root length) ∙ said_by entries edge found same stands
+
+-- What stands at each moment while tiles are staged and then committed.
+module _ {D : Type 0} (seen : D → Files) (may_leave : D → Files → Type 0) (moment : D → ℕ)
+    (left_since : D → ℕ → Files → Type 0) where
+  pub remaking : (old mid new : D) (edge : RightEdge) (said : Said) → NothingStaged (seen old)
+      → IsStated said (seen old) → (has : HasUsedAll Stage (seen old) (seen mid) edge)
+      → checkpoint_said said ≡ checkpoint_said (said_of (log_of has.entries))
+      → IsStagedIn seen may_leave moment left_since old mid → may_leave mid (seen mid)
+      → LeavesOnly moment left_since mid new (IsBetween (seen mid) (committed (text_of said) (seen mid)))
+      → LeavesOnly moment left_since old new (IsRemaking said (seen old))
+  remaking old mid new edge said nothing stated has says used stays run =
+      let beside : IsBeside (seen old) (seen mid) = record {
+        outside = has.outside;
+        no_mark = (used.staging (seen mid) stays).no_mark;
+      } in
+      leaves_then moment left_since old mid new _ _ _ used.run run (λ f was. inl was)
+      (λ f was. inr (
+        committed (text_of said) (seen mid),
+        rebuilt (seen old) (seen mid) edge said nothing stated has says,
+        between_settled (seen old) (seen mid) _ f nothing beside was,
+      ))
 
 -- what is rebuilt shows a log
 pub rebuilt_shown : (said : Said) (old new : Files) → IsRebuilt said old new → ShowsLog new (checkpoint_said said)

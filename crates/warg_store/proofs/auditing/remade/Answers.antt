@@ -1,11 +1,10 @@
-use Rattle.std.proofs.Common.{◌≡◌, inl, inr, List, ℕ, ◌∷◌, length, None, sym, ap, subst, ◌∙◌}
+use Rattle.std.proofs.Common.{inl, List, ℕ, ◌∷◌, None, sym, ap, subst, ◌∙◌}
 use Rattle.std.proofs.lemmas.List.{length-map}
 use Rattle.warg_crypto.specs.Digests.{sha256}
-use Rattle.warg_log.specs.Tree.{root_of, leaves_of}
-use Rattle.warg_tiles.specs.CheckpointText.{Said, text_of}
+use Rattle.warg_log.specs.Tree.{leaves_of}
+use Rattle.warg_tiles.specs.CheckpointText.{Said}
 use Rattle.warg_folder.specs.Files.{Files}
-use Rattle.warg_folder.specs.Commits.{committed}
-use Rattle.warg_folder.proofs.ForCallers.{leaves_then, leaves_weaker, in_end}
+use Rattle.warg_folder.proofs.ForCallers.{leaves_weaker}
 use Rattle.warg_store.specs.Log.{LogOf, HasState, said_of}
 use Rattle.warg_store.specs.Opening.{CanBeServed}
 use Rattle.warg_store.specs.Rebuilt.{HasBundlesOf, IsRebuilt}
@@ -13,8 +12,7 @@ use Rattle.warg_store.specs.Private.Used.{IsEnough}
 use Rattle.warg_store.specs.Refusals.{IsNoFault}
 use Rattle.warg_store.specs.declared.auditing.Use.TheVariants.{Stage}
 use Rattle.warg_store.proofs.OpenLemmas.{kept_said}
-use Rattle.warg_store.proofs.RebuiltLemmas.{rebuilt, between_settled}
-use Rattle.warg_store.proofs.UsedLemmas.{said_by}
+use Rattle.warg_store.proofs.RebuiltLemmas.{rebuilt, state_says, remaking}
 use Rattle.warg_store.proofs.UsedRuns.{not_compared}
 use Rattle.warg_store.proofs.WholeLemmas.{err_same, same_said}
 use Rattle.warg_store.proofs.auditing.remade.Goals as goal
@@ -36,14 +34,13 @@ returns-clause-said g c = c.in_ok-found.ensures.said
 pub returns-clause-made : goal.returns-clause-made
 returns-clause-made g c = λ faithful.
     let has = c.in_ok-log.ensures.files faithful in
-    let said = same_said c.checkpoint-checkpoint.result c.args.state.now c.checkpoint-checkpoint.ensures.root
-    c.checkpoint-checkpoint.ensures.length in
     subst (IsRebuilt c.args.state.now (g.F.Folder.seen c.args.folder.now))
     (sym (c.in_ok-commit_state.ensures.committed faithful))
     (rebuilt (g.F.Folder.seen c.args.folder.now) (g.F.Folder.seen c.replayed.new.folder) c.in_ok-log.log
     c.args.state.now (c.requires.empty faithful) (c.requires.stated faithful) has
-    (sym (c.in_ok-found.ensures.said ∙ said)
-    ∙ said_by has.entries c.in_ok-log.log c.in_ok-found.found c.in_ok-found.ensures.same has.stands))
+    (state_says c.checkpoint-checkpoint.result c.in_ok-found.found c.args.state.now has.entries c.in_ok-log.log
+    c.in_ok-found.ensures.said c.checkpoint-checkpoint.ensures.root c.checkpoint-checkpoint.ensures.length
+    c.in_ok-found.ensures.same has.stands))
 
 pub returns-in_err-log-clause-whole : goal.returns-in_err-log-clause-whole
 returns-in_err-log-clause-whole g c = λ faithful log has bundles.
@@ -81,34 +78,20 @@ returns-in_err-found-clause-any_moment g c = λ faithful.
 
 pub returns-in_err-commit_state-clause-any_moment : goal.returns-in_err-commit_state-clause-any_moment
 returns-in_err-commit_state-clause-any_moment g c = λ faithful.
-    let first = g.F.Folder.seen c.args.folder.now in
-    let mid = g.F.Folder.seen c.replayed.new.folder in
-    let used = c.replayed.ensures.used faithful in
     let has = c.in_ok-log.ensures.files faithful in
-    let nothing = c.requires.empty faithful in
-    let beside = in_end _ _ _ g.met.F.Folder.counts_now _ _ _ used.run mid
-    (g.met.F.Folder.seen_may_stay c.replayed.new.folder) in
-    let said = same_said c.checkpoint-checkpoint.result c.args.state.now c.checkpoint-checkpoint.ensures.root
-    c.checkpoint-checkpoint.ensures.length in
-    let is = rebuilt first mid c.in_ok-log.log c.args.state.now nothing (c.requires.stated faithful) has
-    (sym (c.in_ok-found.ensures.said ∙ said)
-    ∙ said_by has.entries c.in_ok-log.log c.in_ok-found.found c.in_ok-found.ensures.same has.stands) in
-    leaves_then _ _ _ _ _ _ _ _ used.run (c.commit_state.ensures.any_moment faithful) (λ f was. inl was)
-    (λ f was. inr (committed (text_of c.args.state.now) mid, is, between_settled first mid _ f nothing beside was))
+    remaking g.F.Folder.seen g.F.Folder.may_leave _ _ _ _ _ c.in_ok-log.log c.args.state.now
+    (c.requires.empty faithful) (c.requires.stated faithful) has
+    (state_says c.checkpoint-checkpoint.result c.in_ok-found.found c.args.state.now has.entries c.in_ok-log.log
+    c.in_ok-found.ensures.said c.checkpoint-checkpoint.ensures.root c.checkpoint-checkpoint.ensures.length
+    c.in_ok-found.ensures.same has.stands) (c.replayed.ensures.used faithful)
+    (g.met.F.Folder.seen_may_stay c.replayed.new.folder) (c.commit_state.ensures.any_moment faithful)
 
 pub returns-clause-any_moment : goal.returns-clause-any_moment
 returns-clause-any_moment g c = λ faithful.
-    let first = g.F.Folder.seen c.args.folder.now in
-    let mid = g.F.Folder.seen c.replayed.new.folder in
-    let used = c.replayed.ensures.used faithful in
     let has = c.in_ok-log.ensures.files faithful in
-    let nothing = c.requires.empty faithful in
-    let beside = in_end _ _ _ g.met.F.Folder.counts_now _ _ _ used.run mid
-    (g.met.F.Folder.seen_may_stay c.replayed.new.folder) in
-    let said = same_said c.checkpoint-checkpoint.result c.args.state.now c.checkpoint-checkpoint.ensures.root
-    c.checkpoint-checkpoint.ensures.length in
-    let is = rebuilt first mid c.in_ok-log.log c.args.state.now nothing (c.requires.stated faithful) has
-    (sym (c.in_ok-found.ensures.said ∙ said)
-    ∙ said_by has.entries c.in_ok-log.log c.in_ok-found.found c.in_ok-found.ensures.same has.stands) in
-    leaves_then _ _ _ _ _ _ _ _ used.run (c.commit_state.ensures.any_moment faithful) (λ f was. inl was)
-    (λ f was. inr (committed (text_of c.args.state.now) mid, is, between_settled first mid _ f nothing beside was))
+    remaking g.F.Folder.seen g.F.Folder.may_leave _ _ _ _ _ c.in_ok-log.log c.args.state.now
+    (c.requires.empty faithful) (c.requires.stated faithful) has
+    (state_says c.checkpoint-checkpoint.result c.in_ok-found.found c.args.state.now has.entries c.in_ok-log.log
+    c.in_ok-found.ensures.said c.checkpoint-checkpoint.ensures.root c.checkpoint-checkpoint.ensures.length
+    c.in_ok-found.ensures.same has.stands) (c.replayed.ensures.used faithful)
+    (g.met.F.Folder.seen_may_stay c.replayed.new.folder) (c.commit_state.ensures.any_moment faithful)
