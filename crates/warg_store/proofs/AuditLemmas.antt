@@ -1,6 +1,7 @@
 -- Logs that stand for the leaf digests of some entries.
 use Rattle.std.proofs.Common.{◌≡◌, ℕ, List, [], ◌∷◌, ◌++◌, length, map, take, get_or, append_assoc, sym, ap, ◌∙◌, subst, ◌+◌, ◌<◌, Result, Ok, Err}
 use Rattle.std.specs.Result.{OnOk}
+use Rattle.std.specs.Prelude.{IfOk}
 use Rattle.std.proofs.lemmas.List.{map-append, length-map, take_more}
 use Rattle.warg_crypto.specs.Digests.{sha256}
 use Rattle.warg_log.specs.Claims.{RootAndLength}
@@ -12,6 +13,12 @@ use Rattle.warg_store.specs.Audited.{HasEntries, IsOfEntries}
 pub ok_holds : {T E : Type 0} (r : Result T E) (P : Type 0) → P → OnOk r P
 ok_holds (Ok value) P holds = holds
 ok_holds (Err error) P holds = tt
+
+-- what two facts say of a call that is done, together
+pub ok_both : {T E : Type 0} (r : Result T E) (Q : Type 0) (P R : T → Type 0) → OnOk r Q → IfOk r P
+    → ((value : T) → Q → P value → R value) → IfOk r R
+ok_both (Ok value) Q P R one two more = more value one two
+ok_both (Err error) Q P R one two more = tt
 
 -- One entry more leaves a log of entries.
 pub one_more : (old new : RightEdge) (entry : List ℕ)

@@ -149,6 +149,11 @@ module _ (log : LogOf) (R : TileAt → Type 0) (low : (t : TileAt) → R t → t
       (each_file (λ f. f.0 ≡ entries_path t → ⊥) older tiles
       (all_tiles _ _ (λ x is new path. no_tile_a_bundle x.0 t (low x.0 is.0) path) tiles own))
 
+  -- nor at the path of another tile
+  pub apart_there : (n : List ℕ) → ((t : TileAt) → R t → tile_path t ≢ n) → after (staged n) ≡ s (staged n)
+  apart_there n none = others n (new_files older tiles) s
+      (each_file (λ f. f.0 ≡ n → ⊥) older tiles (all_tiles _ _ (λ x is new path. none x.0 is.0 path) tiles own))
+
   -- nor at the name of a page
   pub page_there : (path : List ℕ) → after (staged (page_name path)) ≡ s (staged (page_name path))
   page_there path = others (page_name path) (new_files older tiles) s
@@ -185,7 +190,8 @@ ground n t level is =
           (div-one n),
     )
 
-pub from_ground : (n : ℕ) (t : TileAt) → t.level ≡ 0 → 0 < t.width → t.width ≡ min (n - 256 * t.number) 256 → IsTileOf n t
+pub from_ground : (n : ℕ) (t : TileAt) → t.level ≡ 0 → 0 < t.width → t.width ≡ min (n - 256 * t.number) 256
+    → IsTileOf n t
 from_ground n t level some width =
     let one : 2 ^ (8 * t.level) ≡ 1 = ap (λ l. 2 ^ (8 * l)) level in
     record {

@@ -8,6 +8,9 @@ mod StagedLemmas
 mod AuditLemmas
 mod ReadLemmas
 mod ComparedLemmas
+mod UsedLemmas
+mod UsedRuns
+mod RebuiltLemmas
 mod OlderLemmas
 mod GrowingLemmas
 mod CreateLemmas

@@ -76,7 +76,8 @@ pub bundle_stands : (log : LogOf) (number : ℕ) (old new : RightEdge) (xs : Lis
     → StandsFor sha256 new (leaves_of sha256 (es ++ xs)))
     → StandsFor sha256 old (leaves_of sha256 (take (256 * number) log.entries))
     → StandsFor sha256 new (leaves_of sha256 (take (256 * number + 256) log.entries))
-bundle_stands log number old new xs are pushed was = subst (λ (l : List (List ℕ)). StandsFor sha256 new (leaves_of sha256 l))
+bundle_stands log number old new xs are pushed was =
+    subst (λ (l : List (List ℕ)). StandsFor sha256 new (leaves_of sha256 l))
     (ap (λ (l : List (List ℕ)). take (256 * number) log.entries ++ l) are
     ∙ sym (take-add (256 * number) 256 log.entries)) (pushed (take (256 * number) log.entries) was)
 

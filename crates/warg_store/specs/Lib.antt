@@ -6,5 +6,6 @@ pub mod Growing
 pub mod Pruned
 pub mod Private
 pub mod Audited
+pub mod Rebuilt
 pub mod Errors
 pub mod Refusals

@@ -1,17 +1,22 @@
 //! Every tile made again from the entries.
 
-ghost use Rattle.std.specs.Prelude.{◌≡◌, ℕ, ◌+◌, ◌*◌, ◌<◌, ◌≤◌, List, [], ◌∷◌, ◌++◌, Some, length, map, take, min, IfErr, IfOk, OnOk};
+ghost use Rattle.std.specs.Prelude.{◌≡◌, ◌⊎◌, ℕ, ◌+◌, ◌*◌, ◌<◌, ◌≤◌, List, [], ◌∷◌, ◌++◌, Some, length, map, take, min, IfErr, IfOk, OnOk};
 ghost use Rattle.std.specs.List.{AllByRecursion, flat_map};
 ghost use Rattle.warg_crypto.specs.Digests.{sha256};
 ghost use Rattle.warg_log.specs.Tree.{root_of, leaves_of};
+ghost use Rattle.warg_tiles.specs.CheckpointText.{Said, text_of};
 ghost use Rattle.warg_tiles.specs.TileLog.{StandsFor};
 ghost use Rattle.warg_tiles.specs.TilePaths.{tile_path};
+ghost use Rattle.warg_folder.specs.Files.{Files};
+ghost use Rattle.warg_folder.specs.Moments.{Only, IsRead, LeavesOnly, HasCauseOf};
+ghost use Rattle.warg_folder.specs.Commits.{opened, committed, IsStaging, NothingStaged, IsBetween};
 ghost use Rattle.warg_store.specs.Audited.{HasEntries, HasOlder, IsOfEntries, ShowsLog};
-ghost use Rattle.warg_store.specs.Log.{LogOf};
-ghost use Rattle.warg_store.specs.Reading.{AreOfLog, bundle_in};
-ghost use Rattle.warg_store.specs.Private.Compared.{HasTiles, HasBundles, HasAllFiles, IsOwnTile, IsWhole};
-ghost use Rattle.warg_folder.specs.Moments.{IsRead, HasCauseOf};
-ghost use Rattle.warg_folder.specs.Commits.{IsStaging};
+ghost use Rattle.warg_store.specs.Log.{LogOf, HasState};
+ghost use Rattle.warg_store.specs.Opening.{CanBeServed};
+ghost use Rattle.warg_store.specs.Reading.{AreOfLog, bundle_in, checkpoint_said};
+ghost use Rattle.warg_store.specs.Rebuilt.{HasBundlesOf, IsStated, IsRebuilt, IsRebuilding};
+ghost use Rattle.warg_store.specs.Private.Compared.{HasTiles, IsOwnTile, IsWhole};
+ghost use Rattle.warg_store.specs.Private.Used.{IsReadyFor, IsUsed, AreUsed, IsEnough, HasUsed, HasUsedAll, IsRemaking};
 ghost use Rattle.warg_store.specs.Refusals.{IsNoFault, IsNoFailure};
 
 use crate::edge::read_tile;
@@ -60,15 +65,28 @@ pub(crate) fn audited<F: Folder, P: Progress>(
     same_root(alloc, &log, checkpoint)
 }
 
-/// Makes each tile of a folder's log again, from its bundles, once they lead to the root of the log's state: where tiles are
-/// missing or corrupt and the entries are not. `NoLog` where there is no log; `Damaged` names the first bundle that is missing
-/// or corrupt.
+/// Makes each tile of a folder's log again, from its bundles, once they lead to the root of the log's state, and commits
+/// them with the state's text: where tiles are missing or corrupt and the entries are not. It may crash too, and is then
+/// called again. `NoLog` where there is no log; `Damaged` names the first bundle that is missing or corrupt, or the state
+/// where the bundles lead to another root. Where none is, it fails only if memory is refused or the device fails. All else
+/// that is served stays the same.
 pub fn rebuild<F: Folder, P: Progress>(
     alloc: Global,
     folder: &mut F,
     progress: &mut P,
 ) -> Result<Checkpoint<Sha256>, LogError>
     ensures entries { IfOk result IsOfEntries }
+    ensures rebuilt { F.IsFaithful → IfOk result (ShowsLog (F.seen folder.new)) }
+    ensures made { F.IsFaithful → IfOk result (λ found. (said : Said) × (found ≡ checkpoint_said said)
+        × IsRebuilt said (opened (F.seen folder.old)) (F.seen folder.new)) }
+    ensures whole { F.IsFaithful → (log : LogOf) → HasState log (opened (F.seen folder.old))
+        → HasBundlesOf log (opened (F.seen folder.old)) → IfErr result (IsNoFault ⊥) }
+    ensures durable { F.IsFaithful → OnOk result (Only (F.seen folder.new) (F.may_leave folder.new)) }
+
+    // A crash, or a reader, at any moment finds what it might have found before, or the old files or those made again.
+    ensures any_moment { F.IsFaithful → LeavesOnly F.moment F.left_since folder.old folder.new
+        (λ c. F.may_leave folder.old c ⊎ IsRebuilding (F.seen folder.old) c) }
+
     ensures cause { HasCauseOf (LogError.Folder FolderError.Failed) F.IsFaithful
         (F.faults folder.old) (F.faults folder.new) result }
 {
@@ -86,20 +104,48 @@ fn remade<F: Folder, P: Progress>(
     state: &CheckpointText<Sha256>,
     progress: &mut P,
 ) -> Result<Checkpoint<Sha256>, LogError>
-    requires { F.IsFaithful → IsStaging (F.seen folder.old) (F.may_leave folder.old) }
+    requires staging { F.IsFaithful → IsStaging (F.seen folder.old) (F.may_leave folder.old) }
+    requires empty { F.IsFaithful → NothingStaged (F.seen folder.old) }
+    requires stated { F.IsFaithful → IsStated state.now (F.seen folder.old) }
     ensures entries { IfOk result IsOfEntries }
+    ensures said { IfOk result (λ found. found ≡ checkpoint_said state.now) }
+    ensures made { F.IsFaithful → OnOk result (IsRebuilt state.now (F.seen folder.old) (F.seen folder.new)) }
+    ensures whole { F.IsFaithful → (log : LogOf) → HasState log (F.seen folder.old)
+        → HasBundlesOf log (F.seen folder.old) → IfErr result (IsNoFault ⊥) }
+    ensures durable { F.IsFaithful → OnOk result (Only (F.seen folder.new) (F.may_leave folder.new)) }
+    ensures any_moment { F.IsFaithful → LeavesOnly F.moment F.left_since folder.old folder.new
+        (IsRemaking state.now (F.seen folder.old)) }
     ensures cause { HasCauseOf (LogError.Folder FolderError.Failed) F.IsFaithful
         (F.faults folder.old) (F.faults folder.new) result }
 {
     let checkpoint = state.checkpoint();
     let log = replayed(alloc, folder, checkpoint.length(), Use::Stage, progress)?;
     let found = same_root(alloc, &log, &checkpoint)?;
+    commit_state(alloc, folder, state)?;
+    Ok(found)
+}
+
+// Commits what is staged with the state's text.
+fn commit_state<F: Folder>(
+    alloc: Global,
+    folder: &mut F,
+    state: &CheckpointText<Sha256>,
+) -> Result<(), LogError>
+    requires { F.IsFaithful → IsStaging (F.seen folder.old) (F.may_leave folder.old) }
+    ensures committed { F.IsFaithful → OnOk result
+        (F.seen folder.new ≡ committed (text_of state.now) (F.seen folder.old)) }
+    ensures whole { CanBeServed state.now → IfErr result (IsNoFault ⊥) }
+    ensures durable { F.IsFaithful → OnOk result (Only (F.seen folder.new) (F.may_leave folder.new)) }
+    ensures any_moment { F.IsFaithful → LeavesOnly F.moment F.left_since folder.old folder.new
+        (IsBetween (F.seen folder.old) (committed (text_of state.now) (F.seen folder.old))) }
+    ensures cause { HasCauseOf (LogError.Folder FolderError.Failed) F.IsFaithful
+        (F.faults folder.old) (F.faults folder.new) result }
+{
     let text = state.write(alloc)?;
     if text.len() > MOST_TEXT {
         return Err(LogError::damaged(alloc, STATE, "is longer than a checkpoint's text"));
     }
-    commit(alloc, folder, text.as_slice())?;
-    Ok(found)
+    Ok(commit(alloc, folder, text.as_slice())?)
 }
 
 // The log's checkpoint, if it is the one that its state says.
@@ -134,18 +180,14 @@ fn replayed<F: Folder, P: Progress>(
     progress: &mut P,
 ) -> Result<TileLog<Sha256, Vec<u8>>, LogError>
     requires fits { log_length ≤ GREATEST_LENGTH }
-    requires staging { use_as ≡ Use.Stage → F.IsFaithful → IsStaging (F.seen folder.old) (F.may_leave folder.old) }
+    requires ready { F.IsFaithful → IsReadyFor use_as (F.seen folder.old) (F.may_leave folder.old) }
     ensures has { IfOk result HasEntries }
-    ensures files { use_as ≡ Use.Compare → F.IsFaithful → IfOk result (HasAllFiles (F.seen folder.old)) }
-    ensures own { use_as ≡ Use.Compare → F.IsFaithful → IfOk result (λ log. (kept : LogOf)
-        → IsWhole kept (F.seen folder.old) → length kept.entries ≡ log_length
-        → StandsFor sha256 log (leaves_of sha256 kept.entries)) }
-    ensures whole { use_as ≡ Use.Compare → F.IsFaithful → (kept : LogOf) → IsWhole kept (F.seen folder.old)
+    ensures files { F.IsFaithful → IfOk result (HasUsedAll use_as (F.seen folder.old) (F.seen folder.new)) }
+    ensures own { F.IsFaithful → IfOk result (λ log. (kept : LogOf) → IsEnough use_as kept (F.seen folder.old)
+        → length kept.entries ≡ log_length → StandsFor sha256 log (leaves_of sha256 kept.entries)) }
+    ensures whole { F.IsFaithful → (kept : LogOf) → IsEnough use_as kept (F.seen folder.old)
         → length kept.entries ≡ log_length → IfErr result (IsNoFault ⊥) }
-    ensures read { use_as ≡ Use.Compare → F.IsFaithful
-        → IsRead F.seen F.may_leave F.moment F.left_since folder.old folder.new }
-    ensures staging { use_as ≡ Use.Stage → F.IsFaithful
-        → OnOk result (IsStaging (F.seen folder.new) (F.may_leave folder.new)) }
+    ensures used { F.IsFaithful → IsUsed use_as F.seen F.may_leave F.moment F.left_since folder.old folder.new }
     ensures cause { HasCauseOf (LogError.Folder FolderError.Failed) F.IsFaithful
         (F.faults folder.old) (F.faults folder.new) result }
 {
@@ -172,21 +214,20 @@ fn replay_bundle<F: Folder, P: Progress>(
     requires inside { 256 * number < log_length }
     requires fits { log_length ≤ GREATEST_LENGTH }
     requires has { HasEntries log.old }
-    requires staging { use_as ≡ Use.Stage → F.IsFaithful → IsStaging (F.seen folder.old) (F.may_leave folder.old) }
+    requires ready { F.IsFaithful → IsReadyFor use_as (F.seen folder.old) (F.may_leave folder.old) }
     ensures has { OnOk result (HasEntries log.new) }
-    ensures files { use_as ≡ Use.Compare → F.IsFaithful → OnOk result (
-        HasBundles (F.seen folder.old) (256 * number) log.old
-        → HasBundles (F.seen folder.old) (min (256 * number + 256) log_length) log.new) }
-    ensures own { F.IsFaithful → OnOk result ((kept : LogOf) → IsWhole kept (F.seen folder.old)
-        → length kept.entries ≡ log_length → StandsFor sha256 log.old (leaves_of sha256 (take (256 * number) kept.entries))
+    ensures files { F.IsFaithful → OnOk result ((first : Files)
+        → HasUsed use_as first (F.seen folder.old) (256 * number) log.old
+        → HasUsed use_as first (F.seen folder.new) (min (256 * number + 256) log_length) log.new) }
+    ensures own { F.IsFaithful → OnOk result ((kept : LogOf) → IsEnough use_as kept (F.seen folder.old)
+        → length kept.entries ≡ log_length
+        → StandsFor sha256 log.old (leaves_of sha256 (take (256 * number) kept.entries))
         → StandsFor sha256 log.new (leaves_of sha256 (take (256 * number + 256) kept.entries))) }
-    ensures whole { use_as ≡ Use.Compare → F.IsFaithful → (kept : LogOf) → IsWhole kept (F.seen folder.old)
-        → length kept.entries ≡ log_length → StandsFor sha256 log.old (leaves_of sha256 (take (256 * number) kept.entries))
+    ensures whole { F.IsFaithful → (kept : LogOf) → IsEnough use_as kept (F.seen folder.old)
+        → length kept.entries ≡ log_length
+        → StandsFor sha256 log.old (leaves_of sha256 (take (256 * number) kept.entries))
         → IfErr result (IsNoFault ⊥) }
-    ensures read { use_as ≡ Use.Compare → F.IsFaithful
-        → IsRead F.seen F.may_leave F.moment F.left_since folder.old folder.new }
-    ensures staging { use_as ≡ Use.Stage → F.IsFaithful
-        → OnOk result (IsStaging (F.seen folder.new) (F.may_leave folder.new)) }
+    ensures used { F.IsFaithful → IsUsed use_as F.seen F.may_leave F.moment F.left_since folder.old folder.new }
     ensures cause { HasCauseOf (LogError.Folder FolderError.Failed) F.IsFaithful
         (F.faults folder.old) (F.faults folder.new) result }
 {
@@ -238,13 +279,9 @@ fn use_bundle<F: Folder>(
     number: usize,
     entries: &[Vec<u8>],
 ) -> Result<(), LogError>
-    requires { use_as ≡ Use.Stage → F.IsFaithful → IsStaging (F.seen folder.old) (F.may_leave folder.old) }
-    ensures whole { use_as ≡ Use.Compare → F.IsFaithful → (kept : LogOf) → IsWhole kept (F.seen folder.old)
+    ensures whole { F.IsFaithful → (kept : LogOf) → IsEnough use_as kept (F.seen folder.old)
         → map (λ e. e.items) entries.now ≡ bundle_in kept number → IfErr result (IsNoFault ⊥) }
-    ensures read { use_as ≡ Use.Compare → F.IsFaithful
-        → IsRead F.seen F.may_leave F.moment F.left_since folder.old folder.new }
-    ensures staging { use_as ≡ Use.Stage → F.IsFaithful
-        → OnOk result (IsStaging (F.seen folder.new) (F.may_leave folder.new)) }
+    ensures read { F.IsFaithful → IsRead F.seen F.may_leave F.moment F.left_since folder.old folder.new }
     ensures cause { HasCauseOf (LogError.Folder FolderError.Failed) F.IsFaithful
         (F.faults folder.old) (F.faults folder.new) result }
 {
@@ -255,23 +292,19 @@ fn use_bundle<F: Folder>(
 }
 
 // Compares tiles with their files, or stages them.
-#[tactic(auto, using(warg_folder::proofs::ForCallers::read_is))]
 fn use_tiles<F: Folder>(
     alloc: Global,
     folder: &mut F,
     use_as: Use,
     tiles: &[StoredTile<Sha256>],
 ) -> Result<(), LogError>
-    requires { use_as ≡ Use.Stage → F.IsFaithful → IsStaging (F.seen folder.old) (F.may_leave folder.old) }
-    ensures files { use_as ≡ Use.Compare → F.IsFaithful → OnOk result
-        (HasTiles (F.seen folder.old) (map (λ t. (t.tile, t.digests.items)) tiles.now)) }
-    ensures whole { use_as ≡ Use.Compare → F.IsFaithful → (kept : LogOf) → IsWhole kept (F.seen folder.old)
+    requires { F.IsFaithful → IsReadyFor use_as (F.seen folder.old) (F.may_leave folder.old) }
+    ensures tiles { F.IsFaithful → OnOk result
+        (AreUsed use_as (map (λ t. (t.tile, t.digests.items)) tiles.now) (F.seen folder.old) (F.seen folder.new)) }
+    ensures whole { F.IsFaithful → (kept : LogOf) → IsEnough use_as kept (F.seen folder.old)
         → AllByRecursion (IsOwnTile kept) (map (λ t. (t.tile, t.digests.items)) tiles.now)
         → IfErr result (IsNoFault ⊥) }
-    ensures read { use_as ≡ Use.Compare → F.IsFaithful
-        → IsRead F.seen F.may_leave F.moment F.left_since folder.old folder.new }
-    ensures staging { use_as ≡ Use.Stage → F.IsFaithful
-        → OnOk result (IsStaging (F.seen folder.new) (F.may_leave folder.new)) }
+    ensures used { F.IsFaithful → IsUsed use_as F.seen F.may_leave F.moment F.left_since folder.old folder.new }
     ensures cause { HasCauseOf (LogError.Folder FolderError.Failed) F.IsFaithful
         (F.faults folder.old) (F.faults folder.new) result }
 {
@@ -302,7 +335,7 @@ fn compare_tiles<F: Folder>(
 }
 
 // Refuses a tile's file that hasn't its digests, and an older partial one that isn't a beginning of it.
-#[tactic(auto, using(warg_folder::proofs::ForCallers::read_by, warg_folder::proofs::ForCallers::read_is))]
+#[tactic(auto, using(warg_folder::proofs::ForCallers::read_is))]
 fn compare_tile<F: Folder>(
     alloc: Global,
     folder: &mut F,

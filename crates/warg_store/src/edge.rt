@@ -1,6 +1,6 @@
 //! The right edge of a log that a folder keeps: its partial tiles and its last bundle.
 
-ghost use Rattle.std.specs.Prelude.{◌≡◌, ◌*◌, ◌/◌, ◌≤◌, length, map, drop, true, Some, IfOk, IfErr, OnOk, option_copied};
+ghost use Rattle.std.specs.Prelude.{◌≡◌, ◌*◌, ◌/◌, ◌≤◌, length, map, drop, true, Some, IfOk, IfErr, option_copied};
 ghost use Rattle.std.specs.List.{flat_map};
 ghost use Rattle.warg_crypto.specs.Digests.{sha256};
 ghost use Rattle.warg_crypto.specs.Tree.{leaf_digest};
@@ -10,8 +10,7 @@ ghost use Rattle.warg_tiles.specs.TileLog.{StandsFor, tile_digests};
 ghost use Rattle.warg_tiles.specs.TilePaths.{tile_path, entries_path};
 ghost use Rattle.warg_store.specs.Growing.{ArePartsOf};
 ghost use Rattle.warg_store.specs.Log.{LogOf, AreShort, CanBeKept, IsBundleIn, HasFiles, said_of, tile_bytes, bundle_bytes};
-ghost use Rattle.warg_folder.specs.Moments.{Within, Elapses, LeavesOnly, HasCauseOf};
-ghost use Rattle.warg_folder.specs.Commits.{IsStaging};
+ghost use Rattle.warg_folder.specs.Moments.{IsRead, HasCauseOf};
 ghost use Rattle.warg_store.specs.Reading.{checkpoint_said};
 ghost use Rattle.warg_store.specs.Refusals.{IsNoFault, IsNoFailure};
 
@@ -33,13 +32,13 @@ const MOST_BUNDLE: usize = 256 * 65_537;
 const CUT: &str = "is cut short, or too long";
 
 /// Reads a tile. `Damaged` where its file is missing, or has another number of digests.
-#[tactic(auto, using(crate::proofs::ReadyRuns::staging_kept))]
+#[tactic(auto, using(warg_folder::proofs::ForCallers::read_by, warg_folder::proofs::ForCallers::read_is))]
 pub(crate) fn read_tile<F: Folder>(
     alloc: Global,
     folder: &mut F,
     tile: Tile,
 ) -> Result<StoredTile<Sha256>, LogError>
-    ensures read { F.IsFaithful → IfOk result (λ read. (log : LogOf)
+    ensures own { F.IsFaithful → IfOk result (λ read. (log : LogOf)
         → F.seen folder.old (tile_path tile) ≡ Some (tile_bytes log tile)
         → read.digests.items ≡ tile_digests sha256 (leaves_of sha256 log.entries) tile) }
     ensures file { F.IsFaithful → IfOk result (λ read. F.seen folder.old (tile_path tile)
@@ -47,13 +46,7 @@ pub(crate) fn read_tile<F: Folder>(
     ensures tile { IfOk result (λ read. read.tile ≡ tile) }
     ensures whole { F.IsFaithful → (log : LogOf)
         → F.seen folder.old (tile_path tile) ≡ Some (tile_bytes log tile) → IfErr result (IsNoFault ⊥) }
-    ensures seen { F.IsFaithful → F.seen folder.new ≡ F.seen folder.old }
-    ensures crash { F.IsFaithful → Within (F.may_leave folder.old) (F.may_leave folder.new) }
-    ensures time { F.IsFaithful → Elapses F.moment F.left_since F.may_leave folder.old folder.new }
-    ensures any_moment { F.IsFaithful
-        → OnOk result (LeavesOnly F.moment F.left_since folder.old folder.new (F.may_leave folder.old)) }
-    ensures ready { F.IsFaithful → IsStaging (F.seen folder.old) (F.may_leave folder.old)
-        → OnOk result (IsStaging (F.seen folder.new) (F.may_leave folder.new)) }
+    ensures read { F.IsFaithful → IsRead F.seen F.may_leave F.moment F.left_since folder.old folder.new }
     ensures cause { HasCauseOf (LogError.Folder FolderError.Failed) F.IsFaithful
         (F.faults folder.old) (F.faults folder.new) result }
 {
@@ -74,6 +67,7 @@ pub(crate) fn read_tile<F: Folder>(
 }
 
 /// Reads the partial tiles of a length, by level.
+#[tactic(auto, using(warg_folder::proofs::ForCallers::read_is))]
 pub(crate) fn read_edge<F: Folder>(
     alloc: Global,
     folder: &mut F,
@@ -84,11 +78,7 @@ pub(crate) fn read_edge<F: Folder>(
         → ArePartsOf log edge.items) }
     ensures whole { F.IsFaithful → (log : LogOf) → log_length ≡ length log.entries
         → HasFiles log (F.seen folder.old) → IfErr result (IsNoFault ⊥) }
-    ensures seen { F.IsFaithful → F.seen folder.new ≡ F.seen folder.old }
-    ensures any_moment { F.IsFaithful
-        → OnOk result (LeavesOnly F.moment F.left_since folder.old folder.new (F.may_leave folder.old)) }
-    ensures ready { F.IsFaithful → IsStaging (F.seen folder.old) (F.may_leave folder.old)
-        → OnOk result (IsStaging (F.seen folder.new) (F.may_leave folder.new)) }
+    ensures read { F.IsFaithful → IsRead F.seen F.may_leave F.moment F.left_since folder.old folder.new }
     ensures cause { HasCauseOf (LogError.Folder FolderError.Failed) F.IsFaithful
         (F.faults folder.old) (F.faults folder.new) result }
 {
@@ -148,14 +138,14 @@ fn other_root(alloc: Global) -> LogError
 }
 
 /// Reads a bundle of the entries below a tile of level 0. `Damaged` where its file is missing.
-#[tactic(auto, using(crate::proofs::ReadyRuns::staging_kept))]
+#[tactic(auto, using(warg_folder::proofs::ForCallers::read_by, warg_folder::proofs::ForCallers::read_is))]
 pub(crate) fn read_bundle<F: Folder>(
     alloc: Global,
     folder: &mut F,
     tile: &Tile,
 ) -> Result<Vec<u8>, LogError>
     requires { tile.now.level ≡ 0 }
-    ensures read { F.IsFaithful → IfOk result (λ read. (log : LogOf)
+    ensures own { F.IsFaithful → IfOk result (λ read. (log : LogOf)
         → AreShort log.entries → tile.now.width ≤ 256
         → F.seen folder.old (entries_path tile.now) ≡ Some (bundle_bytes log tile.now)
         → read.items ≡ bundle_bytes log tile.now) }
@@ -164,13 +154,7 @@ pub(crate) fn read_bundle<F: Folder>(
     ensures whole { F.IsFaithful → (log : LogOf)
         → F.seen folder.old (entries_path tile.now) ≡ Some (bundle_bytes log tile.now)
         → IfErr result (IsNoFault ⊥) }
-    ensures seen { F.IsFaithful → F.seen folder.new ≡ F.seen folder.old }
-    ensures crash { F.IsFaithful → Within (F.may_leave folder.old) (F.may_leave folder.new) }
-    ensures time { F.IsFaithful → Elapses F.moment F.left_since F.may_leave folder.old folder.new }
-    ensures any_moment { F.IsFaithful
-        → OnOk result (LeavesOnly F.moment F.left_since folder.old folder.new (F.may_leave folder.old)) }
-    ensures ready { F.IsFaithful → IsStaging (F.seen folder.old) (F.may_leave folder.old)
-        → OnOk result (IsStaging (F.seen folder.new) (F.may_leave folder.new)) }
+    ensures read { F.IsFaithful → IsRead F.seen F.may_leave F.moment F.left_since folder.old folder.new }
     ensures cause { HasCauseOf (LogError.Folder FolderError.Failed) F.IsFaithful
         (F.faults folder.old) (F.faults folder.new) result }
 {
@@ -218,6 +202,7 @@ pub(crate) fn damaged_bundle(alloc: Global, tile: &Tile, fault: &'static str) ->
 }
 
 /// Reads the bundle below the last tile of level 0, if that isn't full. `Damaged` where the entries aren't the tile's.
+#[tactic(auto, using(warg_folder::proofs::ForCallers::read_is))]
 pub(crate) fn read_last_bundle<F: Folder>(
     alloc: Global,
     folder: &mut F,
@@ -228,11 +213,7 @@ pub(crate) fn read_last_bundle<F: Folder>(
         → bytes.items ≡ bundle_of (drop (256 * (length log.entries / 256)) log.entries)) }
     ensures whole { F.IsFaithful → (log : LogOf) → CanBeKept log → HasFiles log (F.seen folder.old)
         → ArePartsOf log edge.now → IfErr result (IsNoFault ⊥) }
-    ensures seen { F.IsFaithful → F.seen folder.new ≡ F.seen folder.old }
-    ensures any_moment { F.IsFaithful
-        → OnOk result (LeavesOnly F.moment F.left_since folder.old folder.new (F.may_leave folder.old)) }
-    ensures ready { F.IsFaithful → IsStaging (F.seen folder.old) (F.may_leave folder.old)
-        → OnOk result (IsStaging (F.seen folder.new) (F.may_leave folder.new)) }
+    ensures read { F.IsFaithful → IsRead F.seen F.may_leave F.moment F.left_since folder.old folder.new }
     ensures cause { HasCauseOf (LogError.Folder FolderError.Failed) F.IsFaithful
         (F.faults folder.old) (F.faults folder.new) result }
 {

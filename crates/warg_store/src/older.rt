@@ -99,7 +99,7 @@ fn is_older(tile: &Tile, newer: &Tile) -> bool
 }
 
 // Refuses a tile that isn't a beginning of a newer one.
-#[tactic(auto, using(warg_folder::proofs::ForCallers::read_by, warg_folder::proofs::ForCallers::read_is))]
+#[tactic(auto, using(warg_folder::proofs::ForCallers::read_is))]
 fn compare_older_tile<F: Folder>(
     alloc: Global,
     folder: &mut F,
@@ -122,7 +122,7 @@ fn compare_older_tile<F: Folder>(
 }
 
 // Refuses a bundle that isn't a beginning of these entries.
-#[tactic(auto, using(warg_folder::proofs::ForCallers::read_by, warg_folder::proofs::ForCallers::read_is))]
+#[tactic(auto, using(warg_folder::proofs::ForCallers::read_is))]
 fn compare_older_bundle<F: Folder>(
     alloc: Global,
     folder: &mut F,

@@ -4,12 +4,13 @@ ghost use Rattle.std.specs.Prelude.{◌≡◌, ◌≢◌, ◌⊎◌, ◌↔◌, 
 ghost use Rattle.std.specs.List.{All, AllByRecursion, Any};
 ghost use Rattle.warg_tiles.specs.CheckpointText.{Said, CanBeSaid, IsLine, text_before};
 ghost use Rattle.warg_folder.specs.Files.{SameBut};
-ghost use Rattle.warg_folder.specs.Moments.{Only, Within, Elapses, LeavesOnly, HasCause, HasCauseOf, HasLostCause};
+ghost use Rattle.warg_folder.specs.Moments.{Only, Within, Elapses, IsRead, LeavesOnly, HasCause, HasCauseOf, HasLostCause};
 ghost use Rattle.warg_store.specs.Growing.{IsReady, Has};
 ghost use Rattle.warg_store.specs.Log.{LogOf, CanBeKept, no_entries, no_entries_with, Serves, Keeps, HasLog, IsOneOf, said_of};
 ghost use Rattle.warg_folder.specs.Names.{checkpoint, state, mark, is_of_log};
 ghost use Rattle.warg_folder.specs.Commits.{is_signed, IsStaging, NothingStaged, committed, opened};
 ghost use Rattle.warg_store.specs.Opening.{CanBeServed, AgreesWith, IsAtRest, IsTakenOver, IsOpening, HasNoLogFile, HasLogFile};
+ghost use Rattle.warg_store.specs.Rebuilt.{IsStated};
 ghost use Rattle.warg_store.specs.Refusals.{IsNoFault, IsNoFailure};
 
 use crate::edge::{open_edge, read_edge, read_last_bundle};
@@ -278,13 +279,15 @@ fn is_of_log(name: &str) -> bool
 }
 
 /// What the log's state says. `NoLog` where there is none.
+#[tactic(auto, using(warg_folder::proofs::ForCallers::read_by))]
 pub(crate) fn read_state<F: Folder>(
     alloc: Global,
     folder: &mut F,
 ) -> Result<CheckpointText<Sha256>, LogError>
-    ensures seen { F.IsFaithful → F.seen folder.new ≡ F.seen folder.old }
-    ensures ready { F.IsFaithful → IsStaging (F.seen folder.old) (F.may_leave folder.old)
-        → OnOk result (IsStaging (F.seen folder.new) (F.may_leave folder.new)) }
+    ensures stated { F.IsFaithful → IfOk result (λ said. IsStated said (F.seen folder.old)) }
+    ensures whole { F.IsFaithful → (said : Said) (behind : Option (List ℕ)) → CanBeServed said
+        → F.seen folder.old state ≡ Some (text_before said behind) → IfErr result (IsNoFault ⊥) }
+    ensures read { F.IsFaithful → IsRead F.seen F.may_leave F.moment F.left_since folder.old folder.new }
     ensures cause { HasCauseOf (LogError.Folder FolderError.Failed) F.IsFaithful
         (F.faults folder.old) (F.faults folder.new) result }
 {

@@ -14,9 +14,10 @@ ghost use Rattle.warg_tiles.specs.TilePaths.{entries_path};
 ghost use Rattle.warg_store.specs.Audited.{HasOlder, IsOfEntries, ShowsLog};
 ghost use Rattle.warg_store.specs.Growing.{Has};
 ghost use Rattle.warg_store.specs.Log.{LogOf, AreShort, HasFiles};
-ghost use Rattle.warg_folder.specs.Moments.{Within, Elapses, IsRead, HasCauseOf};
+ghost use Rattle.warg_folder.specs.Moments.{Within, IsRead, HasCauseOf};
 ghost use Rattle.warg_store.specs.Private.Fetched.{AreOwn};
 ghost use Rattle.warg_store.specs.Reading.{checkpoint_said, AreOfLog, bundle_in, inclusion_in, consistency_in, LeadsTo, IsShown, IncludesBy, GrowsBy};
+ghost use Rattle.warg_store.specs.Rebuilt.{HasBundlesOf};
 ghost use Rattle.warg_store.specs.Refusals.{IsNoFault, IsNoFailure};
 
 use crate::auditing::{Progress, audited};
@@ -160,9 +161,7 @@ pub(crate) fn read_entry<F: Folder>(
         → slice_get log.entries index ≡ Some entry.items) }
     ensures whole { F.IsFaithful → (log : LogOf) → HasFiles log (F.seen folder.old)
         → AreShort log.entries → length log.entries ≡ log_length → IfErr result (IsNoFault ⊥) }
-    ensures seen { F.IsFaithful → F.seen folder.new ≡ F.seen folder.old }
-    ensures crash { F.IsFaithful → Within (F.may_leave folder.old) (F.may_leave folder.new) }
-    ensures time { F.IsFaithful → Elapses F.moment F.left_since F.may_leave folder.old folder.new }
+    ensures read { F.IsFaithful → IsRead F.seen F.may_leave F.moment F.left_since folder.old folder.new }
     ensures cause { HasCauseOf (LogError.Folder FolderError.Failed) F.IsFaithful
         (F.faults folder.old) (F.faults folder.new) result }
 {
@@ -185,13 +184,13 @@ pub(crate) fn read_entries<F: Folder>(
 ) -> Result<Vec<Vec<u8>>, LogError>
     requires { 256 * bundle < log_length }
     ensures count { IfOk result (λ entries. length entries.items ≡ min (log_length - 256 * bundle) 256) }
-    ensures own { F.IsFaithful → IfOk result (λ entries. (log : LogOf) → HasFiles log (F.seen folder.old)
+    ensures own { F.IsFaithful → IfOk result (λ entries. (log : LogOf) → HasBundlesOf log (F.seen folder.old)
         → AreShort log.entries → length log.entries ≡ log_length
         → map (λ e. e.items) entries.items ≡ bundle_in log bundle) }
     ensures file { F.IsFaithful → IfOk result (λ entries. F.seen folder.old (entries_path (filled 0 log_length bundle))
         ≡ Some (bundle_of (map (λ e. e.items) entries.items))) }
     ensures short { IfOk result (λ entries. AreShort (map (λ e. e.items) entries.items)) }
-    ensures whole { F.IsFaithful → (log : LogOf) → HasFiles log (F.seen folder.old)
+    ensures whole { F.IsFaithful → (log : LogOf) → HasBundlesOf log (F.seen folder.old)
         → AreShort log.entries → length log.entries ≡ log_length → IfErr result (IsNoFault ⊥) }
     ensures read { F.IsFaithful → IsRead F.seen F.may_leave F.moment F.left_since folder.old folder.new }
     ensures cause { HasCauseOf (LogError.Folder FolderError.Failed) F.IsFaithful

@@ -1,39 +1,22 @@
 -- What a folder's files have of a log, as its entries are read back.
-use Rattle.std.specs.Prelude.{◌≡◌, ◌^◌, ◌≤◌, ℕ, List, length, map, Some}
+use Rattle.std.specs.Prelude.{◌≡◌, ◌^◌, ◌≤◌, List, length, map, Some, ℕ}
 use Rattle.std.specs.List.{AllByRecursion, flat_map}
 use Rattle.warg_crypto.specs.Digests.{sha256}
 use Rattle.warg_log.specs.Tree.{leaves_of}
 use Rattle.warg_tiles.specs.Tiles.{TileAt}
 use Rattle.warg_tiles.specs.TileData.{Tiles}
-use Rattle.warg_tiles.specs.TileLog.{RightEdge, StandsFor, tile_digests}
-use Rattle.warg_tiles.specs.TilePaths.{tile_path, entries_path}
+use Rattle.warg_tiles.specs.TileLog.{tile_digests}
+use Rattle.warg_tiles.specs.TilePaths.{tile_path}
 use Rattle.warg_folder.specs.Files.{Files}
-use Rattle.warg_store.specs.Audited.{log_of, HasOlder}
+use Rattle.warg_store.specs.Audited.{HasOlder}
 use Rattle.warg_store.specs.declared.older.Newer.{Newer}
 use Rattle.warg_store.specs.declared.older.Newer.TheVariants.{Tile, Bundle}
 use Rattle.warg_store.specs.Reading.{bundle_in}
-use Rattle.warg_store.specs.Log.{LogOf, AreShort, HasFiles, IsTileIn, IsBundleIn, tile_bytes, bundle_bytes}
+use Rattle.warg_store.specs.Log.{LogOf, AreShort, HasFiles, IsTileIn}
 
 -- The files have each of the tiles at its path: its digests, one after the other.
 abbrev pub HasTiles : Files → Tiles → Type 0
 HasTiles files tiles = AllByRecursion (λ t. files (tile_path t.0) ≡ Some (flat_map (λ digest. digest) t.1)) tiles
-
--- The log in memory stands for so many short entries, of which the files have each bundle and each full tile.
-pub record HasBundles (files : Files) (size : ℕ) (edge : RightEdge) : Type 0 where
-  pub entries : List (List ℕ)
-  pub count : length entries ≡ size
-  pub short : AreShort entries
-  pub stands : StandsFor sha256 edge (leaves_of sha256 entries)
-  pub taken : edge.taken ≡ edge.len
-  pub tile : (t : TileAt) → IsTileIn (log_of entries) t → t.width ≡ 256
-      → files (tile_path t) ≡ Some (tile_bytes (log_of entries) t)
-  pub bundle : (t : TileAt) → IsBundleIn (log_of entries) t
-      → files (entries_path t) ≡ Some (bundle_bytes (log_of entries) t)
-
--- The log in memory stands for short entries, of which the files have each tile and each bundle.
-abbrev pub HasAllFiles : Files → RightEdge → Type 0
-HasAllFiles files edge = (entries : List (List ℕ)) × StandsFor sha256 edge (leaves_of sha256 entries) × AreShort entries
-    × HasFiles (log_of entries) files
 
 -- The files are whole: they have each tile and bundle of a log of short entries, and of older ones no others.
 pub record IsWhole (log : LogOf) (files : Files) : Type 0 where

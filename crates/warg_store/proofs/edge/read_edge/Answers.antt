@@ -8,10 +8,9 @@ use Rattle.warg_tiles.specs.Tiles.{TileAt}
 use Rattle.warg_tiles.specs.TileLog.{last_tile, tile_digests}
 use Rattle.warg_tiles.specs.declared.stored.StoredTile.{StoredTile}
 use Rattle.warg_store.specs.Log.{HasFiles}
-use Rattle.warg_folder.specs.Commits.{IsStaging}
 use Rattle.warg_store.specs.Refusals.{IsNoFault}
-use Rattle.warg_folder.specs.Moments.{LeavesOnly}
-use Rattle.warg_folder.proofs.ForCallers.{leaves_none, then_reads}
+use Rattle.warg_folder.specs.Moments.{IsRead}
+use Rattle.warg_folder.proofs.ForCallers.{read_is, read_then}
 use Rattle.warg_store.proofs.OpenLemmas.{ArePartsTo, part_none, part_some, level_there}
 use Rattle.warg_store.proofs.WholeLemmas.{err_same}
 use Rattle.warg_store.proofs.edge.read_edge.Goals.{then-count-ne0+in_ok-read_tile+in_ok-push, else-count-ne0}
@@ -20,9 +19,7 @@ use Rattle.warg_store.proofs.edge.read_edge.Goals as goal
 pub levels-init : goal.levels-init
 levels-init g c = record {
   faults = omega arith;
-  ready = λ faithful was. was;
-  run = λ faithful. leaves_none _ _ _ _ (g.met.F.Folder.only_now c.args.folder.now);
-  seen = λ faithful. refl;
+  read = λ faithful. read_is _ _ _ _ _;
   edge = λ faithful log size has. subst (λ (l : List (StoredTile Sha256 Global)). ArePartsTo log 0
       (map (λ (t : StoredTile Sha256 Global). (t.tile, t.digests.items)) l)) (sym c.new-edge.ensures.items)
       (record { places = refl; digests = tt });
@@ -37,13 +34,10 @@ levels-preserved g c =
       | then-count-ne0+in_ok-read_tile+in_ok-push w ↦ record {
         faults = subst (λ (f : g.row.F.Denot). g.F.Folder.faults c.args.folder.now ≤ g.F.Folder.faults f)
             (sym w.folder-is) (omega (arith, c.levels.invariant.faults, w.in_ok-read_tile.ensures.cause.later));
-        ready = λ faithful was. subst (λ (f : g.row.F.Denot). IsStaging (seen f) (g.F.Folder.may_leave f))
-            (sym w.folder-is) (w.in_ok-read_tile.ensures.ready faithful (c.levels.invariant.ready faithful was));
-        run = λ faithful. subst (λ (f : g.row.F.Denot). LeavesOnly g.F.Folder.moment g.F.Folder.left_since
-            c.args.folder.now f (g.F.Folder.may_leave c.args.folder.now)) (sym w.folder-is)
-            (then_reads _ _ _ g.met.F.Folder.counts_now _ _ _ _ (c.levels.invariant.run faithful)
-            (w.in_ok-read_tile.ensures.any_moment faithful));
-        seen = λ faithful. ap seen w.folder-is ∙ w.read_tile.ensures.seen faithful ∙ c.levels.invariant.seen faithful;
+        read = λ faithful. subst (λ (f : g.row.F.Denot). IsRead seen g.F.Folder.may_leave g.F.Folder.moment
+            g.F.Folder.left_since c.args.folder.now f) (sym w.folder-is)
+            (read_then _ _ _ _ _ _ _ (g.met.F.Folder.counts_now c.args.folder.now) (c.levels.invariant.read faithful)
+            (w.read_tile.ensures.read faithful));
         edge = λ faithful log size has.
             let read = w.in_ok-read_tile.field-0 in
             let some : 0 < length log.entries / 2 ^ (8 * level) % 256 = subst (λ n. 0 < n / 2 ^ (8 * level) % 256) size
@@ -51,11 +45,11 @@ levels-preserved g c =
             let there = level_there log (seen c.levels.folder) c.args.log_length level w.new-tile.result
             c.levels-test.true size w.new-tile.ensures.level w.new-tile.ensures.number w.new-tile.ensures.width
             (omega (arith, w.if-count-ne0.true))
-            (subst (HasFiles log) (sym (c.levels.invariant.seen faithful)) has) in
+            (subst (HasFiles log) (sym (c.levels.invariant.read faithful).found) has) in
             let tile = there.0 in
             let digests : read.digests.items ≡ tile_digests sha256 (leaves_of sha256 log.entries)
             (last_tile (length log.entries) level) =
-            w.in_ok-read_tile.ensures.read faithful log there.1
+            w.in_ok-read_tile.ensures.own faithful log there.1
             ∙ ap (tile_digests sha256 (leaves_of sha256 log.entries)) tile in
             subst (λ l. ArePartsTo log (level + 1) l)
             (sym (ap (λ (v : Vec (StoredTile Sha256 Global) Global). map with_digests v.items) w.edge-is
@@ -69,12 +63,8 @@ levels-preserved g c =
       | else-count-ne0 w ↦ record {
         faults = subst (λ (f : g.row.F.Denot). g.F.Folder.faults c.args.folder.now ≤ g.F.Folder.faults f)
             (sym w.folder-is) c.levels.invariant.faults;
-        ready = λ faithful was. subst (λ (f : g.row.F.Denot). IsStaging (seen f) (g.F.Folder.may_leave f))
-            (sym w.folder-is) (c.levels.invariant.ready faithful was);
-        run = λ faithful. subst (λ (f : g.row.F.Denot). LeavesOnly g.F.Folder.moment g.F.Folder.left_since
-            c.args.folder.now f (g.F.Folder.may_leave c.args.folder.now)) (sym w.folder-is)
-            (c.levels.invariant.run faithful);
-        seen = λ faithful. ap seen w.folder-is ∙ c.levels.invariant.seen faithful;
+        read = λ faithful. subst (λ (f : g.row.F.Denot). IsRead seen g.F.Folder.may_leave g.F.Folder.moment
+            g.F.Folder.left_since c.args.folder.now f) (sym w.folder-is) (c.levels.invariant.read faithful);
         edge = λ faithful log size has.
             let none : length log.entries / 2 ^ (8 * level) % 256 ≡ 0 = subst (λ n. n / 2 ^ (8 * level) % 256 ≡ 0) size
             (omega (arith, w.if-count-ne0.false)) in
@@ -89,6 +79,16 @@ pub returns-in_err-read_tile-clause-whole : goal.returns-in_err-read_tile-clause
 returns-in_err-read_tile-clause-whole g c = λ faithful log size has.
     let there = level_there log (g.F.Folder.seen c.levels.folder) c.args.log_length c.levels.level c.new-tile.result
     c.levels-test.true size c.new-tile.ensures.level c.new-tile.ensures.number c.new-tile.ensures.width
-    (omega (arith, c.if-count-ne0.true)) (subst (HasFiles log) (sym (c.levels.invariant.seen faithful)) has) in
+    (omega (arith, c.if-count-ne0.true)) (subst (HasFiles log) (sym (c.levels.invariant.read faithful).found) has) in
     err_same (IsNoFault ⊥) c.in_err-read_tile.field-0.0 c.from_residual.result c.from_residual.ensures.1
     (c.in_err-read_tile.ensures.whole faithful log there.1)
+
+pub returns-in_err-read_tile-clause-read : goal.returns-in_err-read_tile-clause-read
+returns-in_err-read_tile-clause-read g c = λ faithful.
+    read_then _ _ _ _ _ _ _ (g.met.F.Folder.counts_now c.args.folder.now) (c.levels.invariant.read faithful)
+    (c.read_tile.ensures.read faithful)
+
+pub returns-in_err-push-clause-read : goal.returns-in_err-push-clause-read
+returns-in_err-push-clause-read g c = λ faithful.
+    read_then _ _ _ _ _ _ _ (g.met.F.Folder.counts_now c.args.folder.now) (c.levels.invariant.read faithful)
+    (c.read_tile.ensures.read faithful)

@@ -16,7 +16,6 @@ use Rattle.warg_store.proofs.LeadLemmas.{width_at_most}
 use Rattle.warg_store.proofs.WholeLemmas.{err_same}
 use Rattle.warg_store.proofs.OpenLemmas.{part_of, last_bundle_is, no_last_bundle, front_is, bundles_full}
 use Rattle.warg_store.proofs.edge.read_last_bundle.Goals.{in_default-via-in-Some+else-level-eq0, in_default-via-in_default}
-use Rattle.warg_folder.proofs.ForCallers.{leaves_none}
 use Rattle.warg_store.proofs.edge.read_last_bundle.Goals as goal
 
 pub returns-in_ok-check_entries-in-Some-clause-bundle : goal.returns-in_ok-check_entries-in-Some-clause-bundle
@@ -27,7 +26,7 @@ returns-in_ok-check_entries-in-Some-clause-bundle g c = λ faithful log can has 
     let part = part_of log (map with_digests c.args.edge.now) (with_digests stored) (map with_digests front.0) can are
     (ap (map with_digests) front.1) in
     let level : stored.tile.level ≡ 0 = omega (arith, c.level.ensures.value, c.if-level-eq0.true) in
-    c.in_ok-bytes-in-Some.ensures.read faithful log can.short (omega (arith, part.1))
+    c.in_ok-bytes-in-Some.ensures.own faithful log can.short (omega (arith, part.1))
     (has.bundle stored.tile (record { level = level; exists = part.0 }))
     ∙ last_bundle_is log stored.tile level part.0 part.1
 
@@ -84,16 +83,9 @@ returns-in_err-check_entries-in-Some-clause-whole g c = λ faithful log can has 
     let front = front_is c.args.edge.now stored c.in-Some.ensures.value in
     let level : stored.tile.level ≡ 0 = omega (arith, c.level.ensures.value, c.if-level-eq0.true) in
     let is = bundle_in log c.args.edge.now front.0 stored front.1 can are level in
-    let bytes = c.in_ok-bytes-in-Some.ensures.read faithful log can.short
+    let bytes = c.in_ok-bytes-in-Some.ensures.own faithful log can.short
     (width_at_most (length log.entries) stored.tile is.exists) (has.bundle stored.tile is) in
     err_same (IsNoFault ⊥) c.in_err-check_entries-in-Some.field-0.0 c.from_residual-in_err-check_entries-in-Some.result
     c.from_residual-in_err-check_entries-in-Some.ensures.1
     (c.in_err-check_entries-in-Some.ensures.whole log can.short is (c.as_slice.ensures.value ∙ bytes)
     (own_digests log c.args.edge.now front.0 stored front.1 can are))
-
-pub returns-in_default-clause-any_moment : goal.returns-in_default-clause-any_moment
-returns-in_default-clause-any_moment g c = λ faithful. leaves_none _ _ _ _ (g.met.F.Folder.only_now c.args.folder.now)
-
-pub returns-in_ok-check_entries-in-Some-clause-any_moment : goal.returns-in_ok-check_entries-in-Some-clause-any_moment
-returns-in_ok-check_entries-in-Some-clause-any_moment g c = λ faithful. c.in_ok-bytes-in-Some.ensures.any_moment
-    faithful

@@ -8,11 +8,10 @@ use Rattle.warg_tiles.specs.TileLog.{tile_digests}
 use Rattle.warg_tiles.specs.TilePaths.{tile_path}
 use Rattle.warg_store.proofs.OpenLemmas.{tile_read, tile_hashed}
 use Rattle.warg_store.proofs.ReadLemmas.{tile_whole}
-use Rattle.warg_folder.proofs.ForCallers.{begins}
 use Rattle.warg_store.proofs.edge.read_tile.Goals as goal
 
-pub returns-clause-read : goal.returns-clause-read
-returns-clause-read g c = λ faithful log there.
+pub returns-clause-own : goal.returns-clause-own
+returns-clause-own g c = λ faithful log there.
     let path : c.as_str.result.now ≡ tile_path c.args.tile = c.as_str.ensures.value ∙ c.in_ok-path.ensures in
     c.new.ensures.digests
     ∙ tile_read log c.args.tile (g.F.Folder.seen c.args.folder.now (tile_path c.args.tile)) c.in-Some.bytes.items
@@ -42,11 +41,6 @@ returns-then-len-width-clause-whole g c = λ faithful log there.
     sym (ap hashes_of (sym c.as_slice.ensures.value) ∙ c.in-Ok.ensures.ok) ∙ found.0 in
     let same : c.in-Ok.digests.items ≡ tile_digests sha256 (leaves_of sha256 log.entries) c.args.tile = cc in
     absurd (omega (arith, ap length same, found.1, c.if-len-width.true, c.len.ensures, c.width-width.ensures.value))
-
-pub returns-clause-any_moment : goal.returns-clause-any_moment
-returns-clause-any_moment g c = λ faithful.
-    begins _ _ _ _ _ _ (g.met.F.Folder.only_now c.args.folder.now) (c.read.ensures.time faithful) (λ e was. was)
-    (c.read.ensures.crash faithful)
 
 pub returns-clause-file : goal.returns-clause-file
 returns-clause-file g c = λ faithful.

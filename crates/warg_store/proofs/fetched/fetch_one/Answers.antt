@@ -13,7 +13,7 @@ returns-clause-own g c faithful log files is own =
     let held = c.args.fetched.now in
     subst (AreOwn log) (sym (c.in_ok-insert.ensures.ok
     ∙ ap (λ (t : TileAt). held ++ (t, digests) ∷ []) c.in_ok-stored.ensures.tile))
-    (own_more log held c.args.tile digests is (c.in_ok-stored.ensures.read faithful log (files.tile c.args.tile is))
+    (own_more log held c.args.tile digests is (c.in_ok-stored.ensures.own faithful log (files.tile c.args.tile is))
     own)
 
 pub returns-then-has_tile-clause-gives : goal.returns-then-has_tile-clause-gives

@@ -16,7 +16,7 @@ returns-clause-whole g c = λ faithful log short part there.
     let brief : AreShort own = all_take (λ (e : List ℕ). length e < 65536) t.width (drop (256 * t.number) log.entries)
     (all_drop (λ (e : List ℕ). length e < 65536) (256 * t.number) log.entries short) in
     let bytes : c.as_slice.result.now ≡ bundle_of own = c.as_slice.ensures.value
-    ∙ c.in_ok-found.ensures.read faithful log short (omega (arith, c.width.ensures.most, c.width.ensures.value)) there in
+    ∙ c.in_ok-found.ensures.own faithful log short (omega (arith, c.width.ensures.most, c.width.ensures.value)) there in
     let wide : c.width.result ≡ t.width = c.width.ensures.value in
     let same : map (λ (e : Vec ℕ Global). e.items) (take c.width.result c.args.entries.now) ≡ own =
     ap (λ n. map (λ (e : Vec ℕ Global). e.items) (take n c.args.entries.now)) wide ∙ are in

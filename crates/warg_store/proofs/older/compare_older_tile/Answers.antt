@@ -15,7 +15,7 @@ returns-clause-whole g c = λ faithful log own level number less there.
     let begins : c.as_slice.result.now ≡ c.as_slice-2.result.now ++ rest = c.as_slice.ensures.value ∙ own.1
     ∙ older_digests ds c.args.tile newer level number less
     ∙ ap (λ (l : List (List ℕ)). l ++ rest) (sym (c.as_slice-2.ensures.value
-    ∙ c.in_ok-older.ensures.read faithful log there)) in
+    ∙ c.in_ok-older.ensures.own faithful log there)) in
     let is : c.starts_with.result ≡ true = (starts_is digest_decides c.as_slice.result.now c.as_slice-2.result.now
     c.starts_with.result c.starts_with.ensures.value).1 rest begins in
     absurd (let no : true ≡ false = sym is ∙ c.if-starts_with.false in cc)

@@ -9,8 +9,8 @@ use Rattle.warg_store.specs.Growing.{ArePartsOf}
 use Rattle.warg_store.specs.Refusals.{IsNoFault}
 use Rattle.warg_store.proofs.WholeLemmas.{err_same, same_said}
 use Rattle.warg_store.specs.Opening.{AgreesWith, CanBeServed, IsTakenOver}
-use Rattle.warg_folder.proofs.ForCallers.{begins, goes_on, leaves_weaker, then_reads, in_end, put_apart}
-use Rattle.warg_store.proofs.ReadyRuns.{state_staging}
+use Rattle.warg_folder.proofs.ForCallers.{begins, goes_on, leaves_weaker, then_reads, read_leaves, in_end, put_apart}
+use Rattle.warg_store.proofs.ReadyRuns.{state_staging, staging_kept}
 use Rattle.warg_store.proofs.opening.take_over.Goals as goal
 
 pub returns-clause-text : goal.returns-clause-text
@@ -19,7 +19,7 @@ returns-clause-text g c = λ faithful log serves.
     let said = one_value _ c.in-Some.served (said_of log) c.in-Some.is
     (c.in_ok-served.ensures.text faithful (said_of log) serves.checkpoint.0 (kept_said log serves.can)
     serves.checkpoint.1) in
-    let same = c.read_edge.ensures.seen faithful ∙ c.read_text.ensures.seen faithful in
+    let same = (c.read_edge.ensures.read faithful).found ∙ c.read_text.ensures.seen faithful in
     let bytes : c.as_slice-2.result.now ≡ checkpoint_of log = c.as_slice-2.ensures.value ∙ c.in_ok-bytes.ensures
     ∙ ap text_of said in (
       said,
@@ -92,7 +92,9 @@ returns-clause-any_moment g c = λ faithful only none.
     c.read_edge.new.folder Same
     (begins moment since may c.args.folder.now c.read_text.new.folder Same (g.met.F.Folder.only_now c.args.folder.now)
     (c.read_text.ensures.time faithful) only (λ f left. only f (c.read_text.ensures.crash faithful f left)))
-    (c.in_ok-edge.ensures.any_moment faithful) in
+    (read_leaves g.F.Folder.seen may moment since c.read_text.new.folder c.read_edge.new.folder
+    (may c.read_text.new.folder) (g.met.F.Folder.only_now c.read_text.new.folder) (λ f left. left)
+    (c.read_edge.ensures.read faithful)) in
     goes_on moment since may c.args.folder.now c.read_edge.new.folder c.replace.new.self P
     (leaves_weaker moment since c.args.folder.now c.read_edge.new.folder Same P edge (λ f same. inl same))
     (c.replace.ensures.time faithful)
@@ -109,10 +111,11 @@ returns-clause-ready g c = λ faithful staging.
     state_staging c.as_slice-2.result.now (g.F.Folder.seen c.read_edge.new.folder) (g.F.Folder.seen c.replace.new.self)
     (g.F.Folder.may_leave c.read_edge.new.folder) (g.F.Folder.may_leave c.replace.new.self)
     (c.in_ok-replace.ensures.replaced faithful) (c.in_ok-replace.ensures.durable faithful)
-    (c.in_ok-edge.ensures.ready faithful (c.in_ok-served.ensures.ready faithful staging))
+    (staging_kept _ _ _ _ (c.read_edge.ensures.read faithful).found (c.read_edge.ensures.read faithful).crash
+    (c.in_ok-served.ensures.ready faithful staging))
 
 pub returns-clause-beside : goal.returns-clause-beside
 returns-clause-beside g c = λ faithful n differ.
     ap (λ (f : Files). f n) (c.in_ok-replace.ensures.replaced faithful)
     ∙ put_apart (state, c.as_slice-2.result.now) (g.F.Folder.seen c.read_edge.new.folder) n differ
-    ∙ ap (λ (f : Files). f n) (c.read_edge.ensures.seen faithful ∙ c.read_text.ensures.seen faithful)
+    ∙ ap (λ (f : Files). f n) ((c.read_edge.ensures.read faithful).found ∙ c.read_text.ensures.seen faithful)

@@ -17,7 +17,7 @@ returns-in-Some-clause-own g c faithful log files short count =
     let place = c.args.index % 256 in
     let bounds = entry_tile log t c.args.index c.args.log_length count c.requires c.new-tile.ensures.level
     c.new-tile.ensures.number (c.new-tile.ensures.width ∙ c.min.ensures) in
-    let read = c.in_ok-bytes.ensures.read faithful log short bounds.most (files.bundle t bounds.is_in) in
+    let read = c.in_ok-bytes.ensures.own faithful log short bounds.most (files.bundle t bounds.is_in) in
     let found = c.in-Some.ensures.lookup in
     let slice : List (Bor (List ℕ)) = c.as_slice-2.result.now in
     let es : List (List ℕ) = map (λ (e : Bor (List ℕ)). e.now) slice in
@@ -46,7 +46,7 @@ returns-in_err-entries-clause-whole g c = λ faithful log files short count.
     let t : TileAt = c.new-tile.result in
     let bounds = entry_tile log t c.args.index c.args.log_length count c.requires c.new-tile.ensures.level
     c.new-tile.ensures.number (c.new-tile.ensures.width ∙ c.min.ensures) in
-    let read = c.in_ok-bytes.ensures.read faithful log short bounds.most (files.bundle t bounds.is_in) in
+    let read = c.in_ok-bytes.ensures.own faithful log short bounds.most (files.bundle t bounds.is_in) in
     err_same (IsNoFault ⊥) c.in_err-entries.field-0.0 c.from_residual-in_err-entries.result
     c.from_residual-in_err-entries.ensures.1
     (c.in_err-entries.ensures.whole log short bounds.is_in (c.as_slice.ensures.value ∙ read))

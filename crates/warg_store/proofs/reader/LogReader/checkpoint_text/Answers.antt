@@ -18,19 +18,19 @@ still_read {F = F} seen log was folder new text is same reads = record {
 pub returns-clause-reads : goal.returns-clause-reads
 returns-clause-reads g c = λ faithful log reads.
     still_read g.F.Folder.seen log c.args.self.now c.self.inside.folder c.read_edge.new.folder c.self.inside.text
-    c.self.view_is (c.read_edge.ensures.seen faithful) reads
+    c.self.view_is (c.read_edge.ensures.read faithful).found reads
 
 pub returns-in_err-edge-clause-reads : goal.returns-in_err-edge-clause-reads
 returns-in_err-edge-clause-reads g c = λ faithful log reads.
     still_read g.F.Folder.seen log c.args.self.now c.self.inside.folder c.read_edge.new.folder c.self.inside.text
-    c.self.view_is (c.read_edge.ensures.seen faithful) reads
+    c.self.view_is (c.read_edge.ensures.read faithful).found reads
 
 pub returns-in_err-open_edge-clause-reads : goal.returns-in_err-open_edge-clause-reads
 returns-in_err-open_edge-clause-reads g c = λ faithful log reads.
     still_read g.F.Folder.seen log c.args.self.now c.self.inside.folder c.read_edge.new.folder c.self.inside.text
-    c.self.view_is (c.read_edge.ensures.seen faithful) reads
+    c.self.view_is (c.read_edge.ensures.read faithful).found reads
 
 pub returns-in_err-write-clause-reads : goal.returns-in_err-write-clause-reads
 returns-in_err-write-clause-reads g c = λ faithful log reads.
     still_read g.F.Folder.seen log c.args.self.now c.self.inside.folder c.read_edge.new.folder c.self.inside.text
-    c.self.view_is (c.read_edge.ensures.seen faithful) reads
+    c.self.view_is (c.read_edge.ensures.read faithful).found reads

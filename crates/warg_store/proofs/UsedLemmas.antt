@@ -1,0 +1,303 @@
+-- A folder's files, as the entries of their bundles are read back and the tiles over them used.
+use Rattle.std.proofs.Common.{◌≡◌, ◌≢◌, ◌⊎◌, inl, inr, ⊎_elim, ℕ, zero, suc, ◌+◌, ◌-◌, ◌*◌, ◌^◌, ◌<◌, ◌≤◌, false, min, List, [], ◌∷◌, ◌++◌, length, map, take, drop, Some, refl, sym, ap, subst, ◌∙◌, arith}
+use Rattle.std.specs.List.{AllByRecursion, Contains, flat_map}
+use Rattle.std.proofs.lemmas.Bool.{cases_lt}
+use Rattle.std.proofs.lemmas.List.{length-append, length-map, take_all}
+use Rattle.std.proofs.lemmas.Nat.{pow_pos}
+use Rattle.std.proofs.Math.Nat.{zero-div, mul-le-mul_right}
+use Rattle.std.proofs.Math.Seq.{drop-append_seam}
+use Rattle.warg_crypto.specs.Digests.{sha256}
+use Rattle.warg_log.specs.Claims.{RootAndLength}
+use Rattle.warg_log.specs.Tree.{root_of, leaves_of}
+use Rattle.warg_protobuf.proofs.ForCallers.{all_append}
+use Rattle.warg_tiles.specs.Between.{IsTileOf, filled}
+use Rattle.warg_tiles.specs.EntryBundles.{bundle_of}
+use Rattle.warg_tiles.specs.Tiles.{TileAt, tile_end}
+use Rattle.warg_tiles.specs.TileData.{Tiles}
+use Rattle.warg_tiles.specs.TileLog.{RightEdge, StandsFor, AreTilesOf, full_between, partial_tiles}
+use Rattle.warg_tiles.specs.TilePaths.{tile_path, entries_path}
+use Rattle.warg_tiles.proofs.ForCallers.{full_tiles, partial_of, low_level}
+use Rattle.warg_folder.specs.Files.{File, Files}
+use Rattle.warg_folder.specs.Names.{staged, is_staged}
+use Rattle.warg_folder.proofs.ForCallers.{served_not_staged}
+use Rattle.warg_store.specs.Audited.{log_of, ShowsLog}
+use Rattle.warg_store.specs.Log.{LogOf, AreShort, Extends, IsTileIn, IsBundleIn, said_of, tile_bytes, bundle_bytes}
+use Rattle.warg_store.specs.Reading.{checkpoint_said}
+use Rattle.warg_store.specs.Staged.{new_files}
+use Rattle.warg_store.specs.Private.Compared.{HasTiles}
+use Rattle.warg_store.specs.Private.Used.{place_of, AreUsed, HasUsed, HasUsedAll}
+use Rattle.warg_store.specs.declared.auditing.Use.{Use}
+use Rattle.warg_store.specs.declared.auditing.Use.TheVariants.{Compare, Stage}
+use Rattle.warg_store.proofs.GrowingLemmas.{same_tile, ground, from_ground, full_stays, own_files, tile_there, apart_there}
+use Rattle.warg_store.proofs.LeadLemmas.{width_at_most, tile_kept, bundle_kept, tile_was, bundle_was}
+use Rattle.warg_store.proofs.StagedLemmas.{staged_outside}
+
+-- a tile ends behind no entry
+ends_behind : (t : TileAt) → 0 < t.width → tile_end t ≤ 0 → ⊥
+ends_behind t some none =
+    let one : 1 ≤ 256 * t.number + t.width = omega (arith, some) in
+    omega (arith, none, mul-le-mul_right (2 ^ (8 * t.level)) one, pow_pos (8 * t.level))
+
+-- a log's own tiles, which the files have, have its bytes there
+own_there : (log : LogOf) (R : TileAt → Type 0) (files : Files) (tiles : Tiles)
+    → AllByRecursion (λ (x : TileAt × List (List ℕ)). R x.0 × (flat_map (λ digest. digest) x.1 ≡ tile_bytes log x.0))
+    tiles
+    → HasTiles files tiles → (t : TileAt) → Contains (map (λ (x : TileAt × List (List ℕ)). x.0) tiles) t
+    → files (tile_path t) ≡ Some (tile_bytes log t)
+own_there log R files [] own has t (k, low, is) = absurd (omega arith)
+own_there log R files (x ∷ xs) own has t (zero, low, is) =
+    subst (λ (u : TileAt). files (tile_path u) ≡ Some (tile_bytes log u)) is
+    (has.0 ∙ ap (λ (b : List ℕ). Some b) own.0.1)
+own_there log R files (x ∷ xs) own has t (suc k, low, is) =
+    own_there log R files xs own.1 has.1 t (k, omega arith, is)
+
+-- Tiles of a log that are used: R says of each which one it is.
+module _ (log : LogOf) (R : TileAt → Type 0) (low : (t : TileAt) → R t → t.level < 8) (most : (t : TileAt) → R t
+    → t.width ≤ 256) (tiles : Tiles)
+    (own : AllByRecursion (λ (x : TileAt × List (List ℕ)). R x.0
+    × (flat_map (λ digest. digest) x.1 ≡ tile_bytes log x.0)) tiles) (old new : Files) where
+  -- each is at its place, and so is one that was there
+  pub used_there : (how : Use) → AreUsed how tiles old new → (t : TileAt) → IsTileIn log t
+      → Contains (map (λ (x : TileAt × List (List ℕ)). x.0) tiles) t
+      ⊎ (old (place_of how (tile_path t)) ≡ Some (tile_bytes log t))
+      → new (place_of how (tile_path t)) ≡ Some (tile_bytes log t)
+  used_there Compare used t is (inl has) = ap (λ (f : Files). f (tile_path t)) used.0
+      ∙ own_there log R old tiles own used.1 t has
+  used_there Compare used t is (inr was) = ap (λ (f : Files). f (tile_path t)) used.0 ∙ was
+  used_there Stage used t is from = ap (λ (f : Files). f (staged (tile_path t))) used
+      ∙ tile_there log R low most 0 tiles own old t is.level (width_at_most (length log.entries) t is.exists)
+      (⊎_elim (λ has. inl (has, ends_behind t is.exists.some)) (λ was. inr was) from)
+
+  -- and at the path of no other one anything changes
+  pub used_apart : (how : Use) → AreUsed how tiles old new → (n : List ℕ) → ((t : TileAt) → R t → tile_path t ≢ n)
+      → new (place_of how n) ≡ old (place_of how n)
+  used_apart Compare used n none = ap (λ (f : Files). f n) used.0
+  used_apart Stage used n none = ap (λ (f : Files). f (staged n)) used
+      ∙ apart_there log R low most 0 tiles own old n none
+
+-- nothing but staged files changes
+used_outside : (how : Use) (tiles : Tiles) (old new : Files) → AreUsed how tiles old new → (n : List ℕ)
+    → is_staged n ≡ false → new n ≡ old n
+used_outside Compare tiles old new used n isnt = ap (λ (f : Files). f n) used.0
+used_outside Stage tiles old new used n isnt = ap (λ (f : Files). f n) used
+    ∙ staged_outside (new_files 0 tiles) old n isnt
+
+-- no entry has files
+pub none_used : (how : Use) (files : Files) (edge : RightEdge) → edge.taken ≡ edge.len → StandsFor sha256 edge []
+    → HasUsed how files files 0 edge
+none_used how files edge taken stands = record {
+  entries = [];
+  count = refl;
+  short = tt;
+  stands = stands;
+  taken = taken;
+  bundle = λ t is. absurd (none t is.exists);
+  tile = λ t is full. absurd (none t is.exists);
+  other = λ n apart. refl;
+  outside = λ n isnt. refl;
+}
+  where
+    none : (t : TileAt) → IsTileOf 0 t → ⊥
+    none t is = omega (arith, is.some, is.width, zero-div (2 ^ (8 * t.level)))
+
+-- One bundle more: its entries are pushed, and the tiles that they fill are taken and used.
+module _ (how : Use) (first before after : Files) (number size : ℕ) (old mid new : RightEdge) (xs : List (List ℕ))
+    (tiles : Tiles) (inside : 256 * number < size) (fits : size ≤ 2 ^ 63)
+    (count : length xs ≡ min (size - 256 * number) 256) (short : AreShort xs)
+    (file : before (entries_path (filled 0 size number)) ≡ Some (bundle_of xs))
+    (pushed : (es : List (List ℕ)) → StandsFor sha256 old (leaves_of sha256 es)
+    → StandsFor sha256 mid (leaves_of sha256 (es ++ xs))) (taken : mid.taken ≡ old.taken)
+    (own : (ds : List (List ℕ)) → StandsFor sha256 mid ds
+    → AreTilesOf sha256 ds (full_between mid.taken mid.len) tiles)
+    (rest : new ≡ record mid { taken = mid.len; full = [] })
+    (stands : (ds : List (List ℕ)) → StandsFor sha256 mid ds → StandsFor sha256 new ds)
+    (used : AreUsed how tiles before after) (was : HasUsed how first before (256 * number) old) where
+  abbrev all : List (List ℕ)
+  all = was.entries ++ xs
+
+  abbrev IsFull : TileAt → Type 0
+  IsFull t = IsTileIn (log_of (was.entries ++ xs)) t × (t.width ≡ 256)
+
+  grown : Extends (log_of was.entries) (log_of all)
+  grown = record { origin = refl; entries = (xs, refl); still = λ same. (refl, refl) }
+
+  size_now : length all ≡ min (256 * number + 256) size
+  size_now = omega (arith, length-append was.entries xs, count, was.count, inside)
+
+  old_len : mid.taken ≡ length was.entries
+  old_len = taken ∙ was.taken ∙ sym was.stands.count ∙ length-map was.entries (λ (e : List ℕ). sha256 (0 ∷ e))
+
+  stand : StandsFor sha256 mid (leaves_of sha256 all)
+  stand = pushed was.entries was.stands
+
+  new_len : mid.len ≡ length all
+  new_len = sym stand.count ∙ length-map all (λ (e : List ℕ). sha256 (0 ∷ e))
+
+  most : mid.len ≤ 2 ^ 63
+  most = omega (arith, new_len, size_now, fits)
+
+  each_full : (t : TileAt) → Contains (map (λ (x : TileAt × List (List ℕ)). x.0) tiles) t → IsFull t
+  each_full t has =
+      let is = ((full_tiles mid.taken mid.len most).exactly t).0
+      (subst (λ (l : List TileAt). Contains l t) (own (leaves_of sha256 all) stand).places has) in
+      (record { level = low_level mid.len t most is.1; exists = subst (λ n. IsTileOf n t) new_len is.1 }, is.0)
+
+  own_full : AllByRecursion (λ (x : TileAt × List (List ℕ)). IsFull x.0
+      × (flat_map (λ digest. digest) x.1 ≡ tile_bytes (log_of all) x.0)) tiles
+  own_full = own_files (log_of all) IsFull tiles each_full (own (leaves_of sha256 all) stand).digests
+
+  low : (t : TileAt) → IsFull t → t.level < 8
+  low t is = is.0.level
+
+  wide : (t : TileAt) → IsFull t → t.width ≤ 256
+  wide t is = omega (arith, is.1)
+
+  new_tile : (t : TileAt) → IsTileIn (log_of all) t → t.width ≡ 256 → (IsTileIn (log_of was.entries) t → ⊥)
+      → Contains (map (λ (x : TileAt × List (List ℕ)). x.0) tiles) t
+  new_tile t is full fresh =
+      subst (λ (l : List TileAt). Contains l t) (sym (own (leaves_of sha256 all) stand).places)
+      (((full_tiles mid.taken mid.len most).exactly t).1 (
+        full,
+        subst (λ n. IsTileOf n t) (sym new_len) is.exists,
+        λ before. fresh (record { level = is.level; exists = subst (λ n. IsTileOf n t) old_len before }),
+      ))
+
+  full_kept : (t : TileAt) → IsTileIn (log_of was.entries) t → t.width ≡ 256 → IsFull t
+  full_kept t is full =
+      let longer : length was.entries ≤ length all = omega (arith, length-append was.entries xs) in
+      (record { level = is.level; exists = full_stays (length was.entries) (length all) t longer full is.exists }, full)
+
+  the_bundle : (t : TileAt) → IsBundleIn (log_of all) t → (IsBundleIn (log_of was.entries) t → ⊥)
+      → t ≡ filled 0 size number
+  the_bundle t is fresh =
+      let g = ground (length all) t is.level is.exists in
+      let low : t.number ≤ number = omega (arith, g.0, g.1, size_now) in
+      let high : number ≤ t.number = elim (cases_lt t.number number) [
+        | inl lt ↦ absurd (fresh (record {
+          level = is.level;
+          exists = from_ground (length was.entries) t is.level g.0 (omega (arith, g.1, size_now, was.count, lt));
+        }))
+        | inr le ↦ le
+      ] in
+      let same : t.number ≡ number = omega (arith, low, high) in
+      same_tile t (filled 0 size number) is.level same (omega (arith, g.1, size_now, same, inside))
+
+  new_bundle : first (entries_path (filled 0 size number)) ≡ Some (bundle_bytes (log_of all) (filled 0 size number))
+  new_bundle =
+      sym (was.outside (entries_path (filled 0 size number))
+      (served_not_staged (entries_path (filled 0 size number)) refl)) ∙ file
+      ∙ ap (λ (l : List (List ℕ)). Some (bundle_of l))
+      (sym (ap (λ n. take (min (size - 256 * number) 256) (drop n all)) (sym was.count)
+      ∙ ap (take (min (size - 256 * number) 256)) (drop-append_seam was.entries xs)
+      ∙ take_all (min (size - 256 * number) 256) xs (omega (arith, count))))
+
+  pub bundle_more : HasUsed how first after (min (256 * number + 256) size) new
+  bundle_more = record {
+    entries = all;
+    count = size_now;
+    short = all_append (λ (e : List ℕ). length e < 65536) was.entries xs was.short short;
+    stands = stands (leaves_of sha256 all) stand;
+    taken = ap (λ (e : RightEdge). e.taken) rest ∙ sym (ap (λ (e : RightEdge). e.len) rest);
+    bundle = λ t is. ⊎_elim
+        (λ had. was.bundle t had ∙ ap (λ (b : List ℕ). Some b)
+        (sym (bundle_kept (log_of was.entries) (log_of all) grown t had)))
+        (λ fresh. subst (λ (u : TileAt). first (entries_path u) ≡ Some (bundle_bytes (log_of all) u))
+        (sym (the_bundle t is fresh)) new_bundle) (bundle_was (log_of was.entries) (log_of all) grown t is);
+    tile = λ t is full. used_there (log_of all) IsFull low wide tiles own_full before after how used t is (⊎_elim
+        (λ had. inr (was.tile t had full ∙ ap (λ (b : List ℕ). Some b)
+        (sym (tile_kept (log_of was.entries) (log_of all) grown t had))))
+        (λ fresh. inl (new_tile t is full fresh)) (tile_was (log_of was.entries) (log_of all) grown t is));
+    other = λ n apart. used_apart (log_of all) IsFull low wide tiles own_full before after how used n
+        (λ t is. apart t is.0 is.1)
+        ∙ was.other n (λ t is full. let now = full_kept t is full in apart t now.0 full);
+    outside = λ n isnt. used_outside how tiles before after used n isnt ∙ was.outside n isnt;
+  }
+
+-- the same from one round of a loop to the next
+pub bundle_next : (how : Use) (first before after : Files) (number size : ℕ) (old new : RightEdge)
+    → 256 * number < size
+    → (HasUsed how first before (256 * number) old → HasUsed how first after (min (256 * number + 256) size) new)
+    → HasUsed how first before (min (256 * number) size) old
+    → HasUsed how first after (min (256 * (number + 1)) size) new
+bundle_next how first before after number size old new inside step was =
+    let now : min (256 * number) size ≡ 256 * number = omega (arith, inside) in
+    let next : min (256 * number + 256) size ≡ min (256 * (number + 1)) size = omega arith in
+    subst (λ n. HasUsed how first after n new) next (step (subst (λ n. HasUsed how first before n old) now was))
+
+-- With the partial tiles all are used.
+module _ (how : Use) (first before after : Files) (count : ℕ) (edge : RightEdge) (tiles : Tiles) (most : count ≤ 2 ^ 63)
+    (own : (ds : List (List ℕ)) → StandsFor sha256 edge ds → AreTilesOf sha256 ds (partial_tiles edge.len) tiles)
+    (used : AreUsed how tiles before after) (has : HasUsed how first before count edge) where
+  abbrev log : LogOf
+  log = log_of has.entries
+
+  len : edge.len ≡ length has.entries
+  len = sym has.stands.count ∙ length-map has.entries (λ (e : List ℕ). sha256 (0 ∷ e))
+
+  fits : edge.len ≤ 2 ^ 63
+  fits = omega (arith, len, has.count, most)
+
+  each_part : (t : TileAt) → Contains (map (λ (x : TileAt × List (List ℕ)). x.0) tiles) t → IsTileIn log t
+  each_part t is =
+      let part = ((partial_of edge.len fits).exactly t).0
+      (subst (λ (l : List TileAt). Contains l t) (own (leaves_of sha256 has.entries) has.stands).places is) in
+      record { level = low_level edge.len t fits part.0; exists = subst (λ n. IsTileOf n t) len part.0 }
+
+  own_parts : AllByRecursion (λ (x : TileAt × List (List ℕ)). IsTileIn log x.0
+      × (flat_map (λ digest. digest) x.1 ≡ tile_bytes log x.0)) tiles
+  own_parts = own_files log (IsTileIn log) tiles each_part (own (leaves_of sha256 has.entries) has.stands).digests
+
+  part_low : (t : TileAt) → IsTileIn log t → t.level < 8
+  part_low t is = is.level
+
+  part_wide : (t : TileAt) → IsTileIn log t → t.width ≤ 256
+  part_wide t is = width_at_most (length has.entries) t is.exists
+
+  pub all_used : HasUsedAll how first after edge
+  all_used = record {
+    entries = has.entries;
+    short = has.short;
+    stands = has.stands;
+    bundle = has.bundle;
+    tile = λ t is. used_there log (IsTileIn log) part_low part_wide tiles own_parts before after how used t is
+        (elim (cases_lt t.width 256) [
+          | inl part ↦ inl (subst (λ (l : List TileAt). Contains l t)
+              (sym (own (leaves_of sha256 has.entries) has.stands).places)
+              (((partial_of edge.len fits).exactly t).1 (subst (λ n. IsTileOf n t) (sym len) is.exists, part)))
+          | inr over ↦ inr (has.tile t is (omega (arith, over, part_wide t is)))
+        ]);
+    other = λ n apart. used_apart log (IsTileIn log) part_low part_wide tiles own_parts before after how used n apart
+        ∙ has.other n (λ t is full. apart t is);
+    outside = λ n isnt. used_outside how tiles before after used n isnt ∙ has.outside n isnt;
+  }
+
+-- what a checkpoint of these entries says
+pub said_by : (entries : List (List ℕ)) (edge : RightEdge) (found : RootAndLength)
+    → ((ds : List (List ℕ)) → StandsFor sha256 edge ds → (found.length ≡ length ds) × (found.root ≡ root_of sha256 ds))
+    → StandsFor sha256 edge (leaves_of sha256 entries) → found ≡ checkpoint_said (said_of (log_of entries))
+said_by entries edge found same stands =
+    let is = same (leaves_of sha256 entries) stands in
+    of_parts found.root (root_of sha256 (leaves_of sha256 entries)) found.length (length entries) is.1
+    (is.0 ∙ length-map entries (λ (e : List ℕ). sha256 (0 ∷ e)))
+  where
+    of_parts : (a b : List ℕ) (m n : ℕ) → a ≡ b → m ≡ n
+        → ◌≡◌ {A = RootAndLength} (record { root = a; length = m }) (record { root = b; length = n })
+    of_parts a b m n root count = cc
+
+no_page : (f : File) → Contains [] f → ⊥
+no_page f (k, low, is) = omega arith
+
+-- where all tiles were compared, the files have a log with the checkpoint
+pub shown : (files now : Files) (edge : RightEdge) (found : RootAndLength) → now ≡ files
+    → ((ds : List (List ℕ)) → StandsFor sha256 edge ds → (found.length ≡ length ds) × (found.root ≡ root_of sha256 ds))
+    → HasUsedAll Compare files now edge → ShowsLog files found
+shown files now edge found still same has = (
+  log_of has.entries,
+  said_by has.entries edge found same has.stands,
+  has.short,
+  record {
+    tile = λ t is. sym (ap (λ (f : Files). f (tile_path t)) still) ∙ has.tile t is;
+    bundle = has.bundle;
+    page = λ f is. absurd (no_page f is);
+  },
+)
