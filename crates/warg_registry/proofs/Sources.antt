@@ -1,19 +1,14 @@
 -- What is known of a log's pages while they are read.
-use Rattle.std.proofs.Common.{◌≡◌, ℕ, ◌≤◌, ◌<◌, true, false, true≢false, List, Option, None, Some, Result, refl, sym, ap, subst, ◌∙◌, arith}
-use Rattle.std.specs.Prelude.{IsErrOf}
+use Rattle.std.proofs.Common.{◌≡◌, ℕ, true, false, true≢false, List, Option, None, refl, sym, ap, subst, arith}
 use Rattle.warg_folder.specs.Files.{Files}
-use Rattle.warg_folder.specs.Moments.{IsRead, HasCause}
-use Rattle.warg_folder.specs.declared.device.FolderError.{FolderError}
-use Rattle.warg_folder.specs.declared.device.FolderError.TheVariants.{Failed}
-use Rattle.warg_folder.proofs.ForCallers.{read_is, read_then}
+use Rattle.warg_folder.specs.Moments.{IsRead}
+use Rattle.warg_folder.proofs.ForCallers.{read_is}
 use Rattle.warg_store.specs.Growing.{LogIn}
 use Rattle.warg_store.specs.Reading.{ServedIn}
 use Rattle.warg_registry.specs.declared.error.ReadFault.{ReadFault}
-use Rattle.warg_registry.specs.declared.error.ReadFault.TheVariants.{DeviceFailed}
 use Rattle.warg_registry.specs.Folder.{IsLogRead}
 use Rattle.warg_registry.specs.Reading.{RegistryRead}
 use Rattle.warg_registry.specs.Sources.{LogBefore, IsFailureTold}
-use Rattle.warg_registry.proofs.FolderMoments.{log_read_then}
 
 -- what is known of a log on a faithful device: of one that is added to, as it was before, and of one that is read
 abbrev pub at_kept : {F : Type 0} → (F → ℕ) → LogIn F → LogIn F → LogBefore (LogIn F)
@@ -29,15 +24,6 @@ with_root log root = record { log = log; root = root }
 -- where no reading failed, nothing is told
 pub none_told : (IsFaithful : Type 0) (n : ℕ) → IsFailureTold IsFaithful n n None
 none_told IsFaithful n = record { later = omega arith; failed = λ faithful is. absurd (cc) }
-
--- a reading more
-told_then : {T : Type 0} (IsFaithful : Type 0) (before mid now : ℕ) (fault : Option ReadFault)
-    (read : Result T FolderError) → before ≤ mid → HasCause IsFaithful mid now read
-    → (fault ≡ Some DeviceFailed → IsErrOf read Failed) → IsFailureTold IsFaithful before now fault
-told_then IsFaithful before mid now fault read le cause tells = record {
-  later = omega (arith, le, cause.later);
-  failed = λ faithful is. omega (arith, le, cause.failed faithful (tells is));
-}
 
 module _ {F : Type 0} (IsFaithful : Type 0) (seen : F → Files) (may_leave : F → Files → Type 0) (moment : F → ℕ)
     (left_since : F → ℕ → Files → Type 0) (faults : F → ℕ) where
@@ -106,33 +92,3 @@ module _ {F : Type 0} (IsFaithful : Type 0) (seen : F → Files) (may_leave : F 
 
       any : IsKnownServed unsure new fault
       any = known unsure (refl, λ e. absurd (true≢false (sym e)), none_told IsFaithful (faults old.folder))
-
-  -- one page more
-  module _ (counts : (folder : F) (t : ℕ) (c : Files) → t ≤ moment folder → may_leave folder c → left_since folder t c)
-      {T : Type 0} (read : Result T FolderError) (next : Option ReadFault)
-      (tells : next ≡ Some DeviceFailed → IsErrOf read Failed) where
-    pub kept_then : (known : LogBefore (LogIn F)) (mid new : LogIn F) (fault : Option ReadFault)
-        → IsKnownKept known mid fault → new ≡ record mid { folder = new.folder }
-        → (IsFaithful → IsRead seen may_leave moment left_since mid.folder new.folder)
-        → HasCause IsFaithful (faults mid.folder) (faults new.folder) read → IsKnownKept known new next
-    kept_then known mid new fault was same then cause = (
-      λ e. let old = was.0 e in (
-        old.0,
-        log_read_then seen may_leave moment left_since counts known.log mid new old.1 same (then old.0),
-      ),
-      told_then IsFaithful known.faults (faults mid.folder) (faults new.folder) next read was.1.later cause tells,
-    )
-
-    pub served_then : (known : LogBefore (ServedIn F)) (mid new : ServedIn F) (fault : Option ReadFault)
-        → IsKnownServed known mid fault → new ≡ record mid { folder = new.folder }
-        → (IsFaithful → IsRead seen may_leave moment left_since mid.folder new.folder)
-        → HasCause IsFaithful (faults mid.folder) (faults new.folder) read → IsKnownServed known new next
-    served_then known mid new fault was same then cause = (
-      same ∙ ap (λ (l : ServedIn F). record l { folder = new.folder }) was.0,
-      λ e. let old = was.1 e in (
-        old.0,
-        read_then seen may_leave moment left_since known.log.folder mid.folder new.folder (counts known.log.folder)
-            old.1 (then old.0),
-      ),
-      told_then IsFaithful known.faults (faults mid.folder) (faults new.folder) next read was.2.later cause tells,
-    )
