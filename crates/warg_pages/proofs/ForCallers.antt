@@ -40,6 +40,21 @@ use Rattle.warg_pages.proofs.OwnPages as own
 use Rattle.warg_pages.proofs.VisitedRoots as visited
 use Rattle.warg_pages.proofs.AuditedMaps as audit
 
+-- The bits of a key: as many as are asked for, those of two parts, the same ones of another key, and those of its first bytes.
+pub length-bits_from : (bytes : List ℕ) (i n : ℕ) → length (bits_from bytes i n) ≡ n
+length-bits_from = keys.length-bits_from
+
+pub bits_from-append : (bytes : List ℕ) (i m n : ℕ) → bits_from bytes i (m + n)
+    ≡ bits_from bytes i m ++ bits_from bytes (i + m) n
+bits_from-append = keys.bits_from-append
+
+pub bits_from-same : (a b : List ℕ) (i j n : ℕ) → ((m : ℕ) → m < n → bit_at a (i + m) ≡ bit_at b (j + m))
+    → bits_from a i n ≡ bits_from b j n
+bits_from-same = keys.bits_from-same
+
+pub bits_of_taken : (k : List ℕ) (depth : ℕ) → depth ≤ length k → bits_of_bytes (take depth k) ≡ bits_from k 0 (8 * depth)
+bits_of_taken = descent.bits_of_taken
+
 -- Digits that are written alike are the same.
 low_glyph : (d : ℕ) → d < 10 → digit_glyph false d ≡ 48 + d
 low_glyph d low = rw (lt-ltb d 10 low) refl
@@ -262,18 +277,3 @@ length_versions H all first [] [] h = refl
 length_versions H all first [] (v ∷ vs) h = absurd h
 length_versions H all first (e ∷ es) [] h = absurd h
 length_versions H all first (e ∷ es) (v ∷ vs) h = ap suc (length_versions H all (first + 1) es vs h.1)
-
--- The bits of a key: as many as are asked for, those of two parts, the same ones of another key, and those of its first bytes.
-pub length-bits_from : (bytes : List ℕ) (i n : ℕ) → length (bits_from bytes i n) ≡ n
-length-bits_from = keys.length-bits_from
-
-pub bits_from-append : (bytes : List ℕ) (i m n : ℕ) → bits_from bytes i (m + n)
-    ≡ bits_from bytes i m ++ bits_from bytes (i + m) n
-bits_from-append = keys.bits_from-append
-
-pub bits_from-same : (a b : List ℕ) (i j n : ℕ) → ((m : ℕ) → m < n → bit_at a (i + m) ≡ bit_at b (j + m))
-    → bits_from a i n ≡ bits_from b j n
-bits_from-same = keys.bits_from-same
-
-pub bits_of_taken : (k : List ℕ) (depth : ℕ) → depth ≤ length k → bits_of_bytes (take depth k) ≡ bits_from k 0 (8 * depth)
-bits_of_taken = descent.bits_of_taken
