@@ -7,13 +7,10 @@ use warg_crypto::Hash;
 use warg_log::Node;
 use warg_tiles::Tile;
 
-// The answer where memory is refused.
-const MEMORY: &str = "Memory";
-
 /// The answer to a line: words that are separated by one space.
 #[derive(Drop)]
 pub(crate) struct Answer {
-    text: String,
+    pub(crate) text: String,
 }
 
 impl Answer {
@@ -21,26 +18,6 @@ impl Answer {
         Answer {
             text: String::new(alloc),
         }
-    }
-
-    /// The answer of this text.
-    pub(crate) fn of(alloc: Global, text: &str) -> Result<Answer, AllocError> {
-        let text = String::from_str(alloc, text)?;
-        Ok(Answer { text })
-    }
-
-    /// The answer where memory is refused.
-    pub(crate) fn of_refused_memory(alloc: Global) -> Result<Answer, AllocError> {
-        Answer::of(alloc, MEMORY)
-    }
-
-    /// Whether it says that memory was refused.
-    pub(crate) fn is_refusal_of_memory(&self) -> bool {
-        self.text.as_str() == MEMORY
-    }
-
-    pub(crate) fn text(&self) -> &str {
-        self.text.as_str()
     }
 
     pub(crate) fn alloc(&self) -> Global {
@@ -70,25 +47,29 @@ impl Answer {
 
     /// Writes a list: `[]` for none, else items that are separated by commas, with `COUNT*ITEM` for equal neighbours.
     pub(crate) fn list<T: Item>(&mut self, items: &[T]) -> Answered {
-        let mut list = String::new(self.alloc());
-        let mut last = String::new(self.alloc());
-        let mut count = 0usize;
-        for item in items {
-            let item = item.item(self.alloc())?;
-            if count > 0 && item.as_str() == last.as_str() {
-                count = count.saturating_add(1);
-                continue;
-            }
-            push_copies(&mut list, count, last.as_str())?;
-            last = item;
-            count = 1;
-        }
-        push_copies(&mut list, count, last.as_str())?;
-        if count == 0 {
+        if items.is_empty() {
             return self.word("[]");
         }
+        let list = list_of(self.alloc(), items)?;
         self.word(list.as_str())
     }
+}
+
+fn list_of<T: Item>(alloc: Global, items: &[T]) -> Result<String, AllocError> {
+    let mut list = String::new(alloc);
+    let mut last = String::new(alloc);
+    let mut count = 0usize;
+    for item in items {
+        let item = item.item(alloc)?;
+        if item.as_str() != last.as_str() {
+            push_copies(&mut list, count, last.as_str())?;
+            last = item;
+            count = 0;
+        }
+        count = count.saturating_add(1);
+    }
+    push_copies(&mut list, count, last.as_str())?;
+    Ok(list)
 }
 
 // Writes an item of a list as often as it came.
@@ -151,7 +132,7 @@ impl<A: Allocator> Item for Vec<u8, A> {
 }
 
 // The digits of bytes, `-` for none.
-fn digits_of(alloc: Global, bytes: &[u8]) -> Result<String, AllocError> {
+pub(crate) fn digits_of(alloc: Global, bytes: &[u8]) -> Result<String, AllocError> {
     if bytes.is_empty() {
         return String::from_str(alloc, "-");
     }

@@ -5,7 +5,7 @@ use crate::fault::{Answered, Fault};
 use crate::memory::Memory;
 use crate::words::{Given, Words};
 use std::alloc::{Allocator, Global};
-use std::fmt::Debug;
+use std::fmt::{Debug, Display};
 use warg_crypto::SupportedDigest;
 use warg_witness::{Collision, Finding};
 
@@ -41,9 +41,14 @@ impl<'a, M: Memory> Call<'a, M> {
         T::read(&mut self.words)
     }
 
-    /// What the parts of the next word spell, which are separated by colons.
-    pub(crate) fn read_parts<T: Given>(&mut self) -> Result<T, Fault> {
-        self.words.item()
+    /// Reads what the call is made of, and answers it.
+    pub(crate) fn with<T: Given, F>(&mut self, answer: F) -> Answered
+    where
+        F: FnOnce(&mut Call<'a, M>, &T) -> Answered,
+        requires { F.IsAlwaysCallable answer }
+    {
+        let given: T = self.read()?;
+        answer(self, &given)
     }
 
     /// Whether all words were read.
@@ -66,19 +71,25 @@ impl<'a, M: Memory> Call<'a, M> {
     }
 
     /// What a call gives. Where memory is refused, it is made again with memory.
-    pub(crate) fn again<T, E: Debug + Drop, F: Fn(M) -> Result<T, E> + Drop>(
-        &self,
-        ask: F,
-    ) -> Result<T, Fault>
+    pub(crate) fn again<T, F: Fn(M) -> Result<T, Fault> + Drop>(&self, ask: F) -> Result<T, Fault>
         requires { F.IsAlwaysCallable ask }
     {
-        match self.made(ask(self.memory)) {
+        match ask(self.memory) {
             Err(Fault::Memory) => {
                 self.memory.grant();
-                self.made(ask(self.memory))
+                ask(self.memory)
             }
             ended => ended,
         }
+    }
+
+    /// Writes a value in its own form, or why there is none.
+    pub(crate) fn show<T: Display + Drop, E: Debug + Drop>(
+        &mut self,
+        value: Result<T, E>,
+    ) -> Answered {
+        let value = self.made(value)?;
+        self.to.show(&value)
     }
 
     /// Writes a list, or why there is none.
@@ -99,19 +110,22 @@ impl<'a, M: Memory> Call<'a, M> {
         self.to.bytes(bytes.as_slice())
     }
 
-    /// Writes what a witness found; the pair of a collision only where it isn't one of those that the next word gives.
+    /// Writes what a witness found; the pair of a collision only where it isn't one of these.
     pub(crate) fn write_found<D: SupportedDigest, A: Allocator, E: Debug + Drop>(
         &mut self,
         found: Result<Finding<D, A>, E>,
+        given: &Pairs,
     ) -> Answered {
-        let pairs: Vec<(Vec<u8>, Vec<u8>)> = self.read()?;
         match self.made(found)? {
             Finding::Holds => self.to.word("Holds"),
             Finding::NotMet => self.to.word("NotMet"),
-            Finding::Collision(pair) => write_collision(&mut self.to, &pair, pairs.as_slice()),
+            Finding::Collision(pair) => write_collision(&mut self.to, &pair, given),
         }
     }
 }
+
+/// Pairs of bytes.
+pub(crate) type Pairs = Vec<(Vec<u8>, Vec<u8>)>;
 
 fn write_collision<D: SupportedDigest, A: Allocator>(
     to: &mut Answer,

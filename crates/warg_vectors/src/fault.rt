@@ -2,13 +2,16 @@
 
 ghost use Rattle.std.specs.Prelude.{◌↔◌, IsOk, IsTrue};
 
-use std::alloc::{AllocError, AllocFailed};
+use std::alloc::{AllocError, AllocFailed, Global};
 use warg_bundle::BundleError;
 use warg_map::MapError;
 use warg_protobuf::{DecodeError, EncodeError};
 
+/// The answer where memory is refused.
+pub(crate) const MEMORY: &str = "Memory";
+
 /// Why a line has no answer of its own.
-#[derive(Debug, Drop)]
+#[derive(Drop)]
 pub(crate) enum Fault {
     /// It isn't a call, or the call's condition isn't met.
     BadCall,
@@ -49,6 +52,16 @@ impl Fault {
             Ok(())
         } else {
             Err(Fault::Broken(promise))
+        }
+    }
+
+    /// The line's answer.
+    pub(crate) fn text(&self, alloc: Global) -> Result<String, AllocError> {
+        match self {
+            Fault::BadCall => String::from_str(alloc, "bad call"),
+            Fault::Memory => String::from_str(alloc, MEMORY),
+            Fault::Refused(name) => format!(in alloc; "refused {name}"),
+            Fault::Broken(promise) => format!(in alloc; "broken {promise:?}"),
         }
     }
 }

@@ -55,12 +55,6 @@ impl<'a> Words<'a> {
     pub(crate) fn are_read(&self) -> bool {
         self.rest.is_none()
     }
-
-    /// What the parts of the next word spell, which are separated by colons.
-    pub(crate) fn item<T: Given>(&mut self) -> Result<T, Fault> {
-        let word = self.next()?;
-        read_item(self.alloc, word)
-    }
 }
 
 // Pushes an item, as often as its count says.
@@ -98,7 +92,10 @@ fn number(word: &str) -> Result<usize, Fault> {
     if word.len() > 20 || !has_digits_alone(word) {
         return Err(Fault::BadCall);
     }
-    word.parse().map_err(|_| Fault::BadCall)
+    match word.parse() {
+        Ok(number) => Ok(number),
+        Err(_) => Err(Fault::BadCall),
+    }
 }
 
 fn has_digits_alone(word: &str) -> bool {
@@ -191,6 +188,17 @@ impl<T: Given> Given for Option<T> {
             return Ok(None);
         }
         Ok(Some(T::read(&mut Words::of(words.alloc, word))?))
+    }
+}
+
+/// What the parts of one word spell, which are separated by colons.
+#[derive(Drop)]
+pub(crate) struct Parts<T>(pub(crate) T);
+
+impl<T: Given> Given for Parts<T> {
+    fn read(words: &mut Words<'_>) -> Result<Parts<T>, Fault> {
+        let word = words.next()?;
+        Ok(Parts(read_item(words.alloc, word)?))
     }
 }
 

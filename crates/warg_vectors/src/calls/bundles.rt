@@ -6,9 +6,10 @@ use crate::calls::stored::{LogBundle, write, write_same};
 use crate::fault::{Answered, Fault, Promise};
 use crate::memory::Memory;
 use crate::words::{Data, Length};
+use std::alloc::AllocError;
 use warg_bundle::{LogProofBundle, MapProofBundle};
 use warg_crypto::SupportedDigest;
-use warg_log::{LogData, Node};
+use warg_log::{ConsistencyProof, InclusionProof, LogData, Node};
 
 // The old and the new lengths of consistency proofs.
 type Lengths = Vec<(Length, Length)>;
@@ -17,9 +18,11 @@ type Lengths = Vec<(Length, Length)>;
 type Places = Vec<(Node, Length)>;
 
 /// The bytes of a bundle, which is taken apart and put together again.
-pub(super) fn bundle<D: SupportedDigest, M: Memory>(call: &mut Call<'_, M>) -> Answered {
-    let (data, lengths, places): (Data<D>, Lengths, Places) = call.read()?;
-    let bundle = bundle_of(call, &data, lengths.as_slice(), places.as_slice())?;
+pub(super) fn bundle<D: SupportedDigest, M: Memory>(
+    call: &mut Call<'_, M>,
+    (data, lengths, places): &(Data<D>, Lengths, Places),
+) -> Answered {
+    let bundle = bundle_of(call, data, lengths, places)?;
     let other = call.again(|memory| of_parts(&bundle, memory))?;
     write_same(call, &bundle, &other)
 }
@@ -30,17 +33,35 @@ fn bundle_of<D: SupportedDigest, M: Memory>(
     lengths: &[(Length, Length)],
     places: &[(Node, Length)],
 ) -> Result<LogBundle<D, M>, Fault> {
-    let mut consistencies = Vec::new(call.memory);
-    for (old, new) in lengths {
-        consistencies.push(data.held.prove_consistency(old.value, new.value))?;
-    }
-    let mut inclusions = Vec::new(call.memory);
-    for (node, length) in places {
-        inclusions.push(data.held.prove_inclusion(*node, length.value))?;
-    }
+    let consistencies = consistencies_of(call.memory, data, lengths)?;
+    let inclusions = inclusions_of(call.memory, data, places)?;
     let bundled = LogProofBundle::bundle(call.memory, consistencies, inclusions, &data.held);
     data.unless_changed()?;
     call.made(bundled)
+}
+
+fn consistencies_of<D: SupportedDigest, M: Memory>(
+    memory: M,
+    data: &Data<D>,
+    lengths: &[(Length, Length)],
+) -> Result<Vec<ConsistencyProof<D, Vec<u8>>, M>, AllocError> {
+    let mut proofs = Vec::new(memory);
+    for (old, new) in lengths {
+        proofs.push(data.held.prove_consistency(old.value, new.value))?;
+    }
+    Ok(proofs)
+}
+
+fn inclusions_of<D: SupportedDigest, M: Memory>(
+    memory: M,
+    data: &Data<D>,
+    places: &[(Node, Length)],
+) -> Result<Vec<InclusionProof<D, Vec<u8>>, M>, AllocError> {
+    let mut proofs = Vec::new(memory);
+    for (node, length) in places {
+        proofs.push(data.held.prove_inclusion(*node, length.value))?;
+    }
+    Ok(proofs)
 }
 
 fn of_parts<D: SupportedDigest, M: Memory>(

@@ -85,12 +85,9 @@ fn grown<D: SupportedDigest, M: Memory, K: Kind<D, M>>(
     entries: &[Vec<u8>],
 ) -> Result<K, Fault> {
     let log: K = pushed(call, entries)?;
-    let plain = beginning(call.alloc(), entries, entries.len())?;
-    Fault::unless(log.is(&plain, entries), Promise::SameValue)?;
-    let at_once: K = pushed_at_once(call, entries)?;
-    Fault::unless(at_once.is(&plain, entries), Promise::SameValue)?;
-    let clone = call.again(|_| log.cloned())?;
-    Fault::unless(clone.is(&plain, entries), Promise::SameValue)?;
+    expect(call, &log, entries, entries.len())?;
+    expect_at_once::<D, M, K>(call, entries)?;
+    expect_clone(call, &log, entries)?;
     Ok(log)
 }
 
@@ -129,7 +126,7 @@ fn expect<D: SupportedDigest, M: Memory, K: Kind<D, M>>(
     count: usize,
 ) -> Answered {
     let plain = beginning(call.alloc(), entries, count)?;
-    Fault::unless(log.is(&plain, entries), Promise::Unchanged)
+    Fault::unless(log.is(&plain, entries), Promise::SameValue)
 }
 
 // Pushes an entry. Where it is refused, the log is the one of before, and takes the entry; the run ends with the refusal.
@@ -163,18 +160,29 @@ fn push_next<D: SupportedDigest, K: LogBuilder<D, Vec<u8>>>(
     Fault::unless(node == Node(2 * before), Promise::NextNode)
 }
 
-// The log of all entries, pushed at once. Where it is refused, it is that of the first ones, and takes the others.
-fn pushed_at_once<D: SupportedDigest, M: Memory, K: Kind<D, M>>(
+// A fault unless a clone is the same.
+fn expect_clone<D: SupportedDigest, M: Memory, K: Kind<D, M>>(
+    call: &Call<'_, M>,
+    log: &K,
+    entries: &[Vec<u8>],
+) -> Answered {
+    let clone = call.again(|_| Ok(log.cloned()?))?;
+    expect(call, &clone, entries, entries.len())
+}
+
+// A fault unless pushing all entries at once gives their log. Where it is refused, it is that of the first ones, and
+// takes the others.
+fn expect_at_once<D: SupportedDigest, M: Memory, K: Kind<D, M>>(
     call: &Call<'_, M>,
     entries: &[Vec<u8>],
-) -> Result<K, Fault> {
+) -> Answered {
     let mut log = K::empty(call.memory);
     if push_rest(&mut log, entries).is_err() {
         expect(call, &log, entries, log.checkpoint().length())?;
         call.memory.grant();
         push_rest(&mut log, entries)?;
     }
-    Ok(log)
+    expect(call, &log, entries, entries.len())
 }
 
 // Pushes the entries that the log doesn't have yet.

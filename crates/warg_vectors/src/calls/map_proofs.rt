@@ -67,12 +67,16 @@ fn through_message<D: SupportedDigest, M: Memory>(
     Ok(Proof::from_message(memory, message)?)
 }
 
-pub(super) fn evaluate<D: SupportedDigest, M: Memory>(call: &mut Call<'_, M>) -> Answered {
-    let (proof, key, value): (BytesProof<D>, Vec<u8>, Vec<u8>) = call.read()?;
-    call.to.show(&proof.evaluate(&key, &value))
+pub(super) fn evaluate<D: SupportedDigest, M: Memory>(
+    call: &mut Call<'_, M>,
+    (proof, key, value): &(BytesProof<D>, Vec<u8>, Vec<u8>),
+) -> Answered {
+    call.to.show(&proof.evaluate(key, value))
 }
 
-pub(super) fn evaluate_absent<D: SupportedDigest, M: Memory>(call: &mut Call<'_, M>) -> Answered {
-    let (proof, key): (BytesProof<D>, Vec<u8>) = call.read()?;
-    call.to.show(&proof.evaluate_absent(&key))
+pub(super) fn evaluate_absent<D: SupportedDigest, M: Memory>(
+    call: &mut Call<'_, M>,
+    (proof, key): &(BytesProof<D>, Vec<u8>),
+) -> Answered {
+    call.to.show(&proof.evaluate_absent(key))
 }

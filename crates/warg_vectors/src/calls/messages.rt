@@ -1,51 +1,71 @@
-//! Messages of the wire, what is read from their bytes under SHA-256, and runs of the program.
+//! Messages of the wire, and runs of the program.
 
 use crate::call::Call;
-use crate::calls::stored;
-use crate::calls::stored::{LogBundle, MapBundle};
 use crate::fault::{Answered, Fault, Promise};
 use crate::memory::Memory;
-use warg_crypto::Sha256;
+use std::alloc::AllocError;
 use warg_program::run as run_program;
 use warg_protobuf as wire;
+use warg_protobuf::WireError;
 
-// Writes the bytes of the message that was read.
-macro_rules! write_again {
-    ($call:expr, $message:expr) => {{
-        let message = $call.made($message)?;
-        let bytes = $call.again(|memory| message.encode(memory))?;
-        $call.to.bytes(bytes.as_slice())
-    }};
+/// A message of the wire.
+pub(super) trait Message<M: Memory>: Sized + Drop {
+    fn decode(memory: M, bytes: &[u8]) -> Result<Self, WireError>;
+
+    fn encode(&self, memory: M) -> Result<Vec<u8, M>, AllocError>;
 }
 
-pub(super) fn wire<M: Memory>(call: &mut Call<'_, M>) -> Answered {
-    let name = call.word()?;
-    let bytes: Vec<u8> = call.read()?;
-    let (memory, bytes) = (call.memory, bytes.as_slice());
-    match name {
-        "LogProofBundle" => write_again!(call, wire::LogProofBundle::decode(memory, bytes)),
-        "MapProofBundle" => write_again!(call, wire::MapProofBundle::decode(memory, bytes)),
-        "StackLog" => write_again!(call, wire::StackLog::decode(memory, bytes)),
-        "VecLog" => write_again!(call, wire::VecLog::decode(memory, bytes)),
-        _ => Err(Fault::BadCall),
+/// Writes the bytes of the message that is read.
+pub(super) fn wire<M: Memory, T: Message<M>>(call: &mut Call<'_, M>, bytes: &Vec<u8>) -> Answered {
+    let message = call.made(T::decode(call.memory, bytes))?;
+    let bytes = call.again(|memory| Ok(message.encode(memory)?))?;
+    call.to.bytes(bytes.as_slice())
+}
+
+impl<M: Memory> Message<M> for wire::LogProofBundle<M> {
+    fn decode(memory: M, bytes: &[u8]) -> Result<wire::LogProofBundle<M>, WireError> {
+        wire::LogProofBundle::decode(memory, bytes)
+    }
+
+    fn encode(&self, memory: M) -> Result<Vec<u8, M>, AllocError> {
+        wire::LogProofBundle::encode(self, memory)
     }
 }
 
-pub(super) fn read<M: Memory>(call: &mut Call<'_, M>) -> Answered {
-    match call.word()? {
-        "LogProofBundle" => stored::read::<M, LogBundle<Sha256, M>>(call),
-        "MapProofBundle" => stored::read::<M, MapBundle<Sha256, M>>(call),
-        "StackLog" => stored::read::<M, warg_log::StackLog<Sha256, Vec<u8>, M>>(call),
-        "VecLog" => stored::read::<M, warg_log::VecLog<Sha256, Vec<u8>, M>>(call),
-        _ => Err(Fault::BadCall),
+impl<M: Memory> Message<M> for wire::MapProofBundle<M> {
+    fn decode(memory: M, bytes: &[u8]) -> Result<wire::MapProofBundle<M>, WireError> {
+        wire::MapProofBundle::decode(memory, bytes)
+    }
+
+    fn encode(&self, memory: M) -> Result<Vec<u8, M>, AllocError> {
+        wire::MapProofBundle::encode(self, memory)
+    }
+}
+
+impl<M: Memory> Message<M> for wire::StackLog<M> {
+    fn decode(memory: M, bytes: &[u8]) -> Result<wire::StackLog<M>, WireError> {
+        wire::StackLog::decode(memory, bytes)
+    }
+
+    fn encode(&self, memory: M) -> Result<Vec<u8, M>, AllocError> {
+        wire::StackLog::encode(self, memory)
+    }
+}
+
+impl<M: Memory> Message<M> for wire::VecLog<M> {
+    fn decode(memory: M, bytes: &[u8]) -> Result<wire::VecLog<M>, WireError> {
+        wire::VecLog::decode(memory, bytes)
+    }
+
+    fn encode(&self, memory: M) -> Result<Vec<u8, M>, AllocError> {
+        wire::VecLog::encode(self, memory)
     }
 }
 
 /// A run of the program on the whole input. Where it is refused, nothing is written.
-pub(super) fn run<M: Memory>(call: &mut Call<'_, M>) -> Answered {
-    let input: Vec<u8> = call.read()?;
+pub(super) fn run<M: Memory>(call: &mut Call<'_, M>, input: &Vec<u8>) -> Answered {
     let mut writer = Vec::new(call.alloc());
-    let good = run_on(call, input.as_slice(), &mut writer)?;
+    let good = run_on(call, input, &mut writer)?;
     call.to.show(&good)?;
     call.to.bytes(writer.as_slice())
 }

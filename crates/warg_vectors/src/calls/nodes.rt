@@ -10,13 +10,11 @@ use crate::words::Length;
 use warg_crypto::Side;
 use warg_log::Node;
 
-pub(super) fn height<M: Memory>(call: &mut Call<'_, M>) -> Answered {
-    let node: Node = call.read()?;
+pub(super) fn height<M: Memory>(call: &mut Call<'_, M>, node: &Node) -> Answered {
     call.to.show(&node.height())
 }
 
-pub(super) fn side<M: Memory>(call: &mut Call<'_, M>) -> Answered {
-    let node: Node = call.read()?;
+pub(super) fn side<M: Memory>(call: &mut Call<'_, M>, node: &Node) -> Answered {
     if node.height() >= 63 {
         return Err(Fault::BadCall);
     }
@@ -26,8 +24,7 @@ pub(super) fn side<M: Memory>(call: &mut Call<'_, M>) -> Answered {
     }
 }
 
-pub(super) fn children<M: Memory>(call: &mut Call<'_, M>) -> Answered {
-    let node: Node = call.read()?;
+pub(super) fn children<M: Memory>(call: &mut Call<'_, M>, node: &Node) -> Answered {
     if node.height() == 0 || node.height() >= 64 {
         return Err(Fault::BadCall);
     }
@@ -38,8 +35,10 @@ pub(super) fn children<M: Memory>(call: &mut Call<'_, M>) -> Answered {
 
 /// The node to which the call of this name leads from another one.
 pub(super) fn other<M: Memory>(name: &str, call: &mut Call<'_, M>) -> Answered {
-    let node = relative(name, call.read()?).ok_or(Fault::BadCall)?;
-    call.to.show(&node.0)
+    match relative(name, call.read()?) {
+        Some(node) => call.to.show(&node.0),
+        None => Err(Fault::BadCall),
+    }
 }
 
 // The same, or None where the call's condition isn't met.
@@ -66,23 +65,26 @@ fn beside_or_above(name: &str, node: Node) -> Option<Node>
     }
 }
 
-pub(super) fn exists<M: Memory>(call: &mut Call<'_, M>) -> Answered {
-    let (node, length): (Node, usize) = call.read()?;
-    call.to.show(&node.exists_at_length(length))
+pub(super) fn exists<M: Memory>(
+    call: &mut Call<'_, M>,
+    (node, length): &(Node, usize),
+) -> Answered {
+    call.to.show(&node.exists_at_length(*length))
 }
 
-pub(super) fn first<M: Memory>(call: &mut Call<'_, M>) -> Answered {
-    let height: usize = call.read()?;
-    if height >= 64 {
+pub(super) fn first<M: Memory>(call: &mut Call<'_, M>, height: &usize) -> Answered {
+    if *height >= 64 {
         return Err(Fault::BadCall);
     }
-    call.to.show(&Node::first_node_with_height(height as u32).0)
+    call.to
+        .show(&Node::first_node_with_height(*height as u32).0)
 }
 
-pub(super) fn next<M: Memory>(call: &mut Call<'_, M>) -> Answered {
-    let (node, height): (Node, usize) = call.read()?;
-    let next = next_after(node, height).ok_or(Fault::BadCall)?;
-    call.to.show(&next)
+pub(super) fn next<M: Memory>(call: &mut Call<'_, M>, (node, height): &(Node, usize)) -> Answered {
+    match next_after(*node, *height) {
+        Some(next) => call.to.show(&next),
+        None => Err(Fault::BadCall),
+    }
 }
 
 // The next node of a height, or None where the call's condition isn't met.
@@ -97,7 +99,6 @@ fn next_after(node: Node, height: usize) -> Option<usize> {
 }
 
 /// The balanced roots of a length.
-pub(super) fn broots<M: Memory>(call: &mut Call<'_, M>) -> Answered {
-    let length: Length = call.read()?;
+pub(super) fn broots<M: Memory>(call: &mut Call<'_, M>, length: &Length) -> Answered {
     call.write_list(Node::broots_for_len(call.memory, length.value))
 }

@@ -2,14 +2,13 @@
 
 ghost use Rattle.std.specs.Prelude.{◌≤◌, length};
 
-use crate::answer::Item;
+use crate::answer::{Item, digits_of};
 use crate::call::Call;
 use crate::calls::maps::{BytesMap, Pair, grown};
-use crate::calls::stored_pages::NotLent;
 use crate::fault::{Answered, Fault, Promise};
 use crate::memory::Memory;
-use std::alloc::{AllocError, Allocator, Global};
-use warg_crypto::{Hash, SupportedDigest};
+use std::alloc::{AllocError, Global};
+use warg_crypto::SupportedDigest;
 use warg_pages::{ChangedPage, PagedMap, Pages, ProveError, WayError};
 
 /// The version and the bytes of the page at a prefix, or `none`.
@@ -17,7 +16,7 @@ pub(super) fn page<D: SupportedDigest, M: Memory>(call: &mut Call<'_, M>) -> Ans
     let (pairs, prefix): (Vec<Pair>, Vec<u8>) = call.read()?;
     let mut kept: Kept<D, M> = Kept::new(call);
     kept.commit(pairs.as_slice())?;
-    match kept.newest(prefix.as_slice()) {
+    match kept.pages.newest(prefix.as_slice()) {
         Some(page) => write(call, page),
         None => call.to.word("none"),
     }
@@ -32,57 +31,49 @@ fn write<D, M: Memory>(call: &mut Call<'_, M>, page: &ChangedPage<D, M>) -> Answ
 /// The pages that a commit behind the first insertions writes, ascending by their prefixes. The root is then the map's.
 pub(super) fn pages<D: SupportedDigest, M: Memory>(call: &mut Call<'_, M>) -> Answered {
     let (pairs, old): (Vec<Pair>, usize) = call.read()?;
+    let changed = changed_pages::<D, M>(call, pairs.as_slice(), old)?;
+    call.to.list(changed.as_slice())
+}
+
+fn changed_pages<D: SupportedDigest, M: Memory>(
+    call: &Call<'_, M>,
+    pairs: &[Pair],
+    old: usize,
+) -> Result<Vec<ChangedPage<D, M>>, Fault> {
     let mut kept: Kept<D, M> = Kept::new(call);
-    let names = kept.commit_both(pairs.as_slice(), old)?;
-    call.to.list(names.as_slice())
+    let changed = kept.commit_both(pairs, old)?;
+    let map: BytesMap<'_, D, _> = grown(call.alloc(), pairs)?;
+    Fault::unless(kept.map.root == *map.root(), Promise::SameRoot)?;
+    Ok(changed)
 }
 
 /// The name of a page: its prefix and its version.
-#[derive(Drop)]
-struct Name {
-    prefix: Vec<u8>,
-    version: u64,
-}
-
-impl Name {
-    fn of<D: SupportedDigest, M: Memory>(
-        alloc: Global,
-        page: &ChangedPage<D, M>,
-    ) -> Result<Name, AllocError> {
-        Ok(Name {
-            prefix: Vec::from_slice(alloc, page.prefix.as_slice())?,
-            version: page.version,
-        })
-    }
-}
-
-impl Item for Name {
+impl<D, M: Memory> Item for ChangedPage<D, M> {
     fn item(&self, alloc: Global) -> Result<String, AllocError> {
-        let prefix = self.prefix.item(alloc)?;
+        let prefix = digits_of(alloc, self.prefix.as_slice())?;
         let version = self.version;
         format!(in alloc; "{prefix}:{version}")
     }
 }
 
-/// A map with all pages that it has handed out, which it lends in a call's memory.
+/// A map with all pages that it has handed out.
 #[derive(Drop)]
-struct Kept<D: SupportedDigest, M: Memory> {
-    map: PagedMap<D>,
-    pages: Stock<D, M>,
-    alloc: Global,
+pub(super) struct Kept<D: SupportedDigest, M: Memory> {
+    pub(super) map: PagedMap<D>,
+    pub(super) pages: Stock<D, M>,
 }
 
-/// The pages.
+/// The pages, which are lent in a call's memory.
 #[derive(Drop)]
-struct Stock<D: SupportedDigest, M: Memory> {
+pub(super) struct Stock<D, M: Memory> {
     pages: Vec<ChangedPage<D, M>>,
     memory: M,
 }
 
-impl<D: SupportedDigest, M: Memory> Pages<M> for Stock<D, M> {
+impl<D, M: Memory> Pages<M> for Stock<D, M> {
     ghost use Rattle.std.specs.Prelude.{None};
 
-    type Error = NotLent;
+    type Error = Fault;
 
     // The vectors say which pages these are.
     ghost Known = { Unit {0} };
@@ -93,69 +84,21 @@ impl<D: SupportedDigest, M: Memory> Pages<M> for Stock<D, M> {
 
     ghost tells_all = { λ _. ⊥ };
 
-    fn page(&mut self, prefix: &[u8], version: u64) -> Result<Vec<u8, M>, NotLent> {
+    fn page(&mut self, prefix: &[u8], version: u64) -> Result<Vec<u8, M>, Fault> {
         for page in &self.pages {
             if page.prefix.as_slice() == prefix && page.version == version {
-                return page.page.write(self.memory).map_err(|_| NotLent::Memory);
+                return Ok(page.page.write(self.memory)?);
             }
         }
-        Err(NotLent::NoPage)
+        Err(Fault::Broken(Promise::Answer))
     }
 }
 
-impl<D: SupportedDigest, M: Memory> Kept<D, M> {
-    fn new(call: &Call<'_, M>) -> Kept<D, M> {
-        let (alloc, memory) = (call.alloc(), call.memory);
-        Kept {
-            map: PagedMap::new(),
-            pages: Stock {
-                pages: Vec::new(alloc),
-                memory,
-            },
-            alloc,
-        }
-    }
-
-    // Inserts the first pairs, and then the others, and gives the names of the pages that these change.
-    fn commit_both(&mut self, pairs: &[Pair], old: usize) -> Result<Vec<Name>, Fault> {
-        let (front, rest) = pairs.split_at(old.min(pairs.len()));
-        self.commit(front)?;
-        let names = self.commit(rest)?;
-        let map: BytesMap<'_, D, _> = grown(self.alloc, pairs)?;
-        Fault::unless(self.map.root == *map.root(), Promise::SameRoot)?;
-        Ok(names)
-    }
-
-    // Inserts pairs, keeps the pages that change, and gives their names.
-    fn commit(&mut self, pairs: &[Pair]) -> Result<Vec<Name>, Fault> {
-        let mut names = Vec::new(self.alloc);
-        for page in self.insert(pairs)? {
-            put_in_order(&mut names, Name::of(self.alloc, &page)?)?;
-            self.pages.pages.push(page)?;
-        }
-        Ok(names)
-    }
-
-    // Inserts pairs, and gives the pages that change.
-    fn insert(&mut self, pairs: &[Pair]) -> Result<Vec<ChangedPage<D, M>, M>, Fault> {
-        if pairs.len() as u64 > u64::MAX - self.map.version {
-            return Err(Fault::BadCall);
-        }
-        match self
-            .map
-            .insert_all(self.pages.memory, &mut self.pages, pairs)
-        {
-            Ok(changed) => Ok(changed),
-            Err(ProveError::Pages(fault)) => Err(fault.into()),
-            Err(ProveError::Way(WayError::Memory)) => Err(Fault::Memory),
-            Err(ProveError::Way(_)) => Err(Fault::Broken(Promise::Answer)),
-        }
-    }
-
+impl<D, M: Memory> Stock<D, M> {
     // The newest page at a prefix.
     fn newest(&self, prefix: &[u8]) -> Option<&ChangedPage<D, M>> {
         let mut newest = None;
-        for page in &self.pages.pages {
+        for page in &self.pages {
             if page.prefix.as_slice() == prefix {
                 newest = Some(page);
             }
@@ -164,21 +107,69 @@ impl<D: SupportedDigest, M: Memory> Kept<D, M> {
     }
 }
 
-// Puts a name before those of greater prefixes.
-fn put_in_order(names: &mut Vec<Name>, name: Name) -> Result<(), AllocError> {
-    let at = place_of(names.as_slice(), name.prefix.as_slice());
-    names.insert(at, name)?;
-    Ok(())
+impl<D: SupportedDigest, M: Memory> Kept<D, M> {
+    pub(super) fn new(call: &Call<'_, M>) -> Kept<D, M> {
+        Kept {
+            map: PagedMap::new(),
+            pages: Stock {
+                pages: Vec::new(call.alloc()),
+                memory: call.memory,
+            },
+        }
+    }
+
+    // Inserts the first pairs, and then the others, and gives the pages that these change.
+    fn commit_both(&mut self, pairs: &[Pair], old: usize) -> Result<Vec<ChangedPage<D, M>>, Fault> {
+        let (front, rest) = pairs.split_at(old.min(pairs.len()));
+        self.commit(front)?;
+        in_order(*self.pages.pages.allocator(), self.insert(rest)?)
+    }
+
+    /// Inserts pairs, and keeps the pages that change.
+    pub(super) fn commit(&mut self, pairs: &[Pair]) -> Answered {
+        for page in self.insert(pairs)? {
+            self.pages.pages.push(page)?;
+        }
+        Ok(())
+    }
+
+    // Inserts pairs, and gives the pages that change.
+    fn insert(&mut self, pairs: &[Pair]) -> Result<Vec<ChangedPage<D, M>, M>, Fault> {
+        if pairs.len() as u64 > u64::MAX - self.map.version {
+            return Err(Fault::BadCall);
+        }
+        let memory = self.pages.memory;
+        match self.map.insert_all(memory, &mut self.pages, pairs) {
+            Ok(changed) => Ok(changed),
+            Err(ProveError::Pages(fault)) => Err(fault),
+            Err(ProveError::Way(WayError::Memory)) => Err(Fault::Memory),
+            Err(ProveError::Way(_)) => Err(Fault::Broken(Promise::Answer)),
+        }
+    }
 }
 
-// Where the first name of a greater prefix stands.
-fn place_of(names: &[Name], prefix: &[u8]) -> usize
-    ensures { result ≤ length names.now }
+// The pages, ascending by their prefixes.
+fn in_order<D, M: Memory>(
+    alloc: Global,
+    pages: Vec<ChangedPage<D, M>, M>,
+) -> Result<Vec<ChangedPage<D, M>>, Fault> {
+    let mut sorted = Vec::new(alloc);
+    for page in pages {
+        let at = place_of(sorted.as_slice(), page.prefix.as_slice());
+        sorted.insert(at, page)?;
+    }
+    Ok(sorted)
+}
+
+// Where the first page of a greater prefix stands.
+fn place_of<D, M: Memory>(pages: &[ChangedPage<D, M>], prefix: &[u8]) -> usize
+    ensures { result ≤ length pages.now }
 {
-    for at in 0..names.len() {
-        if prefix < names[at].prefix.as_slice() {
+    for at in 0..pages.len() {
+        let page = &pages[at];
+        if prefix < page.prefix.as_slice() {
             return at;
         }
     }
-    names.len()
+    pages.len()
 }

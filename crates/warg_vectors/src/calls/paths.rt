@@ -9,23 +9,29 @@ use warg_crypto::{Hash, SupportedDigest};
 // The index of an entry, or an old length, and the length of the log.
 type Place = (usize, usize);
 
-pub(super) fn inclusion_path<D: SupportedDigest, M: Memory>(call: &mut Call<'_, M>) -> Answered {
-    let (index, length, data): (usize, Length, Data<D>) = call.read()?;
-    let path = warg_paths::inclusion_path(call.memory, &data.held, index, length.value);
+pub(super) fn inclusion_path<D: SupportedDigest, M: Memory>(
+    call: &mut Call<'_, M>,
+    (index, length, data): &(usize, Length, Data<D>),
+) -> Answered {
+    let path = warg_paths::inclusion_path(call.memory, &data.held, *index, length.value);
     data.unless_changed()?;
     call.write_list(path)
 }
 
-pub(super) fn consistency_path<D: SupportedDigest, M: Memory>(call: &mut Call<'_, M>) -> Answered {
-    let (old, new, data): (usize, Length, Data<D>) = call.read()?;
-    let path = warg_paths::consistency_path(call.memory, &data.held, old, new.value);
+pub(super) fn consistency_path<D: SupportedDigest, M: Memory>(
+    call: &mut Call<'_, M>,
+    (old, new, data): &(usize, Length, Data<D>),
+) -> Answered {
+    let path = warg_paths::consistency_path(call.memory, &data.held, *old, new.value);
     data.unless_changed()?;
     call.write_list(path)
 }
 
-pub(super) fn root_of_inclusion<D: SupportedDigest, M: Memory>(call: &mut Call<'_, M>) -> Answered {
-    let ((index, length), leaf, path): (Place, Hash<D>, Vec<Hash<D>>) = call.read()?;
-    match warg_paths::root_of_inclusion(index, length, &leaf, path.as_slice()) {
+pub(super) fn root_of_inclusion<D: SupportedDigest, M: Memory>(
+    call: &mut Call<'_, M>,
+    ((index, length), leaf, path): &(Place, Hash<D>, Vec<Hash<D>>),
+) -> Answered {
+    match warg_paths::root_of_inclusion(*index, *length, leaf, path) {
         Some(root) => call.to.show(&root),
         None => call.to.word("none"),
     }
@@ -33,9 +39,9 @@ pub(super) fn root_of_inclusion<D: SupportedDigest, M: Memory>(call: &mut Call<'
 
 pub(super) fn roots_of_consistency<D: SupportedDigest, M: Memory>(
     call: &mut Call<'_, M>,
+    ((old, new), old_root, path): &(Place, Hash<D>, Vec<Hash<D>>),
 ) -> Answered {
-    let ((old, new), old_root, path): (Place, Hash<D>, Vec<Hash<D>>) = call.read()?;
-    match warg_paths::roots_of_consistency(old, new, &old_root, path.as_slice()) {
+    match warg_paths::roots_of_consistency(*old, *new, old_root, path) {
         Some((old_root, new_root)) => {
             let pair = format!(in call.alloc(); "{old_root}:{new_root}")?;
             call.to.word(pair.as_str())

@@ -25,9 +25,8 @@ pub(super) trait Stored<M: Memory>: Sized + Drop {
 }
 
 /// Reads a value's bytes, and writes them out of the value.
-pub(super) fn read<M: Memory, T: Stored<M>>(call: &mut Call<'_, M>) -> Answered {
-    let bytes: Vec<u8> = call.read()?;
-    let value = call.made(T::decode(call.memory, bytes.as_slice()))?;
+pub(super) fn read<M: Memory, T: Stored<M>>(call: &mut Call<'_, M>, bytes: &Vec<u8>) -> Answered {
+    let value = call.made(T::decode(call.memory, bytes))?;
     write(call, &value)
 }
 
@@ -43,10 +42,20 @@ pub(super) fn write_same<M: Memory, T: Stored<M>>(
     value: &T,
     other: &T,
 ) -> Answered {
-    let bytes = call.again(|memory| value.encode(memory))?;
-    let others = call.made(other.encode(call.memory))?;
-    Fault::unless(others.as_slice() == bytes.as_slice(), Promise::SameValue)?;
+    let bytes = call.again(|memory| same_bytes(memory, value, other))?;
     call.to.bytes(bytes.as_slice())
+}
+
+// The bytes of the value, which the other value has to have too.
+fn same_bytes<M: Memory, T: Stored<M>>(
+    memory: M,
+    value: &T,
+    other: &T,
+) -> Result<Vec<u8, M>, Fault> {
+    let bytes = value.encode(memory)?;
+    let others = other.encode(memory)?;
+    Fault::unless(others.as_slice() == bytes.as_slice(), Promise::SameValue)?;
+    Ok(bytes)
 }
 
 impl<D: SupportedDigest, M: Memory> Stored<M> for LogBundle<D, M> {

@@ -13,9 +13,12 @@ use warg_tiles::{CheckpointText, CheckpointTextError};
 type Text<M> = CheckpointText<Sha256, M>;
 
 /// The text that says a length and a root of the log with an origin.
-pub(super) fn checkpoint_text<M: Memory>(call: &mut Call<'_, M>) -> Answered {
-    let (origin, length, root): (Vec<u8>, Length, Hash<Sha256>) = call.read()?;
-    let text = text_of(call, origin.as_slice(), Checkpoint::new(root, length.value))?;
+pub(super) fn checkpoint_text<M: Memory>(
+    call: &mut Call<'_, M>,
+    (origin, length, root): &(Vec<u8>, Length, Hash<Sha256>),
+) -> Answered {
+    let checkpoint = Checkpoint::new(root.copied(), length.value);
+    let text = text_of(call, origin.as_slice(), checkpoint)?;
     call.write_bytes(text.write(call.memory))
 }
 
@@ -31,9 +34,8 @@ fn text_of<M: Memory>(
 }
 
 /// What a text says, and what is behind it.
-pub(super) fn read_checkpoint_text<M: Memory>(call: &mut Call<'_, M>) -> Answered {
-    let bytes: Vec<u8> = call.read()?;
-    let (text, behind) = call.made(Text::<M>::read(call.memory, bytes.as_slice()))?;
+pub(super) fn read_checkpoint_text<M: Memory>(call: &mut Call<'_, M>, bytes: &Vec<u8>) -> Answered {
+    let (text, behind) = call.made(Text::<M>::read(call.memory, bytes))?;
     write(&mut call.to, &text, behind.unwrap_or(b""))
 }
 

@@ -5,7 +5,7 @@ use crate::call::Call;
 use crate::calls::logs::beginning;
 use crate::fault::{Answered, Fault};
 use crate::memory::Memory;
-use crate::words::Length;
+use crate::words::{Given, Length, Parts, Words};
 use warg_crypto::SupportedDigest;
 use warg_log::{GREATEST_LENGTH, LogData, Node};
 use warg_tiles::{Tile, TileData};
@@ -18,10 +18,12 @@ fn tile_of(level: usize, number: usize, width: usize) -> Result<Tile, Fault> {
     Ok(Tile::new(level as u32, number, width))
 }
 
-// The tile of the level, the number and the width that come next.
-fn read_tile<M: Memory>(call: &mut Call<'_, M>) -> Result<Tile, Fault> {
-    let (level, number, width): (usize, usize, usize) = call.read()?;
-    tile_of(level, number, width)
+/// The level, the number and the width.
+impl Given for Tile {
+    fn read(words: &mut Words<'_>) -> Result<Tile, Fault> {
+        let (level, number, width): (usize, usize, usize) = Given::read(words)?;
+        tile_of(level, number, width)
+    }
 }
 
 fn write(to: &mut Answer, tile: &Tile) -> Answered {
@@ -29,20 +31,20 @@ fn write(to: &mut Answer, tile: &Tile) -> Answered {
     to.word(word.as_str())
 }
 
-pub(super) fn tile_over<M: Memory>(call: &mut Call<'_, M>) -> Answered {
-    let node: Node = call.read()?;
-    write(&mut call.to, &Tile::over(node))
+pub(super) fn tile_over<M: Memory>(call: &mut Call<'_, M>, node: &Node) -> Answered {
+    write(&mut call.to, &Tile::over(*node))
 }
 
-pub(super) fn tile_path<M: Memory>(call: &mut Call<'_, M>) -> Answered {
-    let tile = read_tile(call)?;
+pub(super) fn tile_path<M: Memory>(call: &mut Call<'_, M>, tile: &Tile) -> Answered {
     let path = call.made(tile.path(call.memory))?;
     call.to.word(path.as_str())
 }
 
-pub(super) fn entries_path<M: Memory>(call: &mut Call<'_, M>) -> Answered {
-    let (number, width): (usize, usize) = call.read()?;
-    let tile = tile_of(0, number, width)?;
+pub(super) fn entries_path<M: Memory>(
+    call: &mut Call<'_, M>,
+    (number, width): &(usize, usize),
+) -> Answered {
+    let tile = tile_of(0, *number, *width)?;
     if tile.level() != 0 {
         return Err(Fault::BadCall);
     }
@@ -50,9 +52,10 @@ pub(super) fn entries_path<M: Memory>(call: &mut Call<'_, M>) -> Answered {
     call.to.word(path.as_str())
 }
 
-pub(super) fn read_tile_path<M: Memory>(call: &mut Call<'_, M>) -> Answered {
-    let bytes: Vec<u8> = call.read()?;
-    let path = str::from_utf8(bytes.as_slice()).map_err(|_| Fault::BadCall)?;
+pub(super) fn read_tile_path<M: Memory>(call: &mut Call<'_, M>, bytes: &Vec<u8>) -> Answered {
+    let Ok(path) = str::from_utf8(bytes) else {
+        return Err(Fault::BadCall);
+    };
     if let Ok(tile) = Tile::from_entries_path(path) {
         return write_bundle(&mut call.to, &tile);
     }
@@ -67,8 +70,10 @@ fn write_bundle(to: &mut Answer, tile: &Tile) -> Answered {
 }
 
 /// The tiles by which a log grows.
-pub(super) fn tiles_between<M: Memory>(call: &mut Call<'_, M>) -> Answered {
-    let (old, new): (Length, Length) = call.read()?;
+pub(super) fn tiles_between<M: Memory>(
+    call: &mut Call<'_, M>,
+    (old, new): &(Length, Length),
+) -> Answered {
     if old.value > new.value {
         return Err(Fault::BadCall);
     }
@@ -77,8 +82,7 @@ pub(super) fn tiles_between<M: Memory>(call: &mut Call<'_, M>) -> Answered {
 
 /// The digests of a tile by the log of some entries.
 pub(super) fn tile_hashes<D: SupportedDigest, M: Memory>(call: &mut Call<'_, M>) -> Answered {
-    let tile = read_tile(call)?;
-    let entries: Vec<Vec<u8>> = call.read()?;
+    let (tile, entries): (Tile, Vec<Vec<u8>>) = call.read()?;
     if !tile.exists_at_length(GREATEST_LENGTH) {
         return Err(Fault::BadCall);
     }
@@ -88,8 +92,8 @@ pub(super) fn tile_hashes<D: SupportedDigest, M: Memory>(call: &mut Call<'_, M>)
 
 /// A node's digest by one tile, which is given by its level, its number and the bytes of its digests.
 pub(super) fn tile_data<D: SupportedDigest, M: Memory>(call: &mut Call<'_, M>) -> Answered {
-    let (level, number, bytes): (usize, usize, Vec<u8>) = call.read_parts()?;
-    let node: Node = call.read()?;
+    let (Parts((level, number, bytes)), node): (Parts<(usize, usize, Vec<u8>)>, Node) =
+        call.read()?;
     let data: TileData<D, Vec<u8>, M> = held_tile(call, level, number, bytes.as_slice())?;
     match data.hash_for(node) {
         Some(digest) => call.to.show(&digest),
@@ -117,12 +121,10 @@ fn held_tile<D: SupportedDigest, M: Memory>(
     Ok(data)
 }
 
-pub(super) fn entry_bundle<M: Memory>(call: &mut Call<'_, M>) -> Answered {
-    let entries: Vec<Vec<u8>> = call.read()?;
-    call.write_bytes(warg_tiles::write_entries(call.memory, entries.as_slice()))
+pub(super) fn entry_bundle<M: Memory>(call: &mut Call<'_, M>, entries: &Vec<Vec<u8>>) -> Answered {
+    call.write_bytes(warg_tiles::write_entries(call.memory, entries))
 }
 
-pub(super) fn read_entry_bundle<M: Memory>(call: &mut Call<'_, M>) -> Answered {
-    let bytes: Vec<u8> = call.read()?;
-    call.write_list(warg_tiles::read_entries(call.memory, bytes.as_slice()))
+pub(super) fn read_entry_bundle<M: Memory>(call: &mut Call<'_, M>, bytes: &Vec<u8>) -> Answered {
+    call.write_list(warg_tiles::read_entries(call.memory, bytes))
 }

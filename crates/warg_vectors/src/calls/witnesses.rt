@@ -1,6 +1,6 @@
 //! Collisions out of false claims about a log.
 
-use crate::call::Call;
+use crate::call::{Call, Pairs};
 use crate::fault::Answered;
 use crate::memory::Memory;
 use crate::words::{Data, Length};
@@ -9,9 +9,6 @@ use warg_log::{LogData, Node};
 
 // A node, and the length of the log.
 type Place = (Node, Length);
-
-// The index of an entry, and the length of the log.
-type Index = (usize, Length);
 
 // The data of a proof, and the value that it is of.
 type Claim<D> = (Data<D>, Vec<u8>);
@@ -22,75 +19,97 @@ type Record<D> = (Vec<u8>, Vec<Hash<D>>);
 // The values of a log's entries.
 type Entries = Vec<Vec<u8>>;
 
-pub(super) fn value<D: SupportedDigest, M: Memory>(call: &mut Call<'_, M>) -> Answered {
-    let ((node, length), (data, value), entries): (Place, Claim<D>, Entries) = call.read()?;
-    let proof = data.held.prove_inclusion(node, length.value);
-    let entries = entries.as_slice();
-    let found = warg_witness::witness_value(call.memory, &proof, &data.held, &value, entries);
+pub(super) fn value<D: SupportedDigest, M: Memory>(
+    call: &mut Call<'_, M>,
+    ((node, length), (data, value), (entries, pairs)): &(Place, Claim<D>, (Entries, Pairs)),
+) -> Answered {
+    let proof = data.held.prove_inclusion(*node, length.value);
+    let found = warg_witness::witness_value(call.memory, &proof, &data.held, value, entries);
     data.unless_changed()?;
-    call.write_found(found)
+    call.write_found(found, pairs)
 }
 
-pub(super) fn hash<D: SupportedDigest, M: Memory>(call: &mut Call<'_, M>) -> Answered {
-    let ((node, length), (data, hash), entries): (Place, (Data<D>, Hash<D>), Entries) =
-        call.read()?;
-    let proof = data.held.prove_inclusion(node, length.value);
-    let entries = entries.as_slice();
+pub(super) fn hash<D: SupportedDigest, M: Memory>(
+    call: &mut Call<'_, M>,
+    ((node, length), (data, hash), (entries, pairs)): &(
+        Place,
+        (Data<D>, Hash<D>),
+        (Entries, Pairs),
+    ),
+) -> Answered {
+    let proof = data.held.prove_inclusion(*node, length.value);
+    let hash = hash.copied();
     let found = warg_witness::witness_hash(call.memory, &proof, &data.held, hash, entries);
     data.unless_changed()?;
-    call.write_found(found)
+    call.write_found(found, pairs)
 }
 
-pub(super) fn consistency<D: SupportedDigest, M: Memory>(call: &mut Call<'_, M>) -> Answered {
-    let ((from, until), data, (old, new)): ((Length, Length), Data<D>, (Entries, Entries)) =
-        call.read()?;
+pub(super) fn consistency<D: SupportedDigest, M: Memory>(
+    call: &mut Call<'_, M>,
+    ((from, until), data, (old, new, pairs)): &(
+        (Length, Length),
+        Data<D>,
+        (Entries, Entries, Pairs),
+    ),
+) -> Answered {
     let proof = data.held.prove_consistency(from.value, until.value);
-    let (old, new) = (old.as_slice(), new.as_slice());
     let found = warg_witness::witness_consistency(call.memory, &proof, &data.held, old, new);
     data.unless_changed()?;
-    call.write_found(found)
+    call.write_found(found, pairs)
 }
 
-pub(super) fn record<D: SupportedDigest, M: Memory>(call: &mut Call<'_, M>) -> Answered {
-    let ((index, path), value, entries): ((usize, Vec<Hash<D>>), Vec<u8>, Entries) = call.read()?;
-    let (path, entries) = (path.as_slice(), entries.as_slice());
-    call.write_found(warg_witness::witness_record(call.memory, index, path, &value, entries))
+pub(super) fn record<D: SupportedDigest, M: Memory>(
+    call: &mut Call<'_, M>,
+    ((index, path), value, (entries, pairs)): &((usize, Vec<Hash<D>>), Vec<u8>, (Entries, Pairs)),
+) -> Answered {
+    let found = warg_witness::witness_record(call.memory, *index, path, value, entries);
+    call.write_found(found, pairs)
 }
 
-pub(super) fn tree<D: SupportedDigest, M: Memory>(call: &mut Call<'_, M>) -> Answered {
-    let (path, old, new): (Vec<Hash<D>>, Entries, Entries) = call.read()?;
-    let (path, old, new) = (path.as_slice(), old.as_slice(), new.as_slice());
-    call.write_found(warg_witness::witness_tree(call.memory, path, old, new))
+pub(super) fn tree<D: SupportedDigest, M: Memory>(
+    call: &mut Call<'_, M>,
+    (path, (old, new), pairs): &(Vec<Hash<D>>, (Entries, Entries), Pairs),
+) -> Answered {
+    call.write_found(
+        warg_witness::witness_tree(call.memory, path, old, new),
+        pairs,
+    )
 }
 
-pub(super) fn agree_value<D: SupportedDigest, M: Memory>(call: &mut Call<'_, M>) -> Answered {
-    let ((node, length), (data, value), (other, other_value)): (Place, Claim<D>, Claim<D>) =
-        call.read()?;
-    let proof = data.held.prove_inclusion(node, length.value);
+pub(super) fn agree_value<D: SupportedDigest, M: Memory>(
+    call: &mut Call<'_, M>,
+    (place, claims, pairs): &(Place, (Claim<D>, Claim<D>), Pairs),
+) -> Answered {
+    let ((data, value), (other, other_value)) = claims;
+    let proof = data.held.prove_inclusion(place.0, place.1.value);
+    let (held, other_held) = (&data.held, &other.held);
     let found = warg_witness::agree_value(
         call.memory,
         &proof,
-        &data.held,
-        &value,
-        &other.held,
-        &other_value,
+        held,
+        value,
+        other_held,
+        other_value,
     );
     data.unless_changed()?;
     other.unless_changed()?;
-    call.write_found(found)
+    call.write_found(found, pairs)
 }
 
-pub(super) fn agree_record<D: SupportedDigest, M: Memory>(call: &mut Call<'_, M>) -> Answered {
-    let ((index, length), (value, path), (other, other_path)): (Index, Record<D>, Record<D>) =
-        call.read()?;
+pub(super) fn agree_record<D: SupportedDigest, M: Memory>(
+    call: &mut Call<'_, M>,
+    ((index, length), (first, second), pairs): &((usize, Length), (Record<D>, Record<D>), Pairs),
+) -> Answered {
+    let ((value, path), (other, other_path)) = (first, second);
+    let length = length.value;
     let found = warg_witness::agree_record(
         call.memory,
-        index,
-        length.value,
-        &value,
-        path.as_slice(),
-        &other,
-        other_path.as_slice(),
+        *index,
+        length,
+        value,
+        path,
+        other,
+        other_path,
     );
-    call.write_found(found)
+    call.write_found(found, pairs)
 }
