@@ -7,10 +7,10 @@ meant. One check of a copy of the crate carries a round of edits, one a proof at
 change alone: a function's proof rests on its callees' contracts and not on their proofs, so a hole stands for that of each
 other function. An edit is refused exactly if the check names an open goal, or an error in the proof files, of the function
 that it changes, or of one in a cycle of calls with it, as these have one proof. What waits for a callee, lacks a name or
-was cut off goes to the next round, and what no round has judged goes alone, over the whole crate and with no hole. What is
-still let through fails, and so does an edit that changes no one function. The libraries below are those that rt ci or rt
-check has left. The edits in wrong-bodies/planted change no meaning, and show that this script can fail: each must come out
-as let through, and one named waits_* must wait, in its first round, for the broken function that it calls.
+was cut off goes to the next round, and what two rounds have not judged goes alone. What is then not refused fails, and so
+does an edit that changes no one function. The libraries below are those that rt ci or rt check has left. The edits in
+wrong-bodies/planted change no meaning, and show that this script can fail: each must come out as let through, and one named
+waits_* must wait, in its first round, for the broken function that it calls.
 
 Usage: wrong_bodies.py [--crate NAME] [--only WORD]
 """
@@ -128,7 +128,6 @@ class Check:
         found = re.findall(r"^(?:\./)?proofs/(\S*?)/?\w+\.antt:\d+:\d+: error: (.*)$", said, re.M)
         self.faults = {folder.replace("+", "") for folder, fault in found if not LACKS_A_NAME.search(fault)}
         self.asked = {it.partition(": ")[0]: dict(ASKS.findall(it)) for it in re.split(r"^fn ", said, flags=re.M)[1:]}
-        self.is_proved = bool(re.search(r"^logic=proved", said, re.M))
 
     def is_broken(self, name):
         """Whether a function has an open goal of its own, or an error in its own proof that is no lack of a name."""
@@ -145,26 +144,23 @@ class Check:
                 found.add((folder, *words))
         return found
 
-    def answer(self, edit):
-        """Returns what it says of one of its edits: refused, proved, or a word why it says nothing yet."""
+    def verdict(self, edit):
+        """Returns refused, proved or waits, as it says of one of its edits; else nothing."""
         names = [it for it in edit.functions if it in self.lines]
         said = self.lines[names[0]] if names else ""
-        if not self.is_read:
-            return "unread: " + next((it for it in self.said.splitlines() if "error" in it), "")[:200]
         if any(map(self.is_broken, names)):
             return "refused"
-        if said.startswith(PROVED):
-            return "proved"
-        if names and self.renamed(names[0]) - edit.renamed:
-            edit.renamed |= self.renamed(names[0])
-            return RENAMED
-        return "waits" if WAITS.search(said) else f"unjudged: {said[:200]}"
+        return "proved" if said.startswith(PROVED) else "waits" if WAITS.search(said) else ""
 
-    def answer_whole(self, edit):
-        """Returns what a check of the whole crate with one edit alone says of it."""
-        if self.is_read and any(map(self.is_broken, self.lines)):
-            return "refused"
-        return "proved" if self.is_proved else self.answer(edit)
+    def answer(self, edit):
+        """Returns what it says of one of its edits: refused, proved, or a word why it says nothing yet."""
+        if not self.is_read:
+            return "unread: " + next((it for it in self.said.splitlines() if "error" in it), "")[:200]
+        name = edit.functions[0]
+        if self.verdict(edit) in ("", "waits") and self.renamed(name) - edit.renamed:
+            edit.renamed |= self.renamed(name)
+            return RENAMED
+        return self.verdict(edit) or f"unjudged: {self.lines.get(name, '')[:200]}"
 
 
 class Crate:
@@ -229,12 +225,12 @@ class Crate:
                 folder.mkdir(parents=True)
                 folder.joinpath("Proof.antt").write_text(HOLE.format(".".join(("Rattle", self.name, "proofs", *parts)), it.name))
 
-    def check(self, edits, is_whole):
-        """Checks a copy of the crate with these edits: the whole crate, or the functions that they change alone."""
+    def check(self, edits):
+        """Checks a copy of the crate with these edits, of which it proves the functions that they change alone."""
         texts = self.texts
         for edit in edits:
             texts = applied(edit, texts)
-        scope = [] if is_whole else ["--allow-holes", *(word for it in edits for word in ("--only", it.functions[0]))]
+        scope = ["--allow-holes", *(word for it in edits for word in ("--only", it.functions[0]))]
         with tempfile.TemporaryDirectory(prefix="wrong-bodies-") as room:
             for part in filter(lambda it: (self.folder / it).is_dir(), kit.PARTS):
                 shutil.copytree(self.folder / part, f"{room}/{part}")
@@ -242,19 +238,19 @@ class Crate:
                 pathlib.Path(room, file).write_text(text)
             for folder, *words in {it for edit in edits for it in edit.renamed}:
                 rename(f"{room}/proofs/{folder}", *words)
-            if not is_whole:
-                self.leave_out(pathlib.Path(room, "proofs"), edits)
+            self.leave_out(pathlib.Path(room, "proofs"), edits)
             words = [kit.RATTLE, "check", *kit.words(self.name), *scope, "--jobs", "1", "--incremental", self.kept]
-            _, said, seconds = kit.call([*words, "--stage-times", f"{room}/stages"], room)
             stages = pathlib.Path(room, "stages")
-            is_read = stages.exists() and "stage lines" in stages.read_text()
-        self.seconds, self.checks = self.seconds + seconds, self.checks + 1
-        return Check(said, is_read)
+            is_read = lambda: stages.exists() and "stage lines" in stages.read_text()
+            # What comes behind offers answers, for goals that have other names, and takes long.
+            is_enough = lambda said: is_read() and all(map(Check(said(), True).verdict, edits))
+            _, said, seconds = kit.call([*words, "--stage-times", stages], room, is_enough)
+            self.seconds, self.checks = self.seconds + seconds, self.checks + 1
+            return Check(said, is_read())
 
     def judge(self, edits):
-        """Checks a round, and notes what it tells of each edit. What can't be read goes on by halves, and one edit alone over the
-        whole crate."""
-        checked = self.check(edits, is_whole=False)
+        """Checks a round, and notes what it tells of each edit. What can't be read goes on by halves."""
+        checked = self.check(edits)
         if len(edits) > 1 and not checked.is_read:
             half = len(edits) // 2
             self.judge(edits[:half])
@@ -262,9 +258,6 @@ class Crate:
             return
         for edit in edits:
             edit.told.append(checked.answer(edit))
-        alone = edits[0]
-        if len(edits) == 1 and alone.told[-1] not in ("refused", "proved", RENAMED):
-            alone.told[-1] = self.check(edits, is_whole=True).answer_whole(alone)
 
     def fitting(self, edits):
         """Returns as many of the edits as fit into one round, one a function at most. What two rounds left goes alone."""
