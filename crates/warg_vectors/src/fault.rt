@@ -19,6 +19,8 @@ pub(crate) enum Fault {
     Memory,
     /// The call was refused: the name of its error.
     Refused(String),
+    /// A value was refused its bytes, which would be too many.
+    TooLarge,
     /// The call doesn't keep a promise.
     Broken(Promise),
 }
@@ -61,6 +63,7 @@ impl Fault {
             Fault::BadCall => String::from_str(alloc, "bad call"),
             Fault::Memory => String::from_str(alloc, MEMORY),
             Fault::Refused(name) => format!(in alloc; "refused {name}"),
+            Fault::TooLarge => String::from_str(alloc, "refused TooLarge"),
             Fault::Broken(promise) => format!(in alloc; "broken {promise:?}"),
         }
     }
@@ -91,7 +94,7 @@ impl From<EncodeError> for Fault {
     fn from(fault: EncodeError) -> Fault {
         match fault {
             EncodeError::Memory => Fault::Memory,
-            EncodeError::TooLarge => Fault::Broken(Promise::Answer),
+            EncodeError::TooLarge => Fault::TooLarge,
         }
     }
 }
