@@ -1,16 +1,15 @@
 #!/usr/bin/env python3
 """Shows that the prover refuses each crate's wrong bodies, crates/NAME/wrong-bodies/*.edit and must-fail/*.edit.
 
-An edit is a line 'file: src/lib.rt' and then pairs of lines 'old: TEXT' and 'new: TEXT', each old text standing
-there once; 'old line: TEXT' stands for a whole line, and after a line 'behind: TEXT' the first one behind that text is
-meant. One check of a copy of the crate carries a round of edits, one a proof at most, and proves the functions that they
-change alone: a function's proof rests on its callees' contracts and not on their proofs, so a hole stands for that of each
-other function. An edit is refused exactly if the check names an open goal, or an error in the proof files, of the function
-that it changes, or of one in a cycle of calls with it, as these have one proof. What waits for a callee, lacks a name or
-was cut off goes to the next round, and what two rounds have not judged goes alone. What is then not refused fails, and so
-does an edit that changes no one function. The libraries below are those that rt ci or rt check has left. The edits in
-wrong-bodies/planted change no meaning, and show that this script can fail: each must come out as let through, and one named
-waits_* must wait, in its first round, for the broken function that it calls.
+An edit is a line 'file: src/lib.rt' and then pairs of lines 'old: TEXT' and 'new: TEXT', each old text standing there once; 'old
+line: TEXT' stands for a whole line, and after a line 'behind: TEXT' the first one behind that text is meant. One check of a copy of
+the crate carries a round of edits, one a proof at most, and proves the functions that they change alone: a function's proof rests
+on its callees' contracts and not on their proofs, so a hole stands for that of each other function. An edit is refused exactly if
+the check names an open goal, or an error in the proof files, of the function that it changes, or of one in a cycle of calls with
+it, as these have one proof. What waits for a callee, lacks a name or was cut off goes to the next round, and what no round has
+judged goes alone, over the whole crate. What is let through fails, and so does an edit that changes no one function. The libraries
+below are those that rt ci or rt check has left. Edits in wrong-bodies/planted change no meaning, and show that this script can
+fail: each must come out as let through, and waits_* wait first for the broken function that it calls.
 
 Usage: wrong_bodies.py [--crate NAME] [--only WORD]
 """
@@ -85,8 +84,7 @@ def read(path):
 
 
 def place(text, behind, old):
-    """Returns where an old text stands in a file's: the first time behind the other text, if there is one; -1 where one of them
-    stands there not at all, or what has to stand there once does so more often."""
+    """Returns where an old text stands in a file's, the first time behind the other one, or -1 where one isn't there just once."""
     if text.count(behind or old) != 1:
         return -1
     return text.find(old, text.find(behind) if behind else 0)
@@ -105,8 +103,7 @@ def applied(edit, texts):
 
 
 def word_changed(old, new):
-    """Returns the word in which two names of goals differ behind the first one, with the word before it; none where they
-    differ in more."""
+    """Returns the word in which two names of goals differ behind the first, with the one before it; none where they differ in more."""
     olds, news = old.split("-"), new.split("-")
     at = [it for it in range(len(olds)) if len(olds) == len(news) and olds[it] != news[it]]
     return (olds[at[0] - 1], olds[at[0]], news[at[0]]) if len(at) == 1 and at[0] > 0 else None
@@ -170,8 +167,8 @@ class Crate:
         self.name, self.folder, self.kept = name, kit.ROOT / "crates" / name, None
         self.seconds, self.checks = 0.0, 0
         self.texts = {str(it.relative_to(self.folder)): it.read_text() for it in sorted(self.folder.glob("src/**/*.rt"))}
-        roots = ("lib", "main")
-        self.modules = {it: tuple(part for part in pathlib.Path(it).with_suffix("").parts[1:] if part not in roots) for it in self.texts}
+        parts = {it: pathlib.Path(it).with_suffix("").parts[1:] for it in self.texts}
+        self.modules = {it: tuple(part for part in parts[it] if part not in ("lib", "main")) for it in self.texts}
         self.functions, self.cycles = {}, collections.defaultdict(list)
         for file, text in self.texts.items():
             found = items.functions(text, (name, *self.modules[file])[-1])
@@ -225,12 +222,12 @@ class Crate:
                 folder.mkdir(parents=True)
                 folder.joinpath("Proof.antt").write_text(HOLE.format(".".join(("Rattle", self.name, "proofs", *parts)), it.name))
 
-    def check(self, edits):
-        """Checks a copy of the crate with these edits, of which it proves the functions that they change alone."""
+    def check(self, edits, is_whole=False):
+        """Checks a copy of the crate with these edits: the whole crate, or the functions that they change alone."""
         texts = self.texts
         for edit in edits:
             texts = applied(edit, texts)
-        scope = ["--allow-holes", *(word for it in edits for word in ("--only", it.functions[0]))]
+        scope = [] if is_whole else ["--allow-holes", *(word for it in edits for word in ("--only", it.functions[0]))]
         with tempfile.TemporaryDirectory(prefix="wrong-bodies-") as room:
             for part in filter(lambda it: (self.folder / it).is_dir(), kit.PARTS):
                 shutil.copytree(self.folder / part, f"{room}/{part}")
@@ -238,18 +235,19 @@ class Crate:
                 pathlib.Path(room, file).write_text(text)
             for folder, *words in {it for edit in edits for it in edit.renamed}:
                 rename(f"{room}/proofs/{folder}", *words)
-            self.leave_out(pathlib.Path(room, "proofs"), edits)
+            if not is_whole:
+                self.leave_out(pathlib.Path(room, "proofs"), edits)
             words = [kit.RATTLE, "check", *kit.words(self.name), *scope, "--jobs", "1", "--incremental", self.kept]
             stages = pathlib.Path(room, "stages")
             is_read = lambda: stages.exists() and "stage lines" in stages.read_text()
             # What comes behind offers answers, for goals that have other names, and takes long.
-            is_enough = lambda said: is_read() and all(map(Check(said(), True).verdict, edits))
+            is_enough = lambda said: not is_whole and is_read() and all(map(Check(said(), True).verdict, edits))
             _, said, seconds = kit.call([*words, "--stage-times", stages], room, is_enough)
             self.seconds, self.checks = self.seconds + seconds, self.checks + 1
             return Check(said, is_read())
 
     def judge(self, edits):
-        """Checks a round, and notes what it tells of each edit. What can't be read goes on by halves."""
+        """Checks a round, and notes what it tells of each edit. What can't be read goes on by halves, one edit over the whole crate."""
         checked = self.check(edits)
         if len(edits) > 1 and not checked.is_read:
             half = len(edits) // 2
@@ -258,6 +256,9 @@ class Crate:
             return
         for edit in edits:
             edit.told.append(checked.answer(edit))
+        if len(edits) == 1 and edit.told[-1] not in ("refused", "proved", RENAMED):
+            checked = self.check(edits, is_whole=True)
+            edit.told[-1] = "refused" if checked.is_read and any(map(checked.is_broken, checked.lines)) else checked.answer(edit)
 
     def fitting(self, edits):
         """Returns as many of the edits as fit into one round, one a function at most. What two rounds left goes alone."""
