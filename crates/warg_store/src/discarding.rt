@@ -3,13 +3,13 @@
 ghost use Rattle.std.specs.Prelude.{◌⊎◌, IfOk, IfErr};
 ghost use Rattle.warg_store.specs.Growing.{IsReady, Has};
 ghost use Rattle.warg_store.specs.Log.{LogOf};
-ghost use Rattle.warg_folder.specs.Moments.{LeavesOnly};
+ghost use Rattle.warg_folder.specs.Moments.{LeavesOnly, HasLostCause};
 ghost use Rattle.warg_store.specs.Opening.{IsOpening};
 ghost use Rattle.warg_store.specs.Refusals.{IsNoFault};
 
 use crate::error::LogError;
 use crate::log_folder::LogFolder;
-use warg_folder::Folder;
+use warg_folder::{Folder, FolderError};
 
 impl<F: Folder + Drop> LogFolder<F> {
     /// Drops what was pushed, and the pages that were put, since the last commit, by opening the folder again: returns the log
@@ -23,6 +23,7 @@ impl<F: Folder + Drop> LogFolder<F> {
             → IfErr result (IsNoFault ⊥) }
         ensures any_moment { F.IsFaithful → IfOk result (λ log. LeavesOnly F.moment F.left_since self.folder log.folder
             (λ c. F.may_leave self.folder c ⊎ IsOpening (F.seen self.folder) c)) }
+        ensures cause { HasLostCause F.faults (LogError.Folder FolderError.Failed) F.IsFaithful self.folder result }
     {
         LogFolder::open(self.alloc, self.into_folder())
     }
