@@ -7,7 +7,7 @@ ghost use Rattle.warg_crypto.specs.Tree.{leaf_digest};
 ghost use Rattle.warg_pages.specs.Audits.{IsHeldIn, IsInPages};
 ghost use Rattle.warg_pages.specs.ChangedPages.{ChangedPageAt};
 ghost use Rattle.warg_pages.specs.Visits.{lone_slots};
-ghost use Rattle.warg_store.specs.Audited.{IsOfEntries, ShowsLog, HasOlder};
+ghost use Rattle.warg_store.specs.Audited.{IsOfEntries, ShowsLogAndOlder, HasOlder};
 ghost use Rattle.warg_folder.specs.Moments.{IsRead, HasCauseOf};
 ghost use Rattle.warg_store.specs.Log.{LogOf};
 ghost use Rattle.warg_store.specs.Reading.{Reads, bundle_in, checkpoint_said};
@@ -81,7 +81,7 @@ impl<F: Folder + Drop> RegistryReader<F> {
         ensures insertions { F.IsFaithful → IfOk result (λ checkpoint. (insertions : List (List ℕ × List ℕ))
             × AreOfRegistry checkpoint self.old.root insertions) }
         ensures served { IfOk result (λ checkpoint. checkpoint ≡ checkpoint_said self.old.log.text) }
-        ensures files { F.IsFaithful → IfOk result (ShowsLog (F.seen self.old.log.folder)) }
+        ensures files { F.IsFaithful → IfOk result (ShowsLogAndOlder (F.seen self.old.log.folder)) }
         ensures whole { F.IsFaithful → (origin : List ℕ) (insertions : List (List ℕ × List ℕ))
             → ReadsRegistry F.seen origin insertions self.old
             → HasOlder (registry_of origin insertions) (F.seen self.old.log.folder) → IfErr result (IsNoFault ⊥) }

@@ -14,6 +14,11 @@ pub ok_holds : {T E : Type 0} (r : Result T E) (P : Type 0) → P → OnOk r P
 ok_holds (Ok value) P holds = holds
 ok_holds (Err error) P holds = tt
 
+-- two facts of a call that is done, together
+pub ok_and : {T E : Type 0} (r : Result T E) (P Q : Type 0) → OnOk r P → OnOk r Q → OnOk r (P × Q)
+ok_and (Ok value) P Q one two = (one, two)
+ok_and (Err error) P Q one two = tt
+
 -- what two facts say of a call that is done, together
 pub ok_both : {T E : Type 0} (r : Result T E) (Q : Type 0) (P R : T → Type 0) → OnOk r Q → IfOk r P
     → ((value : T) → Q → P value → R value) → IfOk r R

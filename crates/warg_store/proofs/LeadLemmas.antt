@@ -77,25 +77,33 @@ digests_kept ds more t inside =
     (λ i low high. ap (root_of sha256) (leaves_kept ds more t i inside (omega arith)))
 
 module _ (old next : LogOf) (extends : Extends old next) where
-  -- a tile of the old log has the same bytes in the next one
-  pub tile_kept : (t : TileAt) → IsTileIn old t → tile_bytes next t ≡ tile_bytes old t
-  tile_kept t is =
+  -- a tile that ends within the old log has the same bytes in the next one
+  pub bytes_kept : (t : TileAt) → tile_end t ≤ length old.entries → tile_bytes next t ≡ tile_bytes old t
+  bytes_kept t inside =
       ap (λ (es : List (List ℕ)). flat_map (λ digest. digest) (tile_digests sha256 (leaves_of sha256 es) t))
       extends.entries.1
       ∙ ap (λ (ds : List (List ℕ)). flat_map (λ digest. digest) (tile_digests sha256 ds t))
       (map-append (leaf_digest sha256) old.entries extends.entries.0)
       ∙ ap (λ (ds : List (List ℕ)). flat_map (λ digest. digest) ds)
       (digests_kept (leaves_of sha256 old.entries) (leaves_of sha256 extends.entries.0) t
-      (omega (arith, end_inside (length old.entries) t is.exists, length-map old.entries (leaf_digest sha256))))
+      (omega (arith, inside, length-map old.entries (leaf_digest sha256))))
+
+  pub tile_kept : (t : TileAt) → IsTileIn old t → tile_bytes next t ≡ tile_bytes old t
+  tile_kept t is = bytes_kept t (end_inside (length old.entries) t is.exists)
+
+  -- and so has a bundle
+  pub entries_kept : (t : TileAt) → 256 * t.number + t.width ≤ length old.entries → bundle_bytes next t
+      ≡ bundle_bytes old t
+  entries_kept t inside =
+      ap (λ (es : List (List ℕ)). bundle_of (take t.width (drop (256 * t.number) es))) extends.entries.1
+      ∙ ap bundle_of (part_kept old.entries extends.entries.0 (256 * t.number) t.width inside)
 
   pub bundle_kept : (t : TileAt) → IsBundleIn old t → bundle_bytes next t ≡ bundle_bytes old t
   bundle_kept t is =
       let one : 2 ^ (8 * t.level) ≡ 1 = ap (λ l. 2 ^ (8 * l)) is.level in
       let end : (256 * t.number + t.width) * 2 ^ (8 * t.level) ≤ length old.entries =
       end_inside (length old.entries) t is.exists in
-      let inside : 256 * t.number + t.width ≤ length old.entries = omega (arith, rw one at end) in
-      ap (λ (es : List (List ℕ)). bundle_of (take t.width (drop (256 * t.number) es))) extends.entries.1
-      ∙ ap bundle_of (part_kept old.entries extends.entries.0 (256 * t.number) t.width inside)
+      entries_kept t (omega (arith, rw one at end))
 
   pub tile_was : (t : TileAt) → IsTileIn next t → IsTileIn old t ⊎ (IsTileIn old t → ⊥)
   tile_was t is = elim (cases_eq t.width (min (length old.entries / 2 ^ (8 * t.level) - 256 * t.number) 256)) [

@@ -18,3 +18,8 @@ pub all_made : {X Y : Type 0} (P : Y → Type 0) (f : X → Y) (xs : List X) →
     → AllByRecursion (λ x. P (f x)) xs
 all_made P f [] all = tt
 all_made P f (x ∷ xs) all = (all.0, all_made P f xs all.1)
+
+pub all_mapped : {X Y : Type 0} (P : Y → Type 0) (f : X → Y) (xs : List X) → AllByRecursion (λ x. P (f x)) xs
+    → AllByRecursion P (map f xs)
+all_mapped P f [] all = tt
+all_mapped P f (x ∷ xs) all = (all.0, all_mapped P f xs all.1)

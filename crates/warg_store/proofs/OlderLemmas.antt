@@ -1,16 +1,20 @@
 -- Files of older lengths at a log's places.
-use Rattle.std.proofs.Common.{◌≡◌, ℕ, zero, suc, ◌+◌, ◌*◌, ◌^◌, ◌<◌, ◌≤◌, true, false, List, [], ◌∷◌, ◌++◌, length, map, take, drop, Option, Some, None, IsSome, refl, sym, ap, subst, ◌∙◌, arith}
-use Rattle.std.specs.List.{AllByRecursion, Contains}
+use Rattle.std.proofs.Common.{◌≡◌, ◌⊎◌, inl, inr, ℕ, zero, suc, ◌+◌, ◌*◌, ◌/◌, ◌^◌, ◌<◌, ◌≤◌, true, false, List, [], ◌∷◌, ◌++◌, length, map, take, drop, Option, Some, None, IsSome, nat_eq, codes, refl, sym, ap, subst, ◌∙◌, arith}
+use Rattle.std.specs.Fmt.{decimal}
+use Rattle.std.specs.List.{AllByRecursion, Contains, flat_map, starts_with}
+use Rattle.std.proofs.lemmas.Bool.{cases_lt}
+use Rattle.std.proofs.lemmas.Bool.Decides.{Decides-eqb}
+use Rattle.std.proofs.lemmas.Slice.Eq.{starts_is}
 use Rattle.std.proofs.lemmas.List.{length-append, length-map, map-append, take-append-drop, take-map, take-take}
 use Rattle.std.proofs.lemmas.List.FromFn.{take-map-range_with_len}
-use Rattle.std.proofs.lemmas.Nat.{pow_pos}
-use Rattle.std.proofs.Math.Nat.{mul-div_cancel, mul-le-mul_right}
+use Rattle.std.proofs.lemmas.Nat.{pow_pos, le-div}
+use Rattle.std.proofs.Math.Nat.{div-mul-le_self, mul-div_cancel, mul-le-mul_left, mul-le-mul_right}
 use Rattle.std.proofs.Math.Seq.{take-add}
 use Rattle.warg_crypto.specs.Digests.{sha256}
 use Rattle.warg_crypto.specs.Tree.{leaf_digest}
 use Rattle.warg_log.specs.Tree.{root_of, leaves_of, leaves_below, own_digest}
-use Rattle.warg_tiles.specs.Between.{IsTileOf}
-use Rattle.warg_tiles.specs.Tiles.{TileAt, node_in, tile_end}
+use Rattle.warg_tiles.specs.Between.{IsTileOf, filled}
+use Rattle.warg_tiles.specs.Tiles.{TileAt, IsTile, node_in, tile_end}
 use Rattle.warg_tiles.specs.TileData.{Tiles, IsTileBy}
 use Rattle.warg_tiles.specs.TileLog.{RightEdge, StandsFor, AreTilesOf, full_between, partial_tiles, tile_digests}
 use Rattle.warg_tiles.specs.TilePaths.{tile_path, entries_path}
@@ -18,10 +22,36 @@ use Rattle.warg_tiles.proofs.ForCallers.{full_tiles, partial_of, own_tile, low_l
 use Rattle.warg_folder.specs.Files.{Files}
 use Rattle.warg_store.specs.Audited.{HasOlder}
 use Rattle.warg_store.specs.Log.{LogOf, IsTileIn, tile_bytes, bundle_bytes}
-use Rattle.warg_store.specs.Private.Compared.{IsOwnTile}
+use Rattle.warg_store.specs.Private.Compared.{IsOwnTile, IsNarrower, HasNarrower, tile_of, path_beside}
+use Rattle.warg_store.specs.declared.older.Newer.{Newer}
+use Rattle.warg_store.specs.declared.older.Newer.TheVariants.{Tile, Bundle}
 use Rattle.warg_store.specs.Reading.{bundle_in}
 use Rattle.warg_store.proofs.GrowingLemmas.{same_tile, from_ground, full_stays}
 use Rattle.warg_store.proofs.LeadLemmas.{end_inside, width_at_most, digests_kept}
+use Rattle.warg_store.proofs.PathLemmas.{tile_behind, entries_behind}
+
+-- a file has one text
+pub bytes_are : (o : Option (List ℕ)) (a b : List ℕ) → o ≡ Some a → o ≡ Some b → a ≡ b
+bytes_are o a b is other = let both : Some a ≡ Some b = sym is ∙ other in cc
+
+-- an older file's path begins as that of the full one in its place
+pub begins_partial : (newer : Newer) (t : TileAt) → IsNarrower t (tile_of newer)
+    → starts_with nat_eq (path_beside newer t)
+    (path_beside newer (record (tile_of newer) { width = 256 }) ++ codes ".p/") ≡ true
+begins_partial (Tile newer) t is =
+    let full : TileAt = record newer.now.tile { width = 256 } in
+    let here : TileAt = record t { width = 256 } in
+    let same : here ≡ full = same_tile here full is.level is.number refl in
+    let prefix : List ℕ = tile_path full ++ codes ".p/" in
+    (starts_is Decides-eqb (tile_path t) prefix (starts_with nat_eq (tile_path t) prefix) refl).1 (decimal t.width)
+    (tile_behind t is.partial ∙ ap (λ (u : TileAt). (tile_path u ++ codes ".p/") ++ decimal t.width) same)
+begins_partial (Bundle number entries) t is =
+    let full : TileAt = record { level = 0; number = number; width = 256 } in
+    let here : TileAt = record t { width = 256 } in
+    let same : here ≡ full = same_tile here full is.level is.number refl in
+    let prefix : List ℕ = entries_path full ++ codes ".p/" in
+    (starts_is Decides-eqb (entries_path t) prefix (starts_with nat_eq (entries_path t) prefix) refl).1 (decimal t.width)
+    (entries_behind t is.partial ∙ ap (λ (u : TileAt). (entries_path u ++ codes ".p/") ++ decimal t.width) same)
 
 -- an option that has a value has this one, where each has
 some_is : (o : Option (List ℕ)) (value : List ℕ) → ((bytes : List ℕ) → o ≡ Some bytes → bytes ≡ value) → IsSome o
@@ -128,6 +158,85 @@ own_parts log len tiles most count are = own_each log (leaves_of sha256 log.entr
     (subst (λ (l : List TileAt). Contains l t) are.places has) in
     let exists : IsTileOf (length log.entries) t = subst (λ n. IsTileOf n t) count is.0 in
     (record { level = low_level (length log.entries) t most exists; exists = exists }, refl)) are.digests
+
+-- Narrower tiles in the places of a log's own.
+
+-- a narrower tile ends within the log
+pub narrow_end : (n : ℕ) (t newer : TileAt) → IsTileOf n newer → IsNarrower t newer → tile_end t ≤ n
+narrow_end n t newer of is =
+    let lower : 256 * t.number + t.width ≤ 256 * newer.number + newer.width = omega (arith, is.number, is.less) in
+    omega (
+      arith,
+      mul-le-mul_right (2 ^ (8 * t.level)) lower,
+      ap (λ l. (256 * newer.number + newer.width) * 2 ^ (8 * l)) is.level,
+      end_inside n newer of,
+    )
+
+-- its bytes are the first of the newer one's
+pub narrow_bytes : (log : LogOf) (t newer : TileAt) (digests : List (List ℕ))
+    → digests ≡ tile_digests sha256 (leaves_of sha256 log.entries) newer → IsNarrower t newer
+    → flat_map (λ digest. digest) (take t.width digests) ≡ tile_bytes log t
+narrow_bytes log t newer digests are is =
+    let ds = leaves_of sha256 log.entries in
+    let narrow : TileAt = record { level = newer.level; number = newer.number; width = t.width } in
+    ap (flat_map (λ (digest : List ℕ). digest)) (ap (take t.width) are
+    ∙ take-map-range_with_len (λ i. root_of sha256 (leaves_below (node_in newer i) ds)) 0 newer.width t.width
+    (omega (arith, is.less)) ∙ ap (tile_digests sha256 ds) (sym (same_tile t narrow is.level is.number refl)))
+
+-- what is left in the places of compared tiles has the log's bytes
+pub own_narrow : (log : LogOf) (files : Files) (tiles : Tiles)
+    → AllByRecursion (λ (x : TileAt × List (List ℕ)). IsTileBy (own_digest sha256 (leaves_of sha256 log.entries)) x.0
+    x.1) tiles
+    → AllByRecursion (HasNarrower files) tiles → (newer : TileAt)
+    → Contains (map (λ (x : TileAt × List (List ℕ)). x.0) tiles) newer → (t : TileAt) (bytes : List ℕ)
+    → IsNarrower t newer → files (tile_path t) ≡ Some bytes → bytes ≡ tile_bytes log t
+own_narrow log files [] own has newer (k, low, is) t bytes narrow there = absurd (omega arith)
+own_narrow log files (x ∷ xs) own has newer (zero, low, is) t bytes narrow there =
+    let here : IsNarrower t x.0 = subst (IsNarrower t) (sym is) narrow in
+    has.0 t bytes here there ∙ narrow_bytes log t x.0 x.1
+    (own_tile sha256 (leaves_of sha256 log.entries) x.1 x.0 own.0) here
+own_narrow log files (x ∷ xs) own has newer (suc k, low, is) t bytes narrow there =
+    own_narrow log files xs own.1 has.1 newer (k, omega arith, is) t bytes narrow there
+
+-- The tile in the place of an older one, at a greater length.
+pub record IsPlaced (n : ℕ) (t newer : TileAt) : Type 0 where
+  pub is : IsTile t
+  pub of : IsTileOf n newer
+  pub level : t.level ≡ newer.level
+  pub number : t.number ≡ newer.number
+  pub wide : t.width ≤ newer.width
+
+pub placed : (m n : ℕ) (t : TileAt) → m ≤ n → n ≤ 2 ^ 63 → t.level < 8 → IsTileOf m t
+    → IsPlaced n t (filled t.level (n / 2 ^ (8 * t.level)) t.number)
+placed m n t longer most level of =
+    let p = 2 ^ (8 * t.level) in
+    let one : 1 ≤ p = omega (arith, pow_pos (8 * t.level)) in
+    let more : m / p ≤ n / p = le-div (m / p) n p (pow_pos (8 * t.level)) (omega (arith, div-mul-le_self m p, longer)) in
+    record {
+      is = record {
+        level = omega (arith, level);
+        number = omega (arith, end_inside m t of, mul-le-mul_left (256 * t.number + t.width) one, longer, most);
+        some = of.some;
+        most = width_at_most m t of;
+      };
+      of = record { some = omega (arith, of.some, of.width, more); width = refl };
+      level = refl;
+      number = refl;
+      wide = omega (arith, of.width, more);
+    }
+
+-- it is the same tile, or a wider one
+pub same_or_narrower : (n : ℕ) (t newer : TileAt) → IsPlaced n t newer → (t ≡ newer) ⊎ IsNarrower t newer
+same_or_narrower n t newer at = elim (cases_lt t.width newer.width) [
+  | inl less ↦ inr (record {
+    is = at.is;
+    level = at.level;
+    number = at.number;
+    less = less;
+    partial = omega (arith, less, width_at_most n newer at.of);
+  })
+  | inr same ↦ inl (same_tile t newer at.level at.number (omega (arith, same, at.wide)))
+]
 
 -- an older tile's digests are the first of a newer one's
 pub older_digests : (ds : List (List ℕ)) (t newer : TileAt) → t.level ≡ newer.level → t.number ≡ newer.number

@@ -1,5 +1,5 @@
 -- Different tiles and bundles have different paths.
-use Rattle.std.proofs.Common.{◌≡◌, ◌≢◌, inl, inr, ℕ, zero, suc, ◌+◌, ◌-◌, ◌*◌, ◌/◌, ◌%◌, ◌^◌, ◌<◌, ◌≤◌, ◌==◌, List, [], ◌∷◌, ◌++◌, true, false, cond, length, get_or, codes, refl, sym, ap, ◌∙◌, rules, arith}
+use Rattle.std.proofs.Common.{◌≡◌, ◌≢◌, inl, inr, ℕ, zero, suc, ◌+◌, ◌-◌, ◌*◌, ◌/◌, ◌%◌, ◌^◌, ◌<◌, ◌≤◌, ◌==◌, List, [], ◌∷◌, ◌++◌, true, false, cond, length, get_or, codes, refl, sym, ap, ◌∙◌, append_assoc, rules, arith}
 use Rattle.std.specs.List.{AllByRecursion}
 use Rattle.std.specs.Char.{is_ascii_digit}
 use Rattle.std.specs.Fmt.{decimal}
@@ -8,7 +8,7 @@ use Rattle.std.proofs.lemmas.Bool.{cases_lt, cases_eq, eq-eqb, ne_eqb}
 use Rattle.std.proofs.lemmas.Fmt.{decimal_injective, digits_decimal}
 use Rattle.std.proofs.lemmas.List.{append_cancel_left, append-nil}
 use Rattle.std.proofs.lemmas.Str.Parse.{IsNumeralModel, numerals_by_value, tells_digits, not_in_digits}
-use Rattle.warg_tiles.specs.Tiles.{TileAt}
+use Rattle.warg_tiles.specs.Tiles.{TileAt, IsTile}
 use Rattle.warg_tiles.specs.TilePaths.{three_digits, group_of, groups_within, groups_of, number_path, place_path, tile_path, entries_path}
 use Rattle.warg_folder.specs.Names.{is_page, page_name}
 use Rattle.warg_folder.proofs.ForCallers.{apart}
@@ -157,9 +157,9 @@ same_tile t u level number width = ap (λ l. tile_at l t.number t.width) level
     ∙ ap (λ n. tile_at u.level n t.width) number ∙ ap (λ w. tile_at u.level u.number w) width
 
 -- different tiles have different paths
-pub tile_path_once : (t u : TileAt) → t.level < 8 → u.level < 8 → t.width ≤ 256 → u.width ≤ 256
-    → tile_path t ≡ tile_path u → t ≡ u
-tile_path_once t u tl ul tw uw e =
+path_once : (t u : TileAt) → t.level ≤ 63 → u.level ≤ 63 → t.width ≤ 256 → u.width ≤ 256 → tile_path t ≡ tile_path u
+    → t ≡ u
+path_once t u tl ul tw uw e =
     let parts = cut_once 47 (decimal t.level) (place_path t.number t.width) (decimal u.level)
     (place_path u.number u.width)
     (decimal_without t.level 47 (omega arith) (λ a b. omega arith))
@@ -170,6 +170,13 @@ tile_path_once t u tl ul tw uw e =
     let place = place_once t.number t.width u.number u.width tw uw parts.1 in
     same_tile t u level place.0 place.1
 
+pub tile_path_once : (t u : TileAt) → t.level < 8 → u.level < 8 → t.width ≤ 256 → u.width ≤ 256
+    → tile_path t ≡ tile_path u → t ≡ u
+tile_path_once t u tl ul tw uw e = path_once t u (omega (arith, tl)) (omega (arith, ul)) tw uw e
+
+pub one_tile : (t u : TileAt) → IsTile t → IsTile u → tile_path t ≡ tile_path u → t ≡ u
+one_tile t u is other = path_once t u is.level other.level is.most other.most
+
 -- and so have bundles
 pub entries_path_once : (t u : TileAt) → t.level ≡ 0 → u.level ≡ 0 → t.width ≤ 256 → u.width ≤ 256
     → entries_path t ≡ entries_path u → t ≡ u
@@ -177,6 +184,27 @@ entries_path_once t u tl ul tw uw e =
     let place = place_once t.number t.width u.number u.width tw uw
     (append_cancel_left (codes "tile/entries/") (place_path t.number t.width) (place_path u.number u.width) e) in
     same_tile t u (tl ∙ sym ul) place.0 place.1
+
+-- A partial file's path is that of the full one in its place, and then its width.
+
+place_behind : (n width : ℕ) → width < 256 → place_path n width
+    ≡ place_path n 256 ++ (codes ".p/" ++ decimal width)
+place_behind n width less = partial_place n width (λ e. omega (arith, less, e))
+    ∙ ap (λ (l : List ℕ). l ++ (46 ∷ (112 ∷ (47 ∷ decimal width)))) (sym (full_place n))
+
+pub tile_behind : (t : TileAt) → t.width < 256 → tile_path t
+    ≡ (tile_path (record t { width = 256 }) ++ codes ".p/") ++ decimal t.width
+tile_behind t less =
+    ap (λ (l : List ℕ). codes "tile/" ++ (decimal t.level ++ (47 ∷ l))) (place_behind t.number t.width less)
+    ∙ ap (λ (l : List ℕ). codes "tile/" ++ l)
+    (sym (append_assoc (decimal t.level) (47 ∷ place_path t.number 256) (codes ".p/" ++ decimal t.width)))
+    ∙ sym (append_assoc (tile_path (record t { width = 256 })) (codes ".p/") (decimal t.width))
+
+pub entries_behind : (t : TileAt) → t.width < 256 → entries_path t
+    ≡ (entries_path (record t { width = 256 }) ++ codes ".p/") ++ decimal t.width
+entries_behind t less =
+    ap (λ (l : List ℕ). codes "tile/entries/" ++ l) (place_behind t.number t.width less)
+    ∙ sym (append_assoc (entries_path (record t { width = 256 })) (codes ".p/") (decimal t.width))
 
 begins_otherwise : (xs ys zs : List ℕ) → Without 101 xs → xs ++ (47 ∷ ys) ≡ 101 ∷ zs → ⊥
 begins_otherwise [] ys zs xw e = absurd (omega (arith, ap (λ l. get_or l 0 0) e))

@@ -1,5 +1,5 @@
 -- A folder's files, as the entries of their bundles are read back and the tiles over them used.
-use Rattle.std.proofs.Common.{◌≡◌, ◌≢◌, ◌⊎◌, inl, inr, ⊎_elim, ℕ, zero, suc, ◌+◌, ◌-◌, ◌*◌, ◌^◌, ◌<◌, ◌≤◌, false, min, List, [], ◌∷◌, ◌++◌, length, map, take, drop, Some, refl, sym, ap, subst, ◌∙◌, arith}
+use Rattle.std.proofs.Common.{◌≡◌, ◌≢◌, ◌⊎◌, inl, inr, ⊎_elim, ℕ, zero, suc, ◌+◌, ◌-◌, ◌*◌, ◌/◌, ◌^◌, ◌<◌, ◌≤◌, false, min, List, [], ◌∷◌, ◌++◌, length, map, take, drop, Some, refl, sym, ap, subst, ◌∙◌, arith}
 use Rattle.std.specs.List.{AllByRecursion, Contains, flat_map}
 use Rattle.std.proofs.lemmas.Bool.{cases_lt}
 use Rattle.std.proofs.lemmas.List.{length-append, length-map, take_all}
@@ -20,16 +20,17 @@ use Rattle.warg_tiles.proofs.ForCallers.{full_tiles, partial_of, low_level}
 use Rattle.warg_folder.specs.Files.{File, Files}
 use Rattle.warg_folder.specs.Names.{staged, is_staged}
 use Rattle.warg_folder.proofs.ForCallers.{served_not_staged}
-use Rattle.warg_store.specs.Audited.{log_of, ShowsLog}
+use Rattle.warg_store.specs.Audited.{log_of, ShowsLogAndOlder}
 use Rattle.warg_store.specs.Log.{LogOf, AreShort, Extends, IsTileIn, IsBundleIn, said_of, tile_bytes, bundle_bytes}
 use Rattle.warg_store.specs.Reading.{checkpoint_said}
 use Rattle.warg_store.specs.Staged.{new_files}
-use Rattle.warg_store.specs.Private.Compared.{HasTiles}
+use Rattle.warg_store.specs.Private.Compared.{HasTiles, IsNarrower, HasNarrowerBundles}
 use Rattle.warg_store.specs.Private.Used.{place_of, AreUsed, HasUsed, HasUsedAll}
 use Rattle.warg_store.specs.declared.auditing.Use.{Use}
 use Rattle.warg_store.specs.declared.auditing.Use.TheVariants.{Compare, Stage}
 use Rattle.warg_store.proofs.GrowingLemmas.{same_tile, ground, from_ground, full_stays, own_files, tile_there, apart_there}
-use Rattle.warg_store.proofs.LeadLemmas.{width_at_most, tile_kept, bundle_kept, tile_was, bundle_was}
+use Rattle.warg_store.proofs.LeadLemmas.{width_at_most, bytes_kept, entries_kept, tile_kept, bundle_kept, tile_was, bundle_was}
+use Rattle.warg_store.proofs.OlderLemmas.{IsPlaced, bytes_are, narrow_end, own_narrow, placed, same_or_narrower}
 use Rattle.warg_store.proofs.StagedLemmas.{staged_outside}
 
 -- a tile ends behind no entry
@@ -93,6 +94,10 @@ none_used how files edge taken stands = record {
   taken = taken;
   bundle = λ t is. absurd (none t is.exists);
   tile = λ t is full. absurd (none t is.exists);
+  older = λ compared. record {
+    tile = λ t newer bytes is. absurd (none newer is.exists);
+    bundle = λ t newer bytes is. absurd (none newer is.exists);
+  };
   other = λ n apart. refl;
   outside = λ n isnt. refl;
 }
@@ -111,6 +116,7 @@ module _ (how : Use) (first before after : Files) (number size : ℕ) (old mid n
     → AreTilesOf sha256 ds (full_between mid.taken mid.len) tiles)
     (rest : new ≡ record mid { taken = mid.len; full = [] })
     (stands : (ds : List (List ℕ)) → StandsFor sha256 mid ds → StandsFor sha256 new ds)
+    (older : how ≡ Compare → HasNarrowerBundles before number xs)
     (used : AreUsed how tiles before after) (was : HasUsed how first before (256 * number) old) where
   abbrev all : List (List ℕ)
   all = was.entries ++ xs
@@ -191,6 +197,41 @@ module _ (how : Use) (first before after : Files) (number size : ℕ) (old mid n
       ∙ ap (take (min (size - 256 * number) 256)) (drop-append_seam was.entries xs)
       ∙ take_all (min (size - 256 * number) 256) xs (omega (arith, count))))
 
+  -- what is left in the places of the tiles that were compared, and of the bundle
+  tile_left : how ≡ Compare → (t newer : TileAt) (bytes : List ℕ) → IsTileIn (log_of all) newer → newer.width ≡ 256
+      → IsNarrower t newer → first (tile_path t) ≡ Some bytes → bytes ≡ tile_bytes (log_of all) t
+  tile_left compared t newer bytes is full narrow there = ⊎_elim
+      (λ had. (was.older compared).tile t newer bytes had full narrow there
+      ∙ sym (bytes_kept (log_of was.entries) (log_of all) grown t
+      (narrow_end (length was.entries) t newer had.exists narrow)))
+      (λ fresh. own_narrow (log_of all) before tiles (own (leaves_of sha256 all) stand).digests
+      (subst (λ (u : Use). AreUsed u tiles before after) compared used).2 newer (new_tile newer is full fresh) t bytes
+      narrow (was.outside (tile_path t) (served_not_staged (tile_path t) refl) ∙ there))
+      (tile_was (log_of was.entries) (log_of all) grown newer is)
+
+  bundle_left : how ≡ Compare → (t newer : TileAt) (bytes : List ℕ) → IsBundleIn (log_of all) newer
+      → IsNarrower t newer → first (entries_path t) ≡ Some bytes → bytes ≡ bundle_bytes (log_of all) t
+  bundle_left compared t newer bytes is narrow there = ⊎_elim
+      (λ had.
+      let g = ground (length was.entries) newer had.level had.exists in
+      (was.older compared).bundle t newer bytes had narrow there
+      ∙ sym (entries_kept (log_of was.entries) (log_of all) grown t
+      (omega (arith, g.0, g.1, narrow.number, narrow.less))))
+      (λ fresh.
+      let same = the_bundle newer is fresh in
+      let number_is : t.number ≡ number = narrow.number ∙ ap (λ (u : TileAt). u.number) same in
+      let start : 256 * t.number ≡ length was.entries = omega (arith, number_is, was.count) in
+      older compared t bytes (record {
+        is = narrow.is;
+        level = narrow.level ∙ is.level;
+        number = number_is;
+        less = omega (arith, narrow.less, ap (λ (u : TileAt). u.width) same, count);
+        partial = narrow.partial;
+      }) (was.outside (entries_path t) (served_not_staged (entries_path t) refl) ∙ there)
+      ∙ ap (λ (l : List (List ℕ)). bundle_of (take t.width l))
+      (sym (ap (λ n. drop n all) start ∙ drop-append_seam was.entries xs)))
+      (bundle_was (log_of was.entries) (log_of all) grown newer is)
+
   pub bundle_more : HasUsed how first after (min (256 * number + 256) size) new
   bundle_more = record {
     entries = all;
@@ -207,6 +248,7 @@ module _ (how : Use) (first before after : Files) (number size : ℕ) (old mid n
         (λ had. inr (was.tile t had full ∙ ap (λ (b : List ℕ). Some b)
         (sym (tile_kept (log_of was.entries) (log_of all) grown t had))))
         (λ fresh. inl (new_tile t is full fresh)) (tile_was (log_of was.entries) (log_of all) grown t is));
+    older = λ compared. record { tile = tile_left compared; bundle = bundle_left compared };
     other = λ n apart. used_apart (log_of all) IsFull low wide tiles own_full before after how used n
         (λ t is. apart t is.0 is.1)
         ∙ was.other n (λ t is full. let now = full_kept t is full in apart t now.0 full);
@@ -253,19 +295,65 @@ module _ (how : Use) (first before after : Files) (count : ℕ) (edge : RightEdg
   part_wide : (t : TileAt) → IsTileIn log t → t.width ≤ 256
   part_wide t is = width_at_most (length has.entries) t is.exists
 
+  part_there : (t : TileAt) → IsTileIn log t → t.width < 256
+      → Contains (map (λ (x : TileAt × List (List ℕ)). x.0) tiles) t
+  part_there t is part = subst (λ (l : List TileAt). Contains l t)
+      (sym (own (leaves_of sha256 has.entries) has.stands).places)
+      (((partial_of edge.len fits).exactly t).1 (subst (λ n. IsTileOf n t) (sym len) is.exists, part))
+
+  tile_now : (t : TileAt) → IsTileIn log t → after (place_of how (tile_path t)) ≡ Some (tile_bytes log t)
+  tile_now t is = used_there log (IsTileIn log) part_low part_wide tiles own_parts before after how used t is
+      (elim (cases_lt t.width 256) [
+        | inl part ↦ inl (part_there t is part)
+        | inr over ↦ inr (has.tile t is (omega (arith, over, part_wide t is)))
+      ])
+
+  placed_in : (m : ℕ) (t : TileAt) → m ≤ length has.entries → t.level < 8 → IsTileOf m t
+      → IsPlaced (length has.entries) t (filled t.level (length has.entries / 2 ^ (8 * t.level)) t.number)
+  placed_in m t longer level of = placed m (length has.entries) t longer (omega (arith, has.count, most)) level of
+
+  -- what is left of older tiles and bundles
+  older_tile : how ≡ Compare → (m : ℕ) (t : TileAt) (bytes : List ℕ) → m ≤ length has.entries → t.level < 8
+      → IsTileOf m t → first (tile_path t) ≡ Some bytes → bytes ≡ tile_bytes log t
+  older_tile compared m t bytes longer level of there =
+      let newer : TileAt = filled t.level (length has.entries / 2 ^ (8 * t.level)) t.number in
+      let at = placed_in m t longer level of in
+      let is : IsTileIn log newer = record { level = level; exists = at.of } in
+      let used_so = subst (λ (u : Use). AreUsed u tiles before after) compared used in
+      let same : before (tile_path t) ≡ first (tile_path t) =
+      has.outside (tile_path t) (served_not_staged (tile_path t) refl) in
+      ⊎_elim
+      (λ one. bytes_are (first (tile_path t)) bytes (tile_bytes log t) there
+      (sym same ∙ sym (ap (λ (f : Files). f (tile_path t)) used_so.0)
+      ∙ subst (λ (u : Use). after (place_of u (tile_path t)) ≡ Some (tile_bytes log t)) compared
+      (tile_now t (subst (IsTileIn log) (sym one) is))))
+      (λ narrow. elim (cases_lt newer.width 256) [
+        | inl part ↦ own_narrow log before tiles (own (leaves_of sha256 has.entries) has.stands).digests used_so.2 newer
+            (part_there newer is part) t bytes narrow (same ∙ there)
+        | inr full ↦ (has.older compared).tile t newer bytes is (omega (arith, full, part_wide newer is)) narrow there
+      ])
+      (same_or_narrower (length has.entries) t newer at)
+
+  older_bundle : how ≡ Compare → (m : ℕ) (t : TileAt) (bytes : List ℕ) → m ≤ length has.entries → t.level ≡ 0
+      → IsTileOf m t → first (entries_path t) ≡ Some bytes → bytes ≡ bundle_bytes log t
+  older_bundle compared m t bytes longer level of there =
+      let newer : TileAt = filled t.level (length has.entries / 2 ^ (8 * t.level)) t.number in
+      let at = placed_in m t longer (omega (arith, level)) of in
+      let is : IsBundleIn log newer = record { level = level; exists = at.of } in
+      ⊎_elim
+      (λ one. bytes_are (first (entries_path t)) bytes (bundle_bytes log t) there
+      (has.bundle t (subst (IsBundleIn log) (sym one) is)))
+      (λ narrow. (has.older compared).bundle t newer bytes is narrow there)
+      (same_or_narrower (length has.entries) t newer at)
+
   pub all_used : HasUsedAll how first after edge
   all_used = record {
     entries = has.entries;
     short = has.short;
     stands = has.stands;
     bundle = has.bundle;
-    tile = λ t is. used_there log (IsTileIn log) part_low part_wide tiles own_parts before after how used t is
-        (elim (cases_lt t.width 256) [
-          | inl part ↦ inl (subst (λ (l : List TileAt). Contains l t)
-              (sym (own (leaves_of sha256 has.entries) has.stands).places)
-              (((partial_of edge.len fits).exactly t).1 (subst (λ n. IsTileOf n t) (sym len) is.exists, part)))
-          | inr over ↦ inr (has.tile t is (omega (arith, over, part_wide t is)))
-        ]);
+    tile = tile_now;
+    older = λ compared. record { tile = older_tile compared; bundle = older_bundle compared };
     other = λ n apart. used_apart log (IsTileIn log) part_low part_wide tiles own_parts before after how used n apart
         ∙ has.other n (λ t is full. apart t is);
     outside = λ n isnt. used_outside how tiles before after used n isnt ∙ has.outside n isnt;
@@ -287,10 +375,10 @@ said_by entries edge found same stands =
 no_page : (f : File) → Contains [] f → ⊥
 no_page f (k, low, is) = omega arith
 
--- where all tiles were compared, the files have a log with the checkpoint
+-- where all tiles were compared, the files have a log with the checkpoint, and of older ones no other bytes
 pub shown : (files now : Files) (edge : RightEdge) (found : RootAndLength) → now ≡ files
     → ((ds : List (List ℕ)) → StandsFor sha256 edge ds → (found.length ≡ length ds) × (found.root ≡ root_of sha256 ds))
-    → HasUsedAll Compare files now edge → ShowsLog files found
+    → HasUsedAll Compare files now edge → ShowsLogAndOlder files found
 shown files now edge found still same has = (
   log_of has.entries,
   said_by has.entries edge found same has.stands,
@@ -300,4 +388,5 @@ shown files now edge found still same has = (
     bundle = has.bundle;
     page = λ f is. absurd (no_page f is);
   },
+  has.older refl,
 )

@@ -33,3 +33,7 @@ pub record HasOlder (log : LogOf) (files : Files) : Type 0 where
       → files (tile_path t) ≡ Some bytes → bytes ≡ tile_bytes log t
   pub bundle : (n : ℕ) (t : TileAt) (bytes : List ℕ) → n ≤ length log.entries → t.level ≡ 0 → IsTileOf n t
       → files (entries_path t) ≡ Some bytes → bytes ≡ bundle_bytes log t
+
+-- The same of the log's files and of those that are left of older lengths.
+abbrev pub ShowsLogAndOlder : Files → RootAndLength → Type 0
+ShowsLogAndOlder files checkpoint = (log : LogOf) × (checkpoint ≡ checkpoint_said (said_of log)) × AreShort log.entries × HasFiles log files × HasOlder log files

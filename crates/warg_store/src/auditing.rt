@@ -10,12 +10,12 @@ ghost use Rattle.warg_tiles.specs.TilePaths.{tile_path};
 ghost use Rattle.warg_folder.specs.Files.{Files};
 ghost use Rattle.warg_folder.specs.Moments.{Only, IsRead, LeavesOnly, HasCauseOf};
 ghost use Rattle.warg_folder.specs.Commits.{opened, committed, IsStaging, NothingStaged, IsBetween};
-ghost use Rattle.warg_store.specs.Audited.{HasEntries, HasOlder, IsOfEntries, ShowsLog};
+ghost use Rattle.warg_store.specs.Audited.{HasEntries, HasOlder, IsOfEntries, ShowsLog, ShowsLogAndOlder};
 ghost use Rattle.warg_store.specs.Log.{LogOf, HasState};
 ghost use Rattle.warg_store.specs.Opening.{CanBeServed};
 ghost use Rattle.warg_store.specs.Reading.{AreOfLog, bundle_in, checkpoint_said};
 ghost use Rattle.warg_store.specs.Rebuilt.{HasBundlesOf, IsStated, IsRebuilt, IsRebuilding};
-ghost use Rattle.warg_store.specs.Private.Compared.{HasTiles, IsOwnTile, IsWhole};
+ghost use Rattle.warg_store.specs.Private.Compared.{HasTiles, HasNarrower, HasNarrowerBundles, IsOwnTile, IsWhole};
 ghost use Rattle.warg_store.specs.Private.Used.{IsReadyFor, IsUsed, AreUsed, IsEnough, HasUsed, HasUsedAll, IsRemaking};
 ghost use Rattle.warg_store.specs.Refusals.{IsNoFault, IsNoFailure};
 
@@ -54,7 +54,7 @@ pub(crate) fn audited<F: Folder, P: Progress>(
     requires { checkpoint.now.length ≤ GREATEST_LENGTH }
     ensures entries { IfOk result IsOfEntries }
     ensures said { IfOk result (λ found. found ≡ checkpoint.now) }
-    ensures files { F.IsFaithful → IfOk result (ShowsLog (F.seen folder.old)) }
+    ensures files { F.IsFaithful → IfOk result (ShowsLogAndOlder (F.seen folder.old)) }
     ensures whole { F.IsFaithful → (log : LogOf) → AreOfLog log checkpoint.now (F.seen folder.old)
         → HasOlder log (F.seen folder.old) → IfErr result (IsNoFault ⊥) }
     ensures read { F.IsFaithful → IsRead F.seen F.may_leave F.moment F.left_since folder.old folder.new }
@@ -279,6 +279,8 @@ fn use_bundle<F: Folder>(
     number: usize,
     entries: &[Vec<u8>],
 ) -> Result<(), LogError>
+    ensures older { F.IsFaithful → use_as ≡ Use.Compare → OnOk result
+        (HasNarrowerBundles (F.seen folder.old) number (map (λ e. e.items) entries.now)) }
     ensures whole { F.IsFaithful → (kept : LogOf) → IsEnough use_as kept (F.seen folder.old)
         → map (λ e. e.items) entries.now ≡ bundle_in kept number → IfErr result (IsNoFault ⊥) }
     ensures read { F.IsFaithful → IsRead F.seen F.may_leave F.moment F.left_since folder.old folder.new }
@@ -321,6 +323,8 @@ fn compare_tiles<F: Folder>(
 ) -> Result<(), LogError>
     ensures files { F.IsFaithful → OnOk result
         (HasTiles (F.seen folder.old) (map (λ t. (t.tile, t.digests.items)) tiles.now)) }
+    ensures older { F.IsFaithful → OnOk result (AllByRecursion (HasNarrower (F.seen folder.old))
+        (map (λ t. (t.tile, t.digests.items)) tiles.now)) }
     ensures whole { F.IsFaithful → (log : LogOf) → IsWhole log (F.seen folder.old)
         → AllByRecursion (IsOwnTile log) (map (λ t. (t.tile, t.digests.items)) tiles.now)
         → IfErr result (IsNoFault ⊥) }
@@ -343,6 +347,8 @@ fn compare_tile<F: Folder>(
 ) -> Result<(), LogError>
     ensures file { F.IsFaithful → OnOk result (F.seen folder.old (tile_path stored.now.tile)
         ≡ Some (flat_map (λ digest. digest) stored.now.digests.items)) }
+    ensures older { F.IsFaithful → OnOk result
+        (HasNarrower (F.seen folder.old) (stored.now.tile, stored.now.digests.items)) }
     ensures whole { F.IsFaithful → (log : LogOf) → IsWhole log (F.seen folder.old)
         → IsOwnTile log (stored.now.tile, stored.now.digests.items) → IfErr result (IsNoFault ⊥) }
     ensures read { F.IsFaithful → IsRead F.seen F.may_leave F.moment F.left_since folder.old folder.new }

@@ -1,11 +1,12 @@
 //! Older partial tiles and bundles, which stay where a log has grown: each is the beginning of what took its place.
 
-ghost use Rattle.std.specs.Prelude.{◌≡◌, ◌<◌, ◌≤◌, length, map, true, Some, IsSome, IfOk, IfErr, All, string_bytes};
+ghost use Rattle.std.specs.Prelude.{◌≡◌, ◌↔◌, ◌++◌, ◌<◌, ◌≤◌, ℕ, List, length, map, take, codes, true, Some, IsSome, IsTrue, IfOk, IfErr, OnOk, All, Contains, nat_eq, string_bytes};
+ghost use Rattle.std.specs.List.{flat_map, starts_with};
 ghost use Rattle.warg_tiles.specs.EntryBundles.{bundle_of};
 ghost use Rattle.warg_tiles.specs.TilePaths.{tile_path, entries_path};
 ghost use Rattle.warg_store.specs.Audited.{HasOlder};
 ghost use Rattle.warg_store.specs.Log.{LogOf, AreShort, tile_bytes, bundle_bytes};
-ghost use Rattle.warg_store.specs.Private.Compared.{IsOwnTile, IsPartOf};
+ghost use Rattle.warg_store.specs.Private.Compared.{IsOwnTile, IsPartOf, IsBeginning, tile_of, path_beside};
 ghost use Rattle.warg_store.specs.Reading.{bundle_in};
 ghost use Rattle.warg_store.specs.Refusals.{IsNoFault};
 ghost use Rattle.warg_folder.specs.Moments.{IsRead, HasCause, HasCauseOf};
@@ -30,7 +31,10 @@ pub(crate) enum Newer<'a> {
 
 impl Newer<'_> {
     // The path of the full file in its place.
-    fn full_path(&self, alloc: Global) -> Result<String, AllocError> {
+    fn full_path(&self, alloc: Global) -> Result<String, AllocError>
+        ensures { IfOk result (λ path. string_bytes path
+            ≡ path_beside self.now (record (tile_of self.now) { width = 256 })) }
+    {
         match self {
             Newer::Tile(newer) => {
                 Tile::new(newer.tile.level(), newer.tile.number(), 256).path(alloc)
@@ -47,6 +51,7 @@ pub(crate) fn compare_older<F: Folder>(
     folder: &mut F,
     newer: &Newer,
 ) -> Result<(), LogError>
+    ensures older { F.IsFaithful → OnOk result ((name : List ℕ) → IsBeginning newer.now (F.seen folder.old) name) }
     ensures whole { F.IsFaithful → (log : LogOf) → AreShort log.entries → IsPartOf log newer.now
         → HasOlder log (F.seen folder.old) → IfErr result (IsNoFault ⊥) }
     ensures read { F.IsFaithful → IsRead F.seen F.may_leave F.moment F.left_since folder.old folder.new }
@@ -68,6 +73,7 @@ fn compare_named<F: Folder>(
     name: &str,
     newer: &Newer,
 ) -> Result<(), LogError>
+    ensures older { F.IsFaithful → OnOk result (IsBeginning newer.now (F.seen folder.old) name.now) }
     ensures whole { F.IsFaithful → (log : LogOf) → AreShort log.entries → IsPartOf log newer.now
         → HasOlder log (F.seen folder.old) → IsSome (F.seen folder.old name.now) → IfErr result (IsNoFault ⊥) }
     ensures read { F.IsFaithful → IsRead F.seen F.may_leave F.moment F.left_since folder.old folder.new }
@@ -92,8 +98,8 @@ fn compare_named<F: Folder>(
 
 // Whether a tile has fewer digests than another one in its place.
 fn is_older(tile: &Tile, newer: &Tile) -> bool
-    ensures { result ≡ true → (tile.now.level ≡ newer.now.level) × (tile.now.number ≡ newer.now.number)
-        × (tile.now.width < newer.now.width) }
+    ensures { IsTrue result ↔ ((tile.now.level ≡ newer.now.level) × (tile.now.number ≡ newer.now.number)
+        × (tile.now.width < newer.now.width)) }
 {
     tile.level() == newer.level() && tile.number() == newer.number() && tile.width() < newer.width()
 }
@@ -106,6 +112,8 @@ fn compare_older_tile<F: Folder>(
     tile: Tile,
     newer: &StoredTile<Sha256>,
 ) -> Result<(), LogError>
+    ensures file { F.IsFaithful → OnOk result (F.seen folder.old (tile_path tile)
+        ≡ Some (flat_map (λ digest. digest) (take tile.width newer.now.digests.items))) }
     ensures whole { F.IsFaithful → (log : LogOf) → IsOwnTile log (newer.now.tile, newer.now.digests.items)
         → tile.level ≡ newer.now.tile.level → tile.number ≡ newer.now.tile.number → tile.width < newer.now.tile.width
         → F.seen folder.old (tile_path tile) ≡ Some (tile_bytes log tile) → IfErr result (IsNoFault ⊥) }
@@ -131,6 +139,8 @@ fn compare_older_bundle<F: Folder>(
 ) -> Result<(), LogError>
     requires level { tile.now.level ≡ 0 }
     requires less { tile.now.width ≤ length entries.now }
+    ensures file { F.IsFaithful → OnOk result (F.seen folder.old (entries_path tile.now)
+        ≡ Some (bundle_of (take tile.now.width (map (λ e. e.items) entries.now)))) }
     ensures whole { F.IsFaithful → (log : LogOf) → AreShort log.entries
         → map (λ e. e.items) entries.now ≡ bundle_in log tile.now.number
         → F.seen folder.old (entries_path tile.now) ≡ Some (bundle_bytes log tile.now)
@@ -150,6 +160,8 @@ fn compare_older_bundle<F: Folder>(
 fn is_bundle(alloc: Global, bytes: &[u8], entries: &[Vec<u8>]) -> Result<bool, FolderError>
     ensures is { IfOk result (λ is. AreShort (map (λ e. e.items) entries.now)
         → bytes.now ≡ bundle_of (map (λ e. e.items) entries.now) → is ≡ true) }
+    ensures only { IfOk result (λ is. is ≡ true → AreShort (map (λ e. e.items) entries.now)
+        × (bytes.now ≡ bundle_of (map (λ e. e.items) entries.now))) }
     ensures memory { IfErr result (λ error. error ≡ FolderError.Memory) }
 {
     match write_entries(alloc, entries) {
@@ -168,6 +180,9 @@ fn partial_names<F: Folder>(
 ) -> Result<Vec<String>, FolderError>
     ensures there { F.IsFaithful → IfOk result
         (λ names. All (λ name. IsSome (F.seen folder.old (string_bytes name))) names.items) }
+    ensures all { F.IsFaithful → IfOk result (λ names. (n : List ℕ) → IsSome (F.seen folder.old n)
+        → starts_with nat_eq n (string_bytes full ++ codes ".p/") ≡ true
+        → Contains (map (λ name. string_bytes name) names.items) n) }
     ensures read { F.IsFaithful → IsRead F.seen F.may_leave F.moment F.left_since folder.old folder.new }
     ensures cause { HasCause F.IsFaithful (F.faults folder.old) (F.faults folder.new) result }
 {

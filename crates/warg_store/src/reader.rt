@@ -2,7 +2,7 @@
 
 ghost use Rattle.std.specs.Prelude.{◌≡◌, ◌⊎◌, ◌+◌, ◌-◌, ◌*◌, ◌<◌, ◌≤◌, length, map, take, min, Some, None, IsErrAnd, IfOk, IfErr, OnOk, MatchResult, option_map, slice_get};
 ghost use Rattle.warg_tiles.specs.CheckpointText.{Said, text_of};
-ghost use Rattle.warg_store.specs.Audited.{HasOlder, IsOfEntries, ShowsLog};
+ghost use Rattle.warg_store.specs.Audited.{HasOlder, IsOfEntries, ShowsLogAndOlder};
 ghost use Rattle.warg_store.specs.Log.{LogOf, HasLog, Serves, IsOneOf};
 ghost use Rattle.warg_folder.specs.Moments.{IsRead, HasCause, HasCauseOf, HasLostCause};
 ghost use Rattle.warg_folder.specs.Names.{checkpoint, page_name};
@@ -242,7 +242,7 @@ impl<F: Folder + Drop> LogReader<F> {
     pub fn audit<P: Progress>(&mut self, progress: &mut P) -> Result<Checkpoint<Sha256>, LogError>
         ensures entries { IfOk result IsOfEntries }
         ensures served { IfOk result (λ found. found ≡ checkpoint_said self.old.text) }
-        ensures files { F.IsFaithful → IfOk result (ShowsLog (F.seen self.old.folder)) }
+        ensures files { F.IsFaithful → IfOk result (ShowsLogAndOlder (F.seen self.old.folder)) }
         ensures whole { F.IsFaithful → (log : LogOf) → Reads F.seen log self.old
             → HasOlder log (F.seen self.old.folder) → IfErr result (IsNoFault ⊥) }
         ensures same { self.new ≡ record self.old { folder = self.new.folder } }

@@ -11,7 +11,7 @@ ghost use Rattle.warg_tiles.specs.Between.{filled};
 ghost use Rattle.warg_tiles.specs.EntryBundles.{bundle_of};
 ghost use Rattle.warg_tiles.specs.TileData.{digest_by};
 ghost use Rattle.warg_tiles.specs.TilePaths.{entries_path};
-ghost use Rattle.warg_store.specs.Audited.{HasOlder, IsOfEntries, ShowsLog};
+ghost use Rattle.warg_store.specs.Audited.{HasOlder, IsOfEntries, ShowsLogAndOlder};
 ghost use Rattle.warg_store.specs.Growing.{Has};
 ghost use Rattle.warg_store.specs.Log.{LogOf, AreShort, HasFiles};
 ghost use Rattle.warg_folder.specs.Moments.{Within, IsRead, HasCauseOf};
@@ -98,12 +98,12 @@ impl<F: Folder + Drop> LogFolder<F> {
 
     /// Reads every entry that the log keeps, makes each tile again, and compares, also with the partial tiles and bundles of older
     /// lengths that are still there. `Damaged` names the first file that differs. A checkpoint that passes is that of entries:
-    /// those that were read, and the folder has each tile and bundle of them. Where no file differs, it fails only if memory is
-    /// refused or the device fails. It changes nothing.
+    /// those that were read, and the folder has each tile and bundle of them, and of older lengths none with other bytes. Where
+    /// no file differs, it fails only if memory is refused or the device fails. It changes nothing.
     pub fn audit<P: Progress>(&mut self, progress: &mut P) -> Result<Checkpoint<Sha256>, LogError>
         ensures entries { IfOk result IsOfEntries }
         ensures kept { IfOk result (λ found. found ≡ checkpoint_said self.old.text) }
-        ensures files { F.IsFaithful → IfOk result (ShowsLog (F.seen self.old.folder)) }
+        ensures files { F.IsFaithful → IfOk result (ShowsLogAndOlder (F.seen self.old.folder)) }
         ensures whole { F.IsFaithful → (served old next : LogOf) → Has F.seen F.may_leave served old next self.old
             → HasOlder old (F.seen self.old.folder) → IfErr result (IsNoFault ⊥) }
         ensures same { self.new ≡ record self.old { folder = self.new.folder } }

@@ -1,5 +1,6 @@
 -- What becomes of a folder as the tiles over its entries are made again: they are compared, or staged.
 use Rattle.std.specs.Prelude.{◌≡◌, ◌≢◌, ◌⊎◌, ◌^◌, ◌≤◌, ℕ, false, List, length, Some}
+use Rattle.std.specs.List.{AllByRecursion}
 use Rattle.warg_crypto.specs.Digests.{sha256}
 use Rattle.warg_log.specs.Tree.{leaves_of}
 use Rattle.warg_tiles.specs.Tiles.{TileAt}
@@ -11,11 +12,11 @@ use Rattle.warg_folder.specs.Files.{Files}
 use Rattle.warg_folder.specs.Names.{staged, is_staged}
 use Rattle.warg_folder.specs.Moments.{IsRead, LeavesOnly}
 use Rattle.warg_folder.specs.Commits.{IsBeside, IsStaging, IsBetween}
-use Rattle.warg_store.specs.Audited.{log_of}
+use Rattle.warg_store.specs.Audited.{log_of, HasOlder}
 use Rattle.warg_store.specs.Log.{LogOf, AreShort, IsTileIn, tile_bytes}
 use Rattle.warg_store.specs.Rebuilt.{HasBundlesOf, IsRebuilt}
 use Rattle.warg_store.specs.Staged.{staged_all, new_files}
-use Rattle.warg_store.specs.Private.Compared.{HasTiles, IsWhole}
+use Rattle.warg_store.specs.Private.Compared.{HasTiles, HasNarrower, HasOlderBelow, IsWhole}
 use Rattle.warg_store.specs.declared.auditing.Use.{Use}
 use Rattle.warg_store.specs.declared.auditing.Use.TheVariants.{Compare, Stage}
 
@@ -43,7 +44,7 @@ IsUsed Stage seen may_leave moment left_since old new = IsStagedIn seen may_leav
 
 -- Tiles were used: the files have each of them, or each of them was staged.
 abbrev pub AreUsed : Use → Tiles → Files → Files → Type 0
-AreUsed Compare tiles old new = (new ≡ old) × HasTiles old tiles
+AreUsed Compare tiles old new = (new ≡ old) × HasTiles old tiles × AllByRecursion (HasNarrower old) tiles
 AreUsed Stage tiles old new = new ≡ staged_all (new_files 0 tiles) old
 
 -- The files have what a use needs of a log of short entries: each bundle, and where they are compared each tile, and of
@@ -65,6 +66,7 @@ pub record HasUsed (how : Use) (first now : Files) (size : ℕ) (edge : RightEdg
   pub bundle : HasBundlesOf (log_of entries) first
   pub tile : (t : TileAt) → IsTileIn (log_of entries) t → t.width ≡ 256
       → now (place_of how (tile_path t)) ≡ Some (tile_bytes (log_of entries) t)
+  pub older : how ≡ Compare → HasOlderBelow (log_of entries) first
   pub other : (n : List ℕ) → ((t : TileAt) → IsTileIn (log_of entries) t → t.width ≡ 256 → tile_path t ≢ n)
       → now (place_of how n) ≡ first (place_of how n)
   pub outside : (n : List ℕ) → is_staged n ≡ false → now n ≡ first n
@@ -77,6 +79,7 @@ pub record HasUsedAll (how : Use) (first now : Files) (edge : RightEdge) : Type 
   pub bundle : HasBundlesOf (log_of entries) first
   pub tile : (t : TileAt) → IsTileIn (log_of entries) t
       → now (place_of how (tile_path t)) ≡ Some (tile_bytes (log_of entries) t)
+  pub older : how ≡ Compare → HasOlder (log_of entries) first
   pub other : (n : List ℕ) → ((t : TileAt) → IsTileIn (log_of entries) t → tile_path t ≢ n)
       → now (place_of how n) ≡ first (place_of how n)
   pub outside : (n : List ℕ) → is_staged n ≡ false → now n ≡ first n

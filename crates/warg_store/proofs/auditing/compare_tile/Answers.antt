@@ -1,4 +1,7 @@
-use Rattle.std.proofs.Common.{◌≡◌, List, ℕ, true, false, Some, sym, ap, subst, ◌∙◌}
+use Rattle.std.proofs.Common.{◌≡◌, List, ℕ, true, false, Some, refl, sym, ap, subst, ◌∙◌}
+use Rattle.std.proofs.lemmas.Result.{on_ok_weaker}
+use Rattle.warg_tiles.specs.TilePaths.{tile_path}
+use Rattle.warg_folder.specs.Files.{Files}
 use Rattle.std.specs.List.{flat_map}
 use Rattle.warg_folder.proofs.ForCallers.{read_then}
 use Rattle.warg_store.specs.Audited.{HasOlder}
@@ -15,6 +18,12 @@ returns-then-eq-clause-file g c = λ faithful. ok_holds c.compare_older.result _
     same : c.in_ok-found.found.digests.items ≡ c.args.stored.now.digests.items
     same = sym c.as_slice.ensures.value ∙ (digests_decide _ _ _ c.eq.ensures).0 c.if-eq.true
         ∙ c.as_slice-2.ensures.value
+
+pub returns-then-eq-clause-older : goal.returns-then-eq-clause-older
+returns-then-eq-clause-older g c = λ faithful. on_ok_weaker c.compare_older.result
+    (λ older t bytes narrow there. older (tile_path t) t bytes narrow refl
+    (ap (λ (f : Files). f (tile_path t)) (c.read_tile.ensures.read faithful).found ∙ there))
+    (c.compare_older.ensures.older faithful)
 
 pub returns-then-eq-clause-read : goal.returns-then-eq-clause-read
 returns-then-eq-clause-read g c = λ faithful.

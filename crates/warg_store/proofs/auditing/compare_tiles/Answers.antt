@@ -8,29 +8,37 @@ use Rattle.warg_tiles.specs.declared.stored.StoredTile.{StoredTile}
 use Rattle.warg_folder.specs.Files.{Files}
 use Rattle.warg_folder.proofs.ForCallers.{read_then}
 use Rattle.warg_protobuf.proofs.ForCallers.{all_at}
-use Rattle.warg_store.specs.Private.Compared.{IsWhole, IsOwnTile}
+use Rattle.warg_store.specs.Private.Compared.{IsWhole, IsOwnTile, HasNarrower}
 use Rattle.warg_store.specs.Refusals.{IsNoFault}
 use Rattle.warg_store.proofs.ListLemmas.{all_made}
 use Rattle.warg_store.proofs.WholeLemmas.{err_same}
-use Rattle.warg_store.proofs.ComparedLemmas.{tile_more}
+use Rattle.warg_store.proofs.ComparedLemmas.{all_more}
 use Rattle.warg_store.proofs.auditing.compare_tiles.Goals as goal
+
+abbrev with_digests : StoredTile Sha256 Global → TileAt × List (List ℕ)
+with_digests t = (t.tile, t.digests.items)
 
 pub tiles-preserved : goal.tiles-preserved
 tiles-preserved g c = record {
   faults = omega (arith, c.tiles.invariant.faults, c.compare_tile.ensures.cause.later);
   read = λ faithful. read_then _ _ _ _ _ _ _ (g.met.F.Folder.counts_now c.args.folder.now) (c.tiles.invariant.read faithful)
       (c.compare_tile.ensures.read faithful);
-  files = λ faithful. tile_more (λ (t : StoredTile Sha256 Global). (t.tile, t.digests.items))
-      (g.F.Folder.seen c.args.folder.now) c.args.tiles.now c.tiles.tile-index c.tile-item.result (omega arith)
-      c.tile-item.is (c.tiles.invariant.files faithful)
+  files = λ faithful.
+      let first = g.F.Folder.seen c.args.folder.now in
+      all_more (λ (t : TileAt × List (List ℕ)). first (tile_path t.0) ≡ Some (flat_map (λ digest. digest) t.1))
+      with_digests c.args.tiles.now c.tiles.tile-index c.tile-item.result (omega arith) c.tile-item.is
+      (c.tiles.invariant.files faithful)
       (subst (λ (f : Files). f (tile_path c.tile-item.result.tile)
       ≡ Some (flat_map (λ digest. digest) c.tile-item.result.digests.items)) (c.tiles.invariant.read faithful).found
       (c.in_ok-compare_tile.ensures.file faithful));
+  older = λ faithful. all_more (HasNarrower (g.F.Folder.seen c.args.folder.now)) with_digests c.args.tiles.now
+      c.tiles.tile-index c.tile-item.result (omega arith) c.tile-item.is (c.tiles.invariant.older faithful)
+      (subst (λ (f : Files). HasNarrower f (with_digests c.tile-item.result)) (c.tiles.invariant.read faithful).found
+      (c.in_ok-compare_tile.ensures.older faithful));
 }
 
 pub returns-in_err-compare_tile-clause-whole : goal.returns-in_err-compare_tile-clause-whole
 returns-in_err-compare_tile-clause-whole g c = λ faithful log whole own.
-    let with_digests : StoredTile Sha256 Global → TileAt × List (List ℕ) = λ t. (t.tile, t.digests.items) in
     let here : IsOwnTile log (with_digests c.tile-item.result) =
     subst (λ (t : StoredTile Sha256 Global). IsOwnTile log (with_digests t)) (sym c.tile-item.is)
     (all_at (λ t. IsOwnTile log (with_digests t)) c.args.tiles.now c.tiles.tile-index c.tile-item.result

@@ -1,6 +1,7 @@
 use Rattle.std.proofs.Common.{◌≤◌, map, take}
 use Rattle.warg_folder.specs.Moments.{IsRead}
-use Rattle.warg_store.specs.Private.Compared.{HasTiles}
+use Rattle.std.specs.List.{AllByRecursion}
+use Rattle.warg_store.specs.Private.Compared.{HasTiles, HasNarrower}
 use Rattle.warg_store.proofs.auditing.compare_tiles.Given as goal
 
 abbrev pub invariant-tiles : goal.invariant-tiles
@@ -9,5 +10,7 @@ invariant-tiles g l = record {
   read : g.F.Folder.IsFaithful → IsRead g.F.Folder.seen g.F.Folder.may_leave g.F.Folder.moment g.F.Folder.left_since
       l.fn.folder l.folder;
   files : g.F.Folder.IsFaithful → HasTiles (g.F.Folder.seen l.fn.folder)
+      (map (λ t. (t.tile, t.digests.items)) (take l.tile-index l.tiles));
+  older : g.F.Folder.IsFaithful → AllByRecursion (HasNarrower (g.F.Folder.seen l.fn.folder))
       (map (λ t. (t.tile, t.digests.items)) (take l.tile-index l.tiles));
 }

@@ -5,6 +5,7 @@ use Rattle.warg_crypto.specs.declared.hash.Sha256.{Sha256}
 use Rattle.warg_tiles.specs.declared.stored.StoredTile.{StoredTile}
 use Rattle.warg_store.specs.Private.Used.{IsReadyFor, IsUsed, AreUsed}
 use Rattle.warg_store.specs.declared.auditing.Use.{Use}
+use Rattle.warg_store.proofs.AuditLemmas.{ok_and}
 use Rattle.warg_store.proofs.auditing.use_tiles.Goals as goal
 
 pub stage_tiles-requires-clause-staging : goal.stage_tiles-requires-clause-staging
@@ -33,10 +34,11 @@ returns-in_err-stage_tiles-in-Stage-clause-used g c = λ faithful.
 pub returns-in-Compare-clause-tiles : goal.returns-in-Compare-clause-tiles
 returns-in-Compare-clause-tiles g c = λ faithful.
     on_ok_weaker c.compare_tiles.result
-    (λ has. subst (λ (u : Use). AreUsed u
+    (λ both. subst (λ (u : Use). AreUsed u
     (map (λ (t : StoredTile Sha256 Global). (t.tile, t.digests.items)) c.args.tiles.now)
     (g.F.Folder.seen c.args.folder.now) (g.F.Folder.seen c.compare_tiles.new.folder)) (sym c.in-Compare.is)
-    ((c.compare_tiles.ensures.read faithful).found, has)) (c.compare_tiles.ensures.files faithful)
+    ((c.compare_tiles.ensures.read faithful).found, both.0, both.1))
+    (ok_and c.compare_tiles.result _ _ (c.compare_tiles.ensures.files faithful) (c.compare_tiles.ensures.older faithful))
 
 pub returns-in-Compare-clause-used : goal.returns-in-Compare-clause-used
 returns-in-Compare-clause-used g c = λ faithful.

@@ -1,7 +1,10 @@
-use Rattle.std.proofs.Common.{◌≡◌, ◌++◌, List, ℕ, true, false, drop, sym, ap, ◌∙◌}
+use Rattle.std.proofs.Common.{◌≡◌, ◌++◌, List, ℕ, true, false, Some, length, take, drop, sym, ap, ◌∙◌, arith}
+use Rattle.std.specs.List.{flat_map}
+use Rattle.std.proofs.Math.Seq.{take-append_seam}
 use Rattle.std.proofs.lemmas.Slice.Eq.{starts_is}
 use Rattle.warg_crypto.specs.Digests.{sha256}
 use Rattle.warg_log.specs.Tree.{leaves_of}
+use Rattle.warg_tiles.specs.Tiles.{TileAt}
 use Rattle.warg_tiles.specs.TileLog.{tile_digests}
 use Rattle.warg_store.proofs.OlderLemmas.{older_digests}
 use Rattle.warg_store.proofs.ReadLemmas.{digest_decides}
@@ -19,3 +22,24 @@ returns-clause-whole g c = λ faithful log own level number less there.
     let is : c.starts_with.result ≡ true = (starts_is digest_decides c.as_slice.result.now c.as_slice-2.result.now
     c.starts_with.result c.starts_with.ensures.value).1 rest begins in
     absurd (let no : true ≡ false = sym is ∙ c.if-starts_with.false in cc)
+
+pub returns-then-starts_with-clause-file : goal.returns-then-starts_with-clause-file
+returns-then-starts_with-clause-file g c = λ faithful.
+    let older = c.in_ok-older.field-0 in
+    let all = c.as_slice.result.now in
+    let first = c.as_slice-2.result.now in
+    let behind : List (List ℕ) = drop (length first) all in
+    let begins : all ≡ first ++ behind = (starts_is digest_decides all first c.starts_with.result
+    c.starts_with.ensures.value).0 c.if-starts_with.true in
+    let wide : c.args.tile.width ≡ length first = omega (
+      arith,
+      older.count,
+      ap (λ (t : TileAt). t.width) c.in_ok-older.ensures.tile,
+      ap (λ (ds : List (List ℕ)). length ds) c.as_slice-2.ensures.value,
+    ) in
+    let are : take c.args.tile.width c.args.newer.now.digests.items ≡ older.digests.items =
+    ap (λ n. take n c.args.newer.now.digests.items) wide
+    ∙ ap (take (length first)) (sym c.as_slice.ensures.value ∙ begins)
+    ∙ take-append_seam first behind ∙ c.as_slice-2.ensures.value in
+    c.in_ok-older.ensures.file faithful
+    ∙ ap (λ (ds : List (List ℕ)). Some (flat_map (λ digest. digest) ds)) (sym are)
