@@ -32,10 +32,8 @@ push-requires g c = c.entries.invariant.ready
 
 pub returns-in_err-push-clause-any_moment : goal.returns-in_err-push-clause-any_moment
 returns-in_err-push-clause-any_moment g c = λ faithful served old next has.
-    let dev = g.F.Folder in
     let now = c.entries.invariant.pushed faithful served old next has in
-    beside_then dev.seen dev.may_leave dev.moment dev.left_since g.met.F.Folder.counts_now g.met.F.Folder.only_now
-    g.met.F.Folder.seen_may_stay c.args.log.now.folder c.entries.log.folder c.push.new.self.folder
+    beside_then g.F.Folder g.met.F.Folder.counts_now g.met.F.Folder.seen_may_stay
     (c.entries.invariant.moments faithful served old next has) (c.push.ensures.any_moment faithful now.is_open)
 
 pub entries-preserved : goal.entries-preserved
@@ -51,10 +49,8 @@ entries-preserved g c =
       ready = λ faithful. c.push.ensures.ready faithful;
       moments = λ faithful served old next has.
           let now = c.entries.invariant.pushed faithful served old next has in
-          beside_then dev.seen dev.may_leave dev.moment dev.left_since g.met.F.Folder.counts_now
-          g.met.F.Folder.only_now g.met.F.Folder.seen_may_stay c.args.log.now.folder c.entries.log.folder
-          c.push.new.self.folder (c.entries.invariant.moments faithful served old next has)
-          (c.push.ensures.any_moment faithful now.is_open);
+          beside_then dev g.met.F.Folder.counts_now g.met.F.Folder.seen_may_stay
+          (c.entries.invariant.moments faithful served old next has) (c.push.ensures.any_moment faithful now.is_open);
       faults = omega (arith, c.entries.invariant.faults, c.push.ensures.cause.later);
     }
 

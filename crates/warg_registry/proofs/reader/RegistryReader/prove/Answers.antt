@@ -1,6 +1,6 @@
 use Rattle.warg_registry.proofs.Refused.{ok_led, none_led, cause_of_pages}
 use Rattle.warg_registry.proofs.RegistryAudits.{registry_read}
-use Rattle.warg_registry.proofs.Sources.{at_served, with_root, served_read}
+use Rattle.warg_registry.proofs.Sources.{at_served, served_read}
 use Rattle.warg_registry.proofs.reader.RegistryReader.prove.Goals as goal
 
 pub returns-clause-own : goal.returns-clause-own
@@ -23,10 +23,8 @@ returns-clause-same g c =
 
 pub returns-clause-reads : goal.returns-clause-reads
 returns-clause-reads g c = λ faithful origin insertions has.
-    let dev = g.F.Folder in
-    let was = served_read dev c.self.view_is c.forget.ensures c.prove_by_pages-led.ensures.known in
-    registry_read dev.seen dev.may_leave dev.moment dev.left_since origin insertions c.args.self.now
-    (with_root c.prove_by_pages-led.new.pages.log c.self.inside.root) was.same (was.read faithful) has
+    let was = served_read g.F.Folder c.self.view_is c.forget.ensures c.prove_by_pages-led.ensures.known in
+    registry_read g.F.Folder was.same (was.read faithful) origin insertions has
 
 pub returns-clause-cause : goal.returns-clause-cause
 returns-clause-cause g c =

@@ -78,8 +78,7 @@ returns-in_err-replay_bundle-clause-whole g c = λ faithful insertions all has.
     let starts = replayed_length dev.IsFaithful (dev.seen first.log.folder) first.log.text.length c.bundles.replay.log
     c.bundles.replay.last was.replayed.0 (entries_of insertions) (256 * c.bundles.bundle) was.replayed.1
     (was.replayed.2 faithful log has.reads.reads) (omega (arith, all_entries, inside)) in
-    let visited = visited_read dev.seen dev.may_leave dev.moment dev.left_since insertions all first c.bundles.self
-    was.same (was.read faithful) has in
+    let visited = visited_read dev was.same (was.read faithful) insertions all has in
     told_as (IsNoFault ⊥) c.in_err-replay_bundle.field-0.0 c.from_residual.result c.from_residual.ensures.1
     (c.in_err-replay_bundle.ensures.whole faithful insertions all visited inside starts)
 

@@ -105,8 +105,7 @@ returns-in_err-replay_entry-clause-whole g c = λ faithful insertions all has in
     (made_at (λ (e : Vec ℕ Global). e.items) items c.entries.entry-index c.entry-item.result c.entries-test.true
     c.entry-item.is) in
     let place : c.entries.replay.log.len ≡ first + c.entries.entry-index = omega (arith, was.count, starts) in
-    let visited = visited_read dev.seen dev.may_leave dev.moment dev.left_since insertions all c.args.self.now
-    c.entries.self was.same (was.read faithful) has in
+    let visited = visited_read dev was.same (was.read faithful) insertions all has in
     told_as (IsNoFault ⊥) c.in_err-replay_entry.field-0.0 c.from_residual-in_err-replay_entry.result
     c.from_residual-in_err-replay_entry.ensures.1
     (c.in_err-replay_entry.ensures.whole faithful insertions all visited found.0

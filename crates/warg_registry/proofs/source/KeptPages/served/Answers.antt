@@ -23,21 +23,18 @@ returns-in-Ok-clause-served g c = λ faithful known origin insertions read serve
 
 pub returns-in-Ok-clause-read : goal.returns-in-Ok-clause-read
 returns-in-Ok-clause-read g c = λ faithful known read.
-    let dev = g.F.Folder in
-    log_read_then dev.seen dev.may_leave dev.moment dev.left_since g.met.F.Folder.counts_now known c.args.self.now.log
-    c.served.new.self read c.served.ensures.same (c.served.ensures.read faithful)
+    log_read_then g.F.Folder (g.met.F.Folder.counts_now known.folder) read c.served.ensures.same
+    (c.served.ensures.read faithful)
 
 pub returns-in-Err-Log-clause-read : goal.returns-in-Err-Log-clause-read
 returns-in-Err-Log-clause-read g c = λ faithful known read.
-    let dev = g.F.Folder in
-    log_read_then dev.seen dev.may_leave dev.moment dev.left_since g.met.F.Folder.counts_now known c.args.self.now.log
-    c.served.new.self read c.served.ensures.same (c.served.ensures.read faithful)
+    log_read_then g.F.Folder (g.met.F.Folder.counts_now known.folder) read c.served.ensures.same
+    (c.served.ensures.read faithful)
 
 pub returns-clause-read : goal.returns-clause-read
 returns-clause-read g c = λ faithful known read.
-    let dev = g.F.Folder in
-    log_read_then dev.seen dev.may_leave dev.moment dev.left_since g.met.F.Folder.counts_now known c.args.self.now.log
-    c.served.new.self read c.served.ensures.same (c.served.ensures.read faithful)
+    log_read_then g.F.Folder (g.met.F.Folder.counts_now known.folder) read c.served.ensures.same
+    (c.served.ensures.read faithful)
 
 pub returns-in_err-text-clause-whole : goal.returns-in_err-text-clause-whole
 returns-in_err-text-clause-whole g c = λ faithful known origin insertions read serves.
