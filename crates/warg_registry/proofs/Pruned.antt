@@ -1,7 +1,7 @@
 -- The pages that pruning keeps.
 use Rattle.std.proofs.Common.{◌≡◌, ⊎_elim, ◌⊎◌, ℕ, ◌<◌, ◌^◌, Bool, true, false, eqb, ◌&&◌, ◌||◌, List, [], ◌∷◌, ◌++◌, refl, sym, ap, subst, ◌∙◌, inl, inr, append_assoc}
 use Rattle.std.proofs.lemmas.Bool.{or_parts, and_parts}
-use Rattle.std.proofs.lemmas.List.{length-map, map-append}
+use Rattle.std.proofs.lemmas.List.{map-append}
 use Rattle.std.proofs.lemmas.List.Elements.{Contains-append_cases, Contains-append_left, Contains-append_right}
 use Rattle.std.proofs.lemmas.Map.Text.{is_eq-slice_cmp}
 use Rattle.std.proofs.lemmas.Slice.Eq.{bytes_eq-Decides}
@@ -17,7 +17,6 @@ use Rattle.std.specs.declared.cmp.Ordering.{Ordering}
 use Rattle.std.specs.declared.cmp.Ordering.TheVariants.{Less, Equal, Greater}
 use Rattle.warg_crypto.specs.Digests.{sha256, IsDigest}
 use Rattle.warg_crypto.specs.DigestFacts.{IsDigest-sha256}
-use Rattle.warg_map.specs.Sparse.{map_of, sparse_root}
 use Rattle.warg_pages.specs.ChangedPages.{ChangedPageAt, page_at}
 use Rattle.warg_pages.specs.PagePaths.{page_path}
 use Rattle.warg_pages.specs.ProvedKeys.{IsOwnSource}
@@ -31,12 +30,11 @@ use Rattle.warg_store.specs.Log as log
 use Rattle.warg_folder.specs.Names.{page_name}
 use Rattle.warg_store.specs.Pruned.{IsNoneOf}
 use Rattle.warg_registry.specs.Folder.{pages_of, page_read, registry_of}
-use Rattle.warg_registry.specs.Insertions.{entry_of}
 use Rattle.warg_registry.specs.Registry.{line_of}
 use Rattle.warg_registry.specs.Pruning.{bytes_of, ArePathsOf, AreOnlyPathsOf, HaveAllPages, IsPageOf, AreNone, AreAmong}
-use Rattle.warg_registry.proofs.MapLines.{one_root, map_digest}
+use Rattle.warg_registry.proofs.MapLines.{root_of_map}
 use Rattle.warg_registry.proofs.Listed.{none_there, of_one, first_there, later_there, there_cases}
-use Rattle.warg_registry.proofs.RegistryPages.{page_of_list, read_files}
+use Rattle.warg_registry.proofs.RegistryPages.{page_of_list, read_source}
 
 -- a set has what it had, and what was put in
 pub name_there : (cmp : String Global → String Global → Ordering)
@@ -205,12 +203,7 @@ none_of names others es none all = λ n is f there same. none n is (subst (Conta
 -- the pages that are served are those of the insertions that are
 pub served_source : (origin : List ℕ) (served : List (List ℕ × List ℕ)) (files : Files) (root : List ℕ) (count : ℕ)
     (said : Said) → Serves (registry_of origin served) files → said ≡ log.said_of (registry_of origin served)
-    → IsDigest root → said.extensions ≡ line_of root ∷ [] → count ≡ said.length
+    → IsDigest root × (said.extensions ≡ line_of root ∷ []) → count ≡ said.length
     → IsOwnSource sha256 (page_read files) root count served
-served_source origin served files root count said serves is digest lines counts =
-    let map_root = sparse_root sha256 256 (map_of sha256 served) in record {
-      pages = read_files origin served files serves.holds;
-      all = sym (counts ∙ ap (λ (t : Said). t.length) is ∙ length-map served entry_of);
-      is_root = one_root root map_root digest (map_digest (map_of sha256 served))
-          (sym lines ∙ ap (λ (t : Said). t.extensions) is);
-    }
+served_source origin served files root count said serves is found counts =
+    read_source origin served files root count said serves.holds is counts (root_of_map origin root served is found)

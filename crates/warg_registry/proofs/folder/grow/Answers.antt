@@ -4,7 +4,6 @@ use Rattle.std.specs.declared.vec.Vec.{Vec}
 use Rattle.warg_folder.specs.Files.{File}
 use Rattle.warg_store.specs.Log.{LogOf, AreShort, CanBeKept}
 use Rattle.warg_registry.specs.Folder.{with_entries, IsNextLog}
-use Rattle.warg_registry.specs.Publishing.{IsRefusedFor, of_commit}
 use Rattle.warg_registry.proofs.Refused.{told_as, commit_refused}
 use Rattle.warg_registry.specs.Registry.{line_of}
 use Rattle.warg_registry.proofs.RegistryGrowth.{next_has}
@@ -86,8 +85,7 @@ returns-in_err-commit_with-clause-refused g c = λ faithful served old next has 
     let long : Type 0 = AreShort (map (λ (e : Vec ℕ Global). e.items) c.args.entries.now) → ⊥ in
     let full : Type 0 = CanBeKept next → ⊥ in
     let was : c.commit_with.result ≡ Err e = c.in_err-commit_with.was in
-    told_as (IsRefusedFor long full) (of_commit e) c.from_residual-in_err-commit_with.result
-    c.from_residual-in_err-commit_with.ensures.1
+    told_as _ _ _ c.from_residual-in_err-commit_with.ensures.1
     (commit_refused long full e
     (λ same. c.commit_with.ensures.too_long (was ∙ ap Err same) served old next all lines)
     (λ same. true≢false (sym all.is_open ∙ c.commit_with.ensures.closed.0 (was ∙ ap Err same))))

@@ -10,7 +10,6 @@ use Rattle.warg_folder.proofs.ForCallers.{read_is, read_leaves}
 use Rattle.warg_registry.specs.Folder.{with_entries}
 use Rattle.warg_registry.proofs.RegistryGrowth.{pushed_more, no_entries_more}
 use Rattle.warg_registry.proofs.FolderMoments.{beside_then}
-use Rattle.warg_registry.specs.Publishing.{IsRefusedFor, of_push}
 use Rattle.warg_registry.proofs.Refused.{told_as, push_refused, none_long}
 use Rattle.warg_registry.proofs.folder.push_all.Goals as goal
 
@@ -82,7 +81,7 @@ returns-in_err-push-clause-refused g c = λ faithful served old next has.
     let taken = map items (take i entries) in
     let size : length (next.entries ++ taken) ≡ c.entries.log.edge.len =
     sym (length-map (next.entries ++ taken) (λ (e : List ℕ). sha256 (0 ∷ e))) ∙ now.edge.count in
-    told_as (λ e. IsRefusedFor long full (of_push e)) e c.from_residual.result c.from_residual.ensures.1
+    told_as _ _ _ c.from_residual.ensures.1
     (push_refused long full e
     (λ same. none_long items entries i c.entry-item.result (omega arith) c.entry-item.is (omega (
       arith,

@@ -6,8 +6,6 @@ use Rattle.warg_folder.specs.Names.{is_page}
 use Rattle.warg_store.specs.Pruned.{ArePagesNotOf, IsWithoutPages}
 use Rattle.warg_registry.specs.Folder.{registry_of}
 use Rattle.warg_registry.specs.Pruning.{bytes_of}
-use Rattle.warg_store.specs.Refusals.{IsNoFault}
-use Rattle.warg_store.specs.declared.error.LogError.TheVariants as LogError
 use Rattle.warg_registry.proofs.Refused.{told_as}
 use Rattle.warg_registry.proofs.WhilePruned.{looked_at, of_registry}
 use Rattle.warg_registry.proofs.folder.RegistryFolder.prune.Goals as goal
@@ -79,7 +77,7 @@ returns-clause-all g c = λ faithful origin served kept has.
 
 pub returns-in_err-spare-clause-whole : goal.returns-in_err-spare-clause-whole
 returns-in_err-spare-clause-whole g c = λ faithful origin served kept has.
-    told_as (IsNoFault ⊥) c.in_err-spare.field-0.0 c.from_residual.result c.from_residual.ensures.1
+    told_as _ _ _ c.from_residual.ensures.1
     (of_registry g.F.Folder origin served kept c.self.view_is has _
     (c.in_err-spare.ensures.whole faithful))
 
@@ -89,10 +87,8 @@ returns-in_err-pruned-clause-whole g c = λ faithful origin served kept has.
     (g.met.F.Folder.only_now c.args.self.now.log.folder) (c.spare.ensures.read faithful) in
     let S = registry_of origin served in
     let K = registry_of origin kept in
-    told_as (IsNoFault ⊥) c.in_err-pruned.field-0.0 c.from_residual-in_err-pruned.result
-    c.from_residual-in_err-pruned.ensures.1 (c.in_err-pruned.ensures.whole faithful S K K run.at)
+    told_as _ _ _ c.from_residual-in_err-pruned.ensures.1 (c.in_err-pruned.ensures.whole faithful S K K run.at)
 
 pub returns-in_err-remove_pages-clause-whole : goal.returns-in_err-remove_pages-clause-whole
 returns-in_err-remove_pages-clause-whole g c = λ faithful origin served kept has.
-    told_as (IsNoFault ⊥) (LogError.Folder c.in_err-remove_pages.field-0.0) c.from_residual-in_err-remove_pages.result
-    c.from_residual-in_err-remove_pages.ensures.1 tt
+    told_as _ _ _ c.from_residual-in_err-remove_pages.ensures.1 tt

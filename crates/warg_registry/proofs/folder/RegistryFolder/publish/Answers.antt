@@ -132,7 +132,7 @@ returns-in_err-changed-clause-refusal g c = λ faithful origin served kept has.
     let long : Type 0 = AreShort (entries_of more) → ⊥ in
     let full : Type 0 = CanBeKept (registry_of origin (kept ++ more)) → ⊥ in
     let e = c.in_err-changed.field-0.0 in
-    told_as (IsRefusedFor long full) e c.from_residual-in_err-changed.result c.from_residual-in_err-changed.ensures.1
+    told_as _ _ _ c.from_residual-in_err-changed.ensures.1
     (refused_for ⊥ ⊥ long full e (λ n. absurd n) (λ n. absurd n)
     (c.in_err-changed.ensures.whole faithful kept (own_pages g.F.Folder has)))
 

@@ -4,7 +4,6 @@ use Rattle.warg_folder.specs.Files.{Files}
 use Rattle.warg_folder.proofs.ForCallers.{read_then}
 use Rattle.warg_pages.specs.Audits.{AreInPages}
 use Rattle.warg_store.specs.Reading.{checkpoint_said}
-use Rattle.warg_store.specs.Refusals.{IsNoFault}
 use Rattle.warg_tiles.specs.CheckpointText.{Said}
 use Rattle.warg_registry.specs.Auditing.{AreAllInFiles}
 use Rattle.warg_registry.specs.Folder.{registry_of}
@@ -45,7 +44,7 @@ returns-clause-insertions g c = λ faithful.
 
 pub returns-in_err-keys-clause-whole : goal.returns-in_err-keys-clause-whole
 returns-in_err-keys-clause-whole g c = λ faithful origin insertions has.
-    told_as (IsNoFault ⊥) c.in_err-keys.field-0.0 c.from_residual.result c.from_residual.ensures.1
+    told_as _ _ _ c.from_residual.ensures.1
     (c.in_err-keys.ensures.whole faithful origin insertions has)
 
 pub returns-clause-reads : goal.returns-clause-reads
@@ -69,8 +68,7 @@ returns-in_err-replay-clause-whole g c = λ faithful origin insertions has.
     let keys = was.keys faithful in
     let visited = visited_read g.F.Folder was.same (was.read faithful) insertions keys.0
     (record { origin = origin; reads = has; are_all = keys.1 }) in
-    told_as (IsNoFault ⊥) c.in_err-replay.field-0.0 c.from_residual-in_err-replay.result
-    c.from_residual-in_err-replay.ensures.1 (c.in_err-replay.ensures.whole faithful insertions keys.0 visited)
+    told_as _ _ _ c.from_residual-in_err-replay.ensures.1 (c.in_err-replay.ensures.whole faithful insertions keys.0 visited)
 
 pub returns-then-ne-clause-whole : goal.returns-then-ne-clause-whole
 returns-then-ne-clause-whole g c = λ faithful origin insertions has.

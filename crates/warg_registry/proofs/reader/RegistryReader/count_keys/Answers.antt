@@ -1,6 +1,5 @@
 use Rattle.std.proofs.Common.{ℕ, [], List, refl, subst}
 use Rattle.warg_registry.specs.Auditing.{AreAllInFiles}
-use Rattle.warg_store.specs.Refusals.{IsNoFault}
 use Rattle.warg_registry.proofs.Refused.{told_as, told_by, none_led, cause_of_pages}
 use Rattle.warg_registry.proofs.Sources.{at_served, served_read}
 use Rattle.warg_registry.proofs.reader.RegistryReader.count_keys.Goals as goal
@@ -18,7 +17,7 @@ returns-clause-keys g c = λ faithful.
 pub returns-in_err-or_refusal-clause-whole : goal.returns-in_err-or_refusal-clause-whole
 returns-in_err-or_refusal-clause-whole g c = λ faithful origin insertions has.
     let was = served_read g.F.Folder c.self.view_is c.forget.ensures c.visit_pages-led.ensures.known in
-    told_as (IsNoFault ⊥) c.in_err-or_refusal.field-0.0 c.from_residual.result c.from_residual.ensures.1
+    told_as _ _ _ c.from_residual.ensures.1
     (c.in_err-or_refusal.ensures.whole (none_led _ c.visit_pages-led.ensures.refused (λ refused.
     refused (at_served g.F.Folder c.args.self.now.log) insertions (was.known faithful)
     (was.own origin insertions c.version-version.result c.version-version.ensures has))))

@@ -3,7 +3,6 @@ use Rattle.std.proofs.Math.Seq.{take-add}
 use Rattle.std.proofs.lemmas.List.{map-append, length-map, take_all}
 use Rattle.warg_folder.proofs.ForCallers.{read_is, read_then}
 use Rattle.warg_log.specs.Claims.{RootAndLength}
-use Rattle.warg_store.specs.Refusals.{IsNoFault}
 use Rattle.warg_tiles.specs.CheckpointText.{Said}
 use Rattle.warg_registry.specs.Folder.{registry_of}
 use Rattle.warg_registry.specs.Insertions.{entry_of, entries_of}
@@ -79,7 +78,7 @@ returns-in_err-replay_bundle-clause-whole g c = λ faithful insertions all has.
     c.bundles.replay.last was.replayed.0 (entries_of insertions) (256 * c.bundles.bundle) was.replayed.1
     (was.replayed.2 faithful log has.reads.reads) (omega (arith, all_entries, inside)) in
     let visited = visited_read dev was.same (was.read faithful) insertions all has in
-    told_as (IsNoFault ⊥) c.in_err-replay_bundle.field-0.0 c.from_residual.result c.from_residual.ensures.1
+    told_as _ _ _ c.from_residual.ensures.1
     (c.in_err-replay_bundle.ensures.whole faithful insertions all visited inside starts)
 
 pub returns-clause-replayed : goal.returns-clause-replayed

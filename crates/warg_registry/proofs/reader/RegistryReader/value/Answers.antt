@@ -2,7 +2,6 @@ use Rattle.std.proofs.Common.{◌≡◌, ℕ, ◌<◌, ◌≤◌, ◌^◌, List,
 use Rattle.std.specs.Prelude.{slice_get}
 use Rattle.warg_crypto.specs.Digests.{sha256}
 use Rattle.warg_store.specs.Reading.{IsShown, checkpoint_said}
-use Rattle.warg_store.specs.Refusals.{IsNoFault}
 use Rattle.warg_registry.specs.Insertions.{entries_of}
 use Rattle.warg_registry.specs.Reading.{IsOfEntry, IsLogged}
 use Rattle.warg_registry.proofs.FoundKeys as found
@@ -53,7 +52,7 @@ returns-clause-whole g c = λ faithful origin insertions has own held.
 pub returns-in_err-entry-clause-whole : goal.returns-in_err-entry-clause-whole
 returns-in_err-entry-clause-whole g c = λ faithful origin insertions has own held.
     let within = held_within sha256 insertions c.args.key.now c.args.leaf.now c.args.index held.place held.held in
-    told_as (IsNoFault ⊥) c.in_err-entry.field-0.0 c.from_residual.result c.from_residual.ensures.1
+    told_as _ _ _ c.from_residual.ensures.1
     (not_beyond (length (entries_of insertions) ≤ c.args.index) c.in_err-entry.field-0.0 (λ past. omega arith)
     (c.in_err-entry.ensures.whole faithful origin insertions has))
 
