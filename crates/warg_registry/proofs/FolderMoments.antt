@@ -1,4 +1,4 @@
--- What stands at each moment while a registry grows: files that are read, staged and committed, one run after the other.
+-- What stands at each moment while a registry grows: files are read, staged and committed, one run after the other.
 use Rattle.std.proofs.Common.{◌≡◌, ℕ, ◌≤◌, ap, subst, ◌∙◌}
 use Rattle.warg_folder.specs.Files.{Files}
 use Rattle.warg_folder.specs.Moments.{IsRead, LeavesOnly}
@@ -27,8 +27,8 @@ module _ {F : Type 0} (dev : Ghosts F) where
       → Logs known mid → new ≡ record mid { folder = new.folder } → Reads mid.folder new.folder → Logs known new
   log_read_then {known = known} {mid = mid} {new = new} counts read same then = record {
     same = same ∙ ap (λ (l : LogIn F). record l { folder = new.folder }) read.same;
-    read = read_then dev.seen dev.may_leave dev.moment dev.left_since known.folder mid.folder new.folder counts read.read
-        then;
+    read = read_then dev.seen dev.may_leave dev.moment dev.left_since known.folder mid.folder new.folder counts
+        read.read then;
   }
 
   -- a run that stages, and nothing behind it
@@ -36,8 +36,8 @@ module _ {F : Type 0} (dev : Ghosts F) where
       → Leaves first last (IsBeside (dev.seen first))
       → Leaves first last (IsCommitting served old next (dev.seen first))
   staged_only {served = S} {old = K} {next = N} {first = first} {last = last} keeps run =
-      leaves_weaker dev.moment dev.left_since first last (IsBeside (dev.seen first)) (IsCommitting S K N (dev.seen first))
-      run (λ c was. beside_committing S K N (dev.seen first) c keeps was)
+      leaves_weaker dev.moment dev.left_since first last (IsBeside (dev.seen first))
+      (IsCommitting S K N (dev.seen first)) run (λ c was. beside_committing S K N (dev.seen first) c keeps was)
 
   -- a run that only reads
   module _ {served old next : LogOf} {first : F}
@@ -74,7 +74,8 @@ module _ {F : Type 0} (dev : Ghosts F) where
     beside_now = run.each (dev.seen mid) (counts mid (dev.moment first) (dev.seen mid) run.later (stays mid))
 
     -- a run that stages behind another
-    pub beside_then : {last : F} → Leaves mid last (IsBeside (dev.seen mid)) → Leaves first last (IsBeside (dev.seen first))
+    pub beside_then : {last : F} → Leaves mid last (IsBeside (dev.seen mid))
+        → Leaves first last (IsBeside (dev.seen first))
     beside_then {last = last} more = leaves_then dev.moment dev.left_since first mid last (IsBeside (dev.seen first))
         (IsBeside (dev.seen mid)) (IsBeside (dev.seen first)) run more (λ c was. was) (λ c was. record {
           outside = λ n isnt. was.outside n isnt ∙ beside_now.outside n isnt;

@@ -34,7 +34,8 @@ module _ {F : Type 0} (dev : Ghosts F) {origin : List ℕ} {served kept : List (
 
   -- reading them changes nothing
   pub read_has : {mid : LogIn F} → Logs old.log mid → Has dev.seen dev.may_leave (Log served) (Log kept) (Log kept) mid
-  read_has {mid = mid} read = has_read dev.seen dev.may_leave dev.moment dev.left_since (Log served) (Log kept) (Log kept)
+  read_has {mid = mid} read = has_read dev.seen dev.may_leave dev.moment dev.left_since (Log served) (Log kept)
+      (Log kept)
       old.log mid read.same read.read has.log
 
   -- where there is no insertion, all is as it was

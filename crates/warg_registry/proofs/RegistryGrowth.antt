@@ -184,7 +184,8 @@ pushed_more f log xs i x entry lt at is =
 -- one page more of those that are put
 pub put_more : (log : LogOf) (changed : List ChangedPageAt) (i : ℕ) (c : ChangedPageAt) → i < length changed
     → c ≡ get_or changed i c
-    → with_pages log (files_of (take (i + 1) changed)) ≡ with_page (with_pages log (files_of (take i changed))) (file_of c)
+    → with_pages log (files_of (take (i + 1) changed))
+    ≡ with_page (with_pages log (files_of (take i changed))) (file_of c)
 put_more log changed i c lt at =
     ap (λ l. with_pages log (files_of l)) (take_more changed i c lt)
     ∙ ap (λ l. with_pages log l) (map-append file_of (take i changed) (get_or changed i c ∷ []))
@@ -219,7 +220,8 @@ empty_registry origin root lines is says = ap (λ (l : List (List ℕ)). no_entr
     (says ∙ ap (λ r. line_of r ∷ []) (no_insertions_root root is))
 
 -- the log with these entries and pages more is the next one
-pub next_has : {F : Type 0} (dev : Ghosts F) {served old next : LogOf} {l : LogIn F} {es : List (List ℕ)} {fs : List File}
+pub next_has : {F : Type 0} (dev : Ghosts F) {served old next : LogOf} {l : LogIn F} {es : List (List ℕ)}
+    {fs : List File}
     {root : List ℕ} → IsNextLog old next es fs root
     → Has dev.seen dev.may_leave served old (with_pages (with_entries old es) fs) l
     → Has dev.seen dev.may_leave served old next l

@@ -80,8 +80,8 @@ module _ {F : Type 0} (dev : Ghosts F) where
   }
 
   -- So it is of a registry that is added to, whose map stays what it is.
-  pub record AreFolderRead (r : RegistryIn F) (old new : LogIn F) (root : List ℕ) (count : ℕ) (was is : Option ReadFault)
-      : Type 0 where
+  pub record AreFolderRead (r : RegistryIn F) (old new : LogIn F) (root : List ℕ) (count : ℕ)
+      (was is : Option ReadFault) : Type 0 where
     pub known : dev.IsFaithful → IsKnownKept (at_kept r.log r.log) old was
     pub own : (kept : List (List ℕ × List ℕ))
         → IsOwnSource sha256 (page_read (dev.seen r.log.folder)) r.root r.count kept
@@ -119,7 +119,8 @@ module _ {F : Type 0} (dev : Ghosts F) where
   served_read {old = old} {new = new} {root = root} {was = was} {is = is} view none known =
       subst (λ (x : RegistryRead F). AreServedRead x (with_root new root) old was is) view (record {
         known = here;
-        own = λ origin insertions count counts has. read_source origin insertions (dev.seen old.folder) root count old.text
+        own = λ origin insertions count counts has. read_source origin insertions (dev.seen old.folder) root count
+            old.text
             has.reads.files has.reads.text counts has.is_root;
         same = (refl, ap (λ (l : ServedIn F). l.text) any.0);
         read = λ faithful. ((known (at_served old) (here faithful)).1 refl).1;

@@ -55,8 +55,8 @@ module _ {F : Type 0} (dev : Ghosts F) (origin : List ℕ) (served kept : List (
       (IsOneOf Served Kept Kept) (IsOneOf Served Kept Kept) (IsOneOf Served Kept Kept) run more
       (λ c was. was) (λ c was. was)
 
-  -- The log is as it was once its pages were looked at; the registry is served at each moment, also while the log is pruned
-  -- and pages are removed that no state needs; and each page that is left then is needed.
+  -- The log is as it was once its pages were looked at; the registry is served at each moment, also while the log is
+  -- pruned and pages are removed that no state needs; and each page that is left then is needed.
   pub record IsPruning (r : RegistryIn F) (old mid : LogIn F) (takes : Bool) (root : List ℕ) (count : ℕ) : Type 0 where
     pub at : Has dev.seen dev.may_leave Served Kept Kept mid
     pub has : (l : LogIn F) → Has dev.seen dev.may_leave Served Kept Kept l → Stands (with_map l takes root count)
@@ -64,7 +64,8 @@ module _ {F : Type 0} (dev : Ghosts F) (origin : List ℕ) (served kept : List (
     pub pruning : (pruned : LogIn F) → RunsFrom mid pruned → RunsFrom r.log pruned
     pub removing : (pruned new : LogIn F) → RunsFrom mid pruned → RunsFrom pruned new → RunsFrom r.log new
     pub none : (names : List (List ℕ))
-        → OfPages dev old root count (λ known these those. IsNoneOf names (pages_of these) × IsNoneOf names (pages_of those))
+        → OfPages dev old root count
+        (λ known these those. IsNoneOf names (pages_of these) × IsNoneOf names (pages_of those))
         → ArePagesNotOf names Served Kept Kept
     pub remaining : (pruned new : LogIn F) (names : List (String Global))
         → IsPruned (length Kept.entries) (length Served.entries) (dev.seen mid.folder) (dev.seen pruned.folder)
@@ -81,7 +82,8 @@ module _ {F : Type 0} (dev : Ghosts F) (origin : List ℕ) (served kept : List (
     -- what is said of each log that serves and keeps a registry with this root is said of it
     pub of_registry : (Said : LogIn F → List (List ℕ × List ℕ) → List (List ℕ × List ℕ) → Type 0)
         → OfPages dev old root count Said → Said old served kept
-    of_registry Said said = said old origin served kept (log_is_read dev old) inside.log.keeps.serves (own_pages dev inside)
+    of_registry Said said =
+        said old origin served kept (log_is_read dev old) inside.log.keeps.serves (own_pages dev inside)
 
     pub looked_at : {mid : LogIn F}
         → ((c : Files) → dev.left_since r.log.folder (dev.moment r.log.folder) c → dev.may_leave r.log.folder c)

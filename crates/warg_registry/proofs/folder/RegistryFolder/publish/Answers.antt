@@ -103,7 +103,8 @@ returns-clause-published g c = λ faithful origin served kept has.
     let K = registry_of origin kept in
     let N = registry_of origin (kept ++ passed insertions) in
     let counts = ap (λ (r : RegistryIn g.row.F.Denot). r.count) c.self-2.view_is ∙ c.in_ok-changed.ensures.count in
-    published dev has (passed insertions) grown.is_root (c.in_ok-grow.ensures.grown faithful S K N grown.at grown.next grown.fresh)
+    published dev has (passed insertions) grown.is_root
+    (c.in_ok-grow.ensures.grown faithful S K N grown.at grown.next grown.fresh)
     (omega (arith, counts, passed_length insertions))
 
 pub returns-clause-any_moment : goal.returns-clause-any_moment

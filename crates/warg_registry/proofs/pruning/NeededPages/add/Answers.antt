@@ -20,7 +20,8 @@ returns-clause-cause g c =
     cause_of_pages was.done.told c.or_refusal.ensures.cause
 
 pub returns-clause-added : goal.returns-clause-added
-returns-clause-added g c = ok_led _ _ c.or_refusal.ensures.led c.visit_pages-led.ensures.seen (λ found seen before named only.
+returns-clause-added g c =
+    ok_led _ _ c.or_refusal.ensures.led c.visit_pages-led.ensures.seen (λ found seen before named only.
     let was = kept_anew g.F.Folder c.forget.ensures c.visit_pages-led.ensures.known in
     let led = seen before (named, only) in (
       led.0,
@@ -29,7 +30,8 @@ returns-clause-added g c = ok_led _ _ c.or_refusal.ensures.led c.visit_pages-led
       λ faithful known es read own.
           let files = g.F.Folder.seen known.folder in
           let all = led.2 (at_kept g.F.Folder known c.args.pages.now.log) (was.known faithful known read) in (
-            λ names have. all_named _ files (true ≡ true) c.args.root.now c.args.version es led.0 names c.ranges.version.fits
+            λ names have. all_named _ files (true ≡ true) c.args.root.now c.args.version es led.0 names
+                c.ranges.version.fits
                 own all (λ p there. have p (Contains-append_right before led.0 p there)),
             own_named _ files (true ≡ true) c.args.root.now c.args.version es led.0 c.ranges.version.fits own all,
           ),

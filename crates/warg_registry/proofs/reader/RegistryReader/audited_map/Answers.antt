@@ -68,7 +68,8 @@ returns-in_err-replay-clause-whole g c = λ faithful origin insertions has.
     let keys = was.keys faithful in
     let visited = visited_read g.F.Folder was.same (was.read faithful) insertions keys.0
     (record { origin = origin; reads = has; are_all = keys.1 }) in
-    told_as _ _ _ c.from_residual-in_err-replay.ensures.1 (c.in_err-replay.ensures.whole faithful insertions keys.0 visited)
+    told_as _ _ _ c.from_residual-in_err-replay.ensures.1
+    (c.in_err-replay.ensures.whole faithful insertions keys.0 visited)
 
 pub returns-then-ne-clause-whole : goal.returns-then-ne-clause-whole
 returns-then-ne-clause-whole g c = λ faithful origin insertions has.

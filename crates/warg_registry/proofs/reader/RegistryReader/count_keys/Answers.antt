@@ -12,7 +12,8 @@ returns-clause-keys g c = λ faithful.
     let led = seen [] refl in
     let P : ℕ → Type 0 = λ n. AreAllInFiles (g.F.Folder.seen log.folder) c.args.self.now.root n led.0 in
     let Q : List ℕ → Type 0 = λ r. AreAllInFiles (g.F.Folder.seen log.folder) r c.version-version.result led.0 in
-    (led.0, subst P c.version-version.ensures (subst Q was.same.0 (led.2 (at_served g.F.Folder log) (was.known faithful))), led.1)
+    let all = led.2 (at_served g.F.Folder log) (was.known faithful) in
+    (led.0, subst P c.version-version.ensures (subst Q was.same.0 all), led.1)
 
 pub returns-in_err-or_refusal-clause-whole : goal.returns-in_err-or_refusal-clause-whole
 returns-in_err-or_refusal-clause-whole g c = λ faithful origin insertions has.

@@ -18,8 +18,9 @@ still_serves dev {log = log} read serves = subst (λ (f : Files). Serves log f) 
 
 pub returns-in-Ok-clause-served : goal.returns-in-Ok-clause-served
 returns-in-Ok-clause-served g c = λ faithful known origin insertions read serves.
-    let said = c.in_ok-text.ensures.said faithful (registry_of origin insertions) (still_serves g.F.Folder read serves) in
-    served_source origin insertions (g.F.Folder.seen known.folder) c.in-Ok.root c.length-version.result c.in_ok-text.text
+    let dev = g.F.Folder in
+    let said = c.in_ok-text.ensures.said faithful (registry_of origin insertions) (still_serves dev read serves) in
+    served_source origin insertions (dev.seen known.folder) c.in-Ok.root c.length-version.result c.in_ok-text.text
     serves said c.in-Ok.ensures.ok (c.length-version.ensures ∙ c.checkpoint.ensures.length)
 
 pub returns-in-Ok-clause-read : goal.returns-in-Ok-clause-read
@@ -44,10 +45,12 @@ returns-in_err-text-clause-whole g c = λ faithful known origin insertions read 
 
 pub returns-in-Err-Log-clause-whole : goal.returns-in-Err-Log-clause-whole
 returns-in-Err-Log-clause-whole g c = λ faithful known origin insertions read serves.
-    let said = c.in_ok-text.ensures.said faithful (registry_of origin insertions) (still_serves g.F.Folder read serves) in
+    let still = still_serves g.F.Folder read serves in
+    let said = c.in_ok-text.ensures.said faithful (registry_of origin insertions) still in
     subst NoFault c.in-Err-Log.field-0-is (own_root origin insertions said c.in-Err-Log.ensures.err)
 
 pub returns-clause-whole : goal.returns-clause-whole
 returns-clause-whole g c = λ faithful known origin insertions read serves.
-    let said = c.in_ok-text.ensures.said faithful (registry_of origin insertions) (still_serves g.F.Folder read serves) in
+    let still = still_serves g.F.Folder read serves in
+    let said = c.in_ok-text.ensures.said faithful (registry_of origin insertions) still in
     absurd (subst NoFault c.in-Err-NoMap.field-0-is (own_root origin insertions said c.in-Err-NoMap.ensures.err))

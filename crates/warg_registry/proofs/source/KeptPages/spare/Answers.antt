@@ -15,8 +15,10 @@ returns-clause-spare g c = λ faithful known origin served kept read serves own.
 pub returns-clause-all : goal.returns-clause-all
 returns-clause-all g c = λ faithful known origin served kept read serves own n page there.
     let needed = c.in_ok-needed.ensures.needed faithful known origin served kept read serves own in
-    let listed = c.in_ok-names.ensures.all faithful known (c.in_ok-needed.ensures.read faithful known read) n page there in
-    ⊎_elim (λ spare. inl spare) (λ key. ⊎_elim (λ these. inr (inl these)) (λ those. inr (inr those)) (needed.only n key))
+    let listed = c.in_ok-names.ensures.all faithful known
+    (c.in_ok-needed.ensures.read faithful known read) n page there in
+    ⊎_elim (λ spare. inl spare)
+    (λ key. ⊎_elim (λ these. inr (inl these)) (λ those. inr (inr those)) (needed.only n key))
     (c.in_ok-others.ensures.all n listed)
 
 pub returns-in_err-needed-clause-whole : goal.returns-in_err-needed-clause-whole
