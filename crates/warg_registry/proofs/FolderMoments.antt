@@ -1,92 +1,93 @@
--- What stands at each moment while a registry grows: files that are read, staged and committed, one run after the other.
+-- What stands at each moment while a registry grows: files are read, staged and committed, one run after the other.
 use Rattle.std.proofs.Common.{◌≡◌, ℕ, ◌≤◌, ap, subst, ◌∙◌}
 use Rattle.warg_folder.specs.Files.{Files}
-use Rattle.warg_store.specs.Growing.{LogIn}
-use Rattle.warg_store.specs.Log.{LogOf, Keeps, IsOneOf, IsCommitting}
 use Rattle.warg_folder.specs.Moments.{IsRead, LeavesOnly}
 use Rattle.warg_folder.specs.Commits.{IsBeside, IsStaging}
-use Rattle.warg_registry.specs.Folder.{IsLogRead}
-use Rattle.warg_folder.proofs.ForCallers.{read_then, read_leaves, leaves_then, leaves_weaker}
+use Rattle.warg_folder.specs.declared.device.Folder.{Ghosts}
+use Rattle.warg_folder.proofs.ForCallers.{read_is, read_then, read_leaves, leaves_then, leaves_weaker}
+use Rattle.warg_store.specs.Growing.{LogIn}
+use Rattle.warg_store.specs.Log.{LogOf, Keeps, IsOneOf, IsCommitting}
 use Rattle.warg_store.proofs.ForCallers.{beside_committing, committing_then}
+use Rattle.warg_registry.specs.Folder.{IsLogRead}
 
-module _ {F : Type 0} (seen : F → Files) (may_leave : F → Files → Type 0) (moment : F → ℕ)
-    (left_since : F → ℕ → Files → Type 0)
-    (counts : (folder : F) (t : ℕ) (c : Files) → t ≤ moment folder → may_leave folder c → left_since folder t c)
-    (now : (folder : F) (c : Files) → left_since folder (moment folder) c → may_leave folder c)
-    (stays : (folder : F) → may_leave folder (seen folder)) where
-  -- what a run that stages leaves for a reader
-  beside_now : (old mid : F) → LeavesOnly moment left_since old mid (IsBeside (seen old)) → IsBeside (seen old) (seen mid)
-  beside_now old mid run = run.each (seen mid) (counts mid (moment old) (seen mid) run.later (stays mid))
+module _ {F : Type 0} (dev : Ghosts F) where
+  abbrev Leaves : F → F → (Files → Type 0) → Type 0
+  Leaves old new P = LeavesOnly dev.moment dev.left_since old new P
 
-  -- a run that stages behind another
-  pub beside_then : (old mid new : F) → LeavesOnly moment left_since old mid (IsBeside (seen old))
-      → LeavesOnly moment left_since mid new (IsBeside (seen mid))
-      → LeavesOnly moment left_since old new (IsBeside (seen old))
-  beside_then old mid new one two =
-      let here = beside_now old mid one in
-      leaves_then moment left_since old mid new (IsBeside (seen old)) (IsBeside (seen mid)) (IsBeside (seen old)) one
-      two (λ c was. was) (λ c was. record {
-        outside = λ n isnt. was.outside n isnt ∙ here.outside n isnt;
-        no_mark = was.no_mark;
-      })
+  abbrev Reads : F → F → Type 0
+  Reads old new = IsRead dev.seen dev.may_leave dev.moment dev.left_since old new
 
-  module _ (served old next : LogOf) where
-    -- a run that stages, and nothing behind it
-    pub staged_only : (first last : F) → Keeps served old (seen first)
-        → LeavesOnly moment left_since first last (IsBeside (seen first))
-        → LeavesOnly moment left_since first last (IsCommitting served old next (seen first))
-    staged_only first last keeps run = leaves_weaker moment left_since first last (IsBeside (seen first))
-        (IsCommitting served old next (seen first)) run
-        (λ c was. beside_committing served old next (seen first) c keeps was)
+  abbrev Logs : LogIn F → LogIn F → Type 0
+  Logs old new = IsLogRead dev.seen dev.may_leave dev.moment dev.left_since old new
 
-    -- a commit behind a run that stages
-    pub commit_then : (first mid last : F) → Keeps served old (seen first)
-        → LeavesOnly moment left_since first mid (IsBeside (seen first))
-        → LeavesOnly moment left_since mid last (IsCommitting served old next (seen mid))
-        → LeavesOnly moment left_since first last (IsCommitting served old next (seen first))
-    commit_then first mid last keeps run commit =
-        let here = beside_now first mid run in
-        leaves_then moment left_since first mid last (IsBeside (seen first)) (IsCommitting served old next (seen mid))
-        (IsCommitting served old next (seen first)) run commit
-        (λ c was. beside_committing served old next (seen first) c keeps was)
-        (λ c was. committing_then served old next (seen first) (seen mid) c here was)
+  -- a log that is only read goes on so
+  pub log_read_then : {known mid new : LogIn F}
+      → ((t : ℕ) (c : Files) → t ≤ dev.moment known.folder → dev.may_leave known.folder c
+      → dev.left_since known.folder t c)
+      → Logs known mid → new ≡ record mid { folder = new.folder } → Reads mid.folder new.folder → Logs known new
+  log_read_then {known = known} {mid = mid} {new = new} counts read same then = record {
+    same = same ∙ ap (λ (l : LogIn F). record l { folder = new.folder }) read.same;
+    read = read_then dev.seen dev.may_leave dev.moment dev.left_since known.folder mid.folder new.folder counts
+        read.read then;
+  }
 
-    -- a run that only reads
-    pub read_only : (first last : F) → Keeps served old (seen first) → IsStaging (seen first) (may_leave first)
-        → IsRead seen may_leave moment left_since first last
-        → LeavesOnly moment left_since first last (IsCommitting served old next (seen first))
-    read_only first last keeps staging read = read_leaves seen may_leave moment left_since first last
-        (IsCommitting served old next (seen first)) (now first)
-        (λ c left. beside_committing served old next (seen first) c keeps (staging c left)) read
+  -- a run that stages, and nothing behind it
+  pub staged_only : {served old next : LogOf} {first last : F} → Keeps served old (dev.seen first)
+      → Leaves first last (IsBeside (dev.seen first))
+      → Leaves first last (IsCommitting served old next (dev.seen first))
+  staged_only {served = S} {old = K} {next = N} {first = first} {last = last} keeps run =
+      leaves_weaker dev.moment dev.left_since first last (IsBeside (dev.seen first))
+      (IsCommitting S K N (dev.seen first)) run (λ c was. beside_committing S K N (dev.seen first) c keeps was)
+
+  -- a run that only reads
+  module _ {served old next : LogOf} {first : F}
+      (now : (c : Files) → dev.left_since first (dev.moment first) c → dev.may_leave first c)
+      (keeps : Keeps served old (dev.seen first)) (staging : IsStaging (dev.seen first) (dev.may_leave first)) where
+    pub read_only : {last : F} → Reads first last → Leaves first last (IsCommitting served old next (dev.seen first))
+    read_only {last = last} read = read_leaves dev.seen dev.may_leave dev.moment dev.left_since first last
+        (IsCommitting served old next (dev.seen first)) now
+        (λ c left. beside_committing served old next (dev.seen first) c keeps (staging c left)) read
+
+    pub nothing_done : Leaves first first (IsCommitting served old next (dev.seen first))
+    nothing_done = read_only (read_is dev.seen dev.may_leave dev.moment dev.left_since first)
 
     -- what it leaves is one of both
-    pub one_read : (first last : F) → Keeps served old (seen first) → IsStaging (seen first) (may_leave first)
-        → IsRead seen may_leave moment left_since first last
-        → LeavesOnly moment left_since first last (IsOneOf served old next)
-    one_read first last keeps staging read = leaves_weaker moment left_since first last
-        (IsCommitting served old next (seen first)) (IsOneOf served old next) (read_only first last keeps staging read)
-        (λ c was. was.one)
+    pub one_read : {last : F} → Reads first last → Leaves first last (IsOneOf served old next)
+    one_read {last = last} read = leaves_weaker dev.moment dev.left_since first last
+        (IsCommitting served old next (dev.seen first)) (IsOneOf served old next) (read_only read) (λ c was. was.one)
 
     -- and a commit behind it
-    pub read_then_commit : (first mid last : F) → Keeps served old (seen first)
-        → IsStaging (seen first) (may_leave first) → IsRead seen may_leave moment left_since first mid
-        → LeavesOnly moment left_since mid last (IsCommitting served old next (seen mid))
-        → LeavesOnly moment left_since first last (IsCommitting served old next (seen first))
-    read_then_commit first mid last keeps staging read commit =
-        leaves_then moment left_since first mid last (IsCommitting served old next (seen first))
-        (IsCommitting served old next (seen mid)) (IsCommitting served old next (seen first))
-        (read_only first mid keeps staging read) commit (λ c was. was)
+    pub read_then_commit : {mid last : F} → Reads first mid
+        → Leaves mid last (IsCommitting served old next (dev.seen mid))
+        → Leaves first last (IsCommitting served old next (dev.seen first))
+    read_then_commit {mid = mid} {last = last} read commit =
+        leaves_then dev.moment dev.left_since first mid last (IsCommitting served old next (dev.seen first))
+        (IsCommitting served old next (dev.seen mid)) (IsCommitting served old next (dev.seen first))
+        (read_only read) commit (λ c was. was)
         (λ c was. subst (λ (f : Files). IsCommitting served old next f c) read.found was)
 
--- a log that is only read goes on so
-pub log_read_then : {F : Type 0} (seen : F → Files) (may_leave : F → Files → Type 0) (moment : F → ℕ)
-    (left_since : F → ℕ → Files → Type 0)
-    → ((folder : F) (t : ℕ) (c : Files) → t ≤ moment folder → may_leave folder c → left_since folder t c)
-    → (known mid new : LogIn F) → IsLogRead seen may_leave moment left_since known mid
-    → new ≡ record mid { folder = new.folder } → IsRead seen may_leave moment left_since mid.folder new.folder
-    → IsLogRead seen may_leave moment left_since known new
-log_read_then {F = F} seen may_leave moment left_since counts known mid new read same then = record {
-  same = same ∙ ap (λ (l : LogIn F). record l { folder = new.folder }) read.same;
-  read = read_then seen may_leave moment left_since known.folder mid.folder new.folder (counts known.folder) read.read
-      then;
-}
+  module _ (counts : (folder : F) (t : ℕ) (c : Files) → t ≤ dev.moment folder → dev.may_leave folder c
+      → dev.left_since folder t c) (stays : (folder : F) → dev.may_leave folder (dev.seen folder)) {first mid : F}
+      (run : Leaves first mid (IsBeside (dev.seen first))) where
+    -- what a run that stages leaves for a reader
+    beside_now : IsBeside (dev.seen first) (dev.seen mid)
+    beside_now = run.each (dev.seen mid) (counts mid (dev.moment first) (dev.seen mid) run.later (stays mid))
+
+    -- a run that stages behind another
+    pub beside_then : {last : F} → Leaves mid last (IsBeside (dev.seen mid))
+        → Leaves first last (IsBeside (dev.seen first))
+    beside_then {last = last} more = leaves_then dev.moment dev.left_since first mid last (IsBeside (dev.seen first))
+        (IsBeside (dev.seen mid)) (IsBeside (dev.seen first)) run more (λ c was. was) (λ c was. record {
+          outside = λ n isnt. was.outside n isnt ∙ beside_now.outside n isnt;
+          no_mark = was.no_mark;
+        })
+
+    -- a commit behind it
+    pub commit_then : {served old next : LogOf} {last : F} → Keeps served old (dev.seen first)
+        → Leaves mid last (IsCommitting served old next (dev.seen mid))
+        → Leaves first last (IsCommitting served old next (dev.seen first))
+    commit_then {served = S} {old = K} {next = N} {last = last} keeps commit =
+        leaves_then dev.moment dev.left_since first mid last (IsBeside (dev.seen first))
+        (IsCommitting S K N (dev.seen mid)) (IsCommitting S K N (dev.seen first)) run commit
+        (λ c was. beside_committing S K N (dev.seen first) c keeps was)
+        (λ c was. committing_then S K N (dev.seen first) (dev.seen mid) c beside_now was)

@@ -90,7 +90,7 @@ small_insertion key value entry small is =
     let right = length-append value [] in
     (omega (arith, size, left, right, small), omega (arith, size, left, right, small))
 
--- The entry at a held key's index, if it is one of the key itself, is that of the last insertion under the key's digest.
+-- The entry at a held key's index, if it is one of the key itself, is that of the last insertion under its digest.
 pub own_value : (H : List ℕ → List ℕ) (insertions : List (List ℕ × List ℕ)) (key value entry leaf : List ℕ) (index : ℕ)
     → length entry < 2 ^ 64 → slice_get (entries_of insertions) index ≡ Some entry → entry ≡ entry_of (key, value)
     → index + 1 ≡ version H insertions (key_bits H key) → get (map_of H insertions) (key_bits H key) ≡ Some leaf

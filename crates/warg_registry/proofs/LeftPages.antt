@@ -25,7 +25,7 @@ gone new names n removed page there =
     let Q : List ℕ → Type 0 = λ m. new m ≡ None in
     subst Q found.2 (at (ap is_page found.2 ∙ page))
 
--- of a folder in which files are pruned and pages are removed, each page that is left was there, and wasn't to be removed
+-- of a folder in which files are pruned and pages are removed, each page that is left was there, and wasn't to go
 pub left : (before mid pruned new : Files) (names : List (String Global)) (kept served : ℕ) (P : List ℕ → Type 0)
     → mid ≡ before → IsPruned kept served mid pruned → IsWithoutPages (bytes_of names) pruned new
     → All (λ name. is_page (string_bytes name) ≡ true → new (string_bytes name) ≡ None) names

@@ -12,9 +12,11 @@ use Rattle.base64.proofs.EngineFacts.{decode_of-encode_of, decode_of_strict}
 use Rattle.base64.proofs.RoundTrip.{length-encode_symbols}
 use Rattle.warg_crypto.specs.Digests.{IsDigest, IsByte, sha256}
 use Rattle.warg_crypto.specs.DigestFacts.{IsDigest-sha256}
-use Rattle.warg_map.specs.Sparse.{SparseMap, root_of_levels, sparse_root}
-use Rattle.warg_tiles.specs.CheckpointText.{IsLine}
+use Rattle.warg_map.specs.Sparse.{SparseMap, map_of, root_of_levels, sparse_root}
+use Rattle.warg_tiles.specs.CheckpointText.{IsLine, Said}
 use Rattle.warg_tiles.proofs.ForCallers.{no_newline-encode}
+use Rattle.warg_store.specs.Log as log
+use Rattle.warg_registry.specs.Folder.{registry_of}
 use Rattle.warg_registry.specs.Registry.{line_of}
 
 -- What begins otherwise is no line of a root.
@@ -90,3 +92,17 @@ root_digest k held = IsDigest-sha256 _
 
 pub map_digest : (m : SparseMap) → IsDigest (sparse_root sha256 256 m)
 map_digest m = root_digest 255 (get m)
+
+-- A registry's text says the line of its map's root: whoever looks for a root finds one,
+pub own_root : {P : Type 0} {text : Said} (origin : List ℕ) (insertions : List (List ℕ × List ℕ))
+    → text ≡ log.said_of (registry_of origin insertions)
+    → ((root : List ℕ) → IsDigest root → text.extensions ≡ line_of root ∷ [] → P) → P
+own_root origin insertions is looks = looks (sparse_root sha256 256 (map_of sha256 insertions))
+    (map_digest (map_of sha256 insertions)) (ap (λ (t : Said). t.extensions) is)
+
+-- and it is that one.
+pub root_of_map : {text : Said} (origin root : List ℕ) (insertions : List (List ℕ × List ℕ))
+    → text ≡ log.said_of (registry_of origin insertions) → IsDigest root × (text.extensions ≡ line_of root ∷ [])
+    → root ≡ sparse_root sha256 256 (map_of sha256 insertions)
+root_of_map origin root insertions is found = one_root root (sparse_root sha256 256 (map_of sha256 insertions)) found.0
+    (map_digest (map_of sha256 insertions)) (sym found.1 ∙ ap (λ (t : Said). t.extensions) is)

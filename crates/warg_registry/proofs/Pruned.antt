@@ -1,7 +1,7 @@
 -- The pages that pruning keeps.
 use Rattle.std.proofs.Common.{◌≡◌, ⊎_elim, ◌⊎◌, ℕ, ◌<◌, ◌^◌, Bool, true, false, eqb, ◌&&◌, ◌||◌, List, [], ◌∷◌, ◌++◌, refl, sym, ap, subst, ◌∙◌, inl, inr, append_assoc}
 use Rattle.std.proofs.lemmas.Bool.{or_parts, and_parts}
-use Rattle.std.proofs.lemmas.List.{length-map, map-append}
+use Rattle.std.proofs.lemmas.List.{map-append}
 use Rattle.std.proofs.lemmas.List.Elements.{Contains-append_cases, Contains-append_left, Contains-append_right}
 use Rattle.std.proofs.lemmas.Map.Text.{is_eq-slice_cmp}
 use Rattle.std.proofs.lemmas.Slice.Eq.{bytes_eq-Decides}
@@ -17,7 +17,6 @@ use Rattle.std.specs.declared.cmp.Ordering.{Ordering}
 use Rattle.std.specs.declared.cmp.Ordering.TheVariants.{Less, Equal, Greater}
 use Rattle.warg_crypto.specs.Digests.{sha256, IsDigest}
 use Rattle.warg_crypto.specs.DigestFacts.{IsDigest-sha256}
-use Rattle.warg_map.specs.Sparse.{map_of, sparse_root}
 use Rattle.warg_pages.specs.ChangedPages.{ChangedPageAt, page_at}
 use Rattle.warg_pages.specs.PagePaths.{page_path}
 use Rattle.warg_pages.specs.ProvedKeys.{IsOwnSource}
@@ -31,12 +30,11 @@ use Rattle.warg_store.specs.Log as log
 use Rattle.warg_folder.specs.Names.{page_name}
 use Rattle.warg_store.specs.Pruned.{IsNoneOf}
 use Rattle.warg_registry.specs.Folder.{pages_of, page_read, registry_of}
-use Rattle.warg_registry.specs.Insertions.{entry_of}
 use Rattle.warg_registry.specs.Registry.{line_of}
 use Rattle.warg_registry.specs.Pruning.{bytes_of, ArePathsOf, AreOnlyPathsOf, HaveAllPages, IsPageOf, AreNone, AreAmong}
-use Rattle.warg_registry.proofs.MapLines.{one_root, map_digest}
+use Rattle.warg_registry.proofs.MapLines.{root_of_map}
 use Rattle.warg_registry.proofs.Listed.{none_there, of_one, first_there, later_there, there_cases}
-use Rattle.warg_registry.proofs.RegistryPages.{page_of_list, read_files}
+use Rattle.warg_registry.proofs.RegistryPages.{page_of_list, read_source}
 
 -- a set has what it had, and what was put in
 pub name_there : (cmp : String Global → String Global → Ordering)
@@ -51,7 +49,8 @@ name_there cmp same (x ∷ xs) k n h = by_order (cmp k x) refl (name_there cmp s
         → (Contains (bytes_of xs) n ⊎ (string_bytes k ≡ n) → Contains (bytes_of (insert_key cmp xs k)) n)
         → Contains (bytes_of (match_ordering o (k ∷ x ∷ xs) (x ∷ xs) (x ∷ insert_key cmp xs k))) n
     by_order Less e rest = ⊎_elim (λ old. later_there (bytes_of (x ∷ xs)) n (string_bytes k) old)
-        (λ new. subst (λ m. Contains (bytes_of (k ∷ x ∷ xs)) m) new (first_there (bytes_of (x ∷ xs)) (string_bytes k))) h
+        (λ new. subst (λ m. Contains (bytes_of (k ∷ x ∷ xs)) m) new
+        (first_there (bytes_of (x ∷ xs)) (string_bytes k))) h
     by_order Equal e rest = ⊎_elim (λ old. old)
         (λ new. subst (λ m. Contains (bytes_of (x ∷ xs)) m) (sym (same k x e) ∙ new)
         (first_there (bytes_of xs) (string_bytes x))) h
@@ -63,7 +62,8 @@ name_there cmp same (x ∷ xs) k n h = by_order (cmp k x) refl (name_there cmp s
         (λ new. later_there (bytes_of (insert_key cmp xs k)) n (string_bytes x) (rest (inr new))) h
 
 -- and nothing else
-pub name_from : (cmp : String Global → String Global → Ordering) (ks : List (String Global)) (k : String Global) (n : List ℕ)
+pub name_from : (cmp : String Global → String Global → Ordering) (ks : List (String Global)) (k : String Global)
+    (n : List ℕ)
     → Contains (bytes_of (insert_key cmp ks k)) n → Contains (bytes_of ks) n ⊎ (string_bytes k ≡ n)
 name_from cmp [] k n h = inr (of_one (string_bytes k) n h)
 name_from cmp (x ∷ xs) k n h = by_order (cmp k x) h (name_from cmp xs k n)
@@ -86,8 +86,8 @@ same_names x y e = (bytes_eq-Decides (string_bytes x) (string_bytes y)).0
     (sym (is_eq-slice_cmp (string_bytes x) (string_bytes y)) ∙ ap is_eq e)
 
 -- what a set doesn't have
-pub not_there : (q : List ℕ) (ks : List (String Global)) → list_any (is_at (λ k. slice_cmp nat_cmp q (string_bytes k))) ks
-    ≡ false → Contains (bytes_of ks) q → ⊥
+pub not_there : (q : List ℕ) (ks : List (String Global))
+    → list_any (is_at (λ k. slice_cmp nat_cmp q (string_bytes k))) ks ≡ false → Contains (bytes_of ks) q → ⊥
 not_there q [] e h = none_there q h
 not_there q (x ∷ xs) e h =
     let parts = or_parts (is_eq (slice_cmp nat_cmp q (string_bytes x)))
@@ -99,8 +99,8 @@ not_there q (x ∷ xs) e h =
     (λ more. not_there q xs parts.1 more) (there_cases (bytes_of xs) q (string_bytes x) h)
 
 -- and what it has
-pub is_there : (q : List ℕ) (ks : List (String Global)) → list_any (is_at (λ k. slice_cmp nat_cmp q (string_bytes k))) ks
-    ≡ true → Contains (bytes_of ks) q
+pub is_there : (q : List ℕ) (ks : List (String Global))
+    → list_any (is_at (λ k. slice_cmp nat_cmp q (string_bytes k))) ks ≡ true → Contains (bytes_of ks) q
 is_there q [] e = absurd (cc)
 is_there q (x ∷ xs) e = by_test (is_eq (slice_cmp nat_cmp q (string_bytes x))) refl e (is_there q xs)
   where
@@ -125,7 +125,8 @@ among_pushed names keys others after items rest s pushed e all =
 pub among_passed : (names keys : List (List ℕ)) (others items rest : List (String Global)) (s : String Global)
     → items ≡ s ∷ rest → Contains keys (string_bytes s) → AreAmong names (bytes_of (others ++ items)) keys
     → AreAmong names (bytes_of (others ++ rest)) keys
-among_passed names keys others items rest s e key all = λ n is. ⊎_elim (λ there. by_place n there) (λ k. inr k) (all n is)
+among_passed names keys others items rest s e key all = λ n is.
+    ⊎_elim (λ there. by_place n there) (λ k. inr k) (all n is)
   where
     left : (n : List ℕ) → Contains (bytes_of others) n → Contains (bytes_of (others ++ rest)) n
     left n h = subst (λ ks. Contains ks n) (sym (map-append (λ (k : String Global). string_bytes k) others rest))
@@ -148,8 +149,8 @@ pub pushed_none : (names : List (List ℕ)) (others after : List (String Global)
     → after ≡ others ++ s ∷ [] → AreNone (bytes_of others) names → (Contains names (string_bytes s) → ⊥)
     → AreNone (bytes_of after) names
 pushed_none names others after s e none new = λ n is there.
-    let all = subst (λ ks. Contains ks n) (ap bytes_of e ∙ map-append (λ (k : String Global). string_bytes k) others (s ∷ []))
-    is in
+    let all = subst (λ ks. Contains ks n)
+    (ap bytes_of e ∙ map-append (λ (k : String Global). string_bytes k) others (s ∷ [])) is in
     ⊎_elim (λ old. none n old there) (λ last. new (subst (Contains names) (sym (of_one (string_bytes s) n last)) there))
     (Contains-append_cases (bytes_of others) (string_bytes s ∷ []) n all)
 
@@ -205,12 +206,7 @@ none_of names others es none all = λ n is f there same. none n is (subst (Conta
 -- the pages that are served are those of the insertions that are
 pub served_source : (origin : List ℕ) (served : List (List ℕ × List ℕ)) (files : Files) (root : List ℕ) (count : ℕ)
     (said : Said) → Serves (registry_of origin served) files → said ≡ log.said_of (registry_of origin served)
-    → IsDigest root → said.extensions ≡ line_of root ∷ [] → count ≡ said.length
+    → IsDigest root × (said.extensions ≡ line_of root ∷ []) → count ≡ said.length
     → IsOwnSource sha256 (page_read files) root count served
-served_source origin served files root count said serves is digest lines counts =
-    let map_root = sparse_root sha256 256 (map_of sha256 served) in record {
-      pages = read_files origin served files serves.holds;
-      all = sym (counts ∙ ap (λ (t : Said). t.length) is ∙ length-map served entry_of);
-      is_root = one_root root map_root digest (map_digest (map_of sha256 served))
-          (sym lines ∙ ap (λ (t : Said). t.extensions) is);
-    }
+served_source origin served files root count said serves is found counts =
+    read_source origin served files root count said serves.holds is counts (root_of_map origin root served is found)

@@ -30,6 +30,12 @@ pub told_as : {T E : Type 0} (P : E → Type 0) (error : E) (r : Result T E) →
 told_as P error (Ok x) is holds = tt
 told_as P error (Err e) is holds = subst P (sym is) holds
 
+-- and that error, if it is this one
+pub told_by : {T U E : Type 0} {told error : E} (r : Result T E) → IsErrAnd r (λ e. e ≡ error) → IsErrOf r told
+    → IsErrOf {T = U} (Err error) told
+told_by (Ok x) holds is = absurd holds
+told_by (Err e) holds is = cc
+
 -- what follows of the value, if there is one
 pub ok_then : {T E : Type 0} (P Q : T → Type 0) (r : Result T E) → ((v : T) → P v → Q v) → IfOk r P → IfOk r Q
 ok_then P Q (Ok v) follows holds = follows v holds
@@ -52,11 +58,23 @@ not_of_pages P (Way BadPage) never h = never h
 not_of_pages P (Way WrongDigest) never h = never h
 not_of_pages P (Way WrongLoneKey) never h = never h
 
+-- what pages led to follows from what is returned for it
+pub ok_led : {T D E : Type 0} {P Q : T → Type 0} (r : Result T E) (led : Result T D) → IfOk r (λ v. led ≡ Ok v)
+    → IfOk led P → ((v : T) → P v → Q v) → IfOk r Q
+ok_led {P = P} (Ok v) led is holds follows = follows v (subst (λ l. IfOk l P) is holds)
+ok_led (Err e) led is holds follows = tt
+
+-- and they are at fault for nothing, where they have none
+pub none_led : {T E P : Type 0} (led : Result T (ProveError E)) → IfErr led (IsOfSourceUnless P) → (P → ⊥)
+    → IfErr led (IsOfSourceUnless ⊥)
+none_led (Ok v) h never = tt
+none_led {P = P} (Err e) h never = not_of_pages P e never h
+
 -- the cause of a refusal that is the pages' last fault, where they were read
-pub cause_of_pages : {T E : Type 0} (told : E) (IsFaithful : Type 0) (before now : ℕ) (fault : Option ReadFault)
-    (r : Result T E) → IsFailureTold IsFaithful before now fault → (IsErrOf r told → fault ≡ Some DeviceFailed)
+pub cause_of_pages : {T E : Type 0} {told : E} {IsFaithful : Type 0} {before now : ℕ} {fault : Option ReadFault}
+    {r : Result T E} → IsFailureTold IsFaithful before now fault → (IsErrOf r told → fault ≡ Some DeviceFailed)
     → HasCauseOf told IsFaithful before now r
-cause_of_pages told IsFaithful before now fault r was tells = record {
+cause_of_pages was tells = record {
   later = was.later;
   failed = λ faithful is. was.failed faithful (tells is);
 }

@@ -16,6 +16,7 @@ use Rattle.warg_pages.specs.Visits.{lone_slots}
 use Rattle.warg_tiles.specs.CheckpointText.{Said}
 use Rattle.warg_folder.specs.Files.{Files}
 use Rattle.warg_folder.specs.Moments.{IsRead}
+use Rattle.warg_folder.specs.declared.device.Folder.{Ghosts}
 use Rattle.warg_store.specs.Log.{LogOf, HasFiles, AreShort}
 use Rattle.warg_store.specs.Reading.{ServedIn, Reads}
 use Rattle.warg_registry.specs.Auditing.{AreAllInFiles, HasVisited}
@@ -35,29 +36,25 @@ log_read seen log r t same found has = record {
   files = subst (HasFiles log) (sym found) has.files;
 }
 
-module _ {F : Type 0} (seen : F → Files) (may_leave : F → Files → Type 0) (moment : F → ℕ)
-    (left_since : F → ℕ → Files → Type 0) where
+module _ {F : Type 0} (dev : Ghosts F) {r t : RegistryRead F} (same : (t.root ≡ r.root) × (t.log.text ≡ r.log.text))
+    (read : IsRead dev.seen dev.may_leave dev.moment dev.left_since r.log.folder t.log.folder) where
   -- a reader whose folder was only read has the same registry
-  pub registry_read : (origin : List ℕ) (insertions : List (List ℕ × List ℕ)) (r t : RegistryRead F)
-      → (t.root ≡ r.root) × (t.log.text ≡ r.log.text) → IsRead seen may_leave moment left_since r.log.folder
-      t.log.folder
-      → ReadsRegistry seen origin insertions r → ReadsRegistry seen origin insertions t
-  registry_read origin insertions r t same read has = record {
-    reads = log_read seen (registry_of origin insertions) r.log t.log same.1 read.found has.reads;
+  pub registry_read : (origin : List ℕ) (insertions : List (List ℕ × List ℕ))
+      → ReadsRegistry dev.seen origin insertions r → ReadsRegistry dev.seen origin insertions t
+  registry_read origin insertions has = record {
+    reads = log_read dev.seen (registry_of origin insertions) r.log t.log same.1 read.found has.reads;
     is_root = same.0 ∙ has.is_root;
   }
 
   -- and has visited the same pages
-  pub visited_read : (insertions : List (List ℕ × List ℕ)) (all : List ChangedPageAt) (r t : RegistryRead F)
-      → (t.root ≡ r.root) × (t.log.text ≡ r.log.text) → IsRead seen may_leave moment left_since r.log.folder
-      t.log.folder
-      → HasVisited seen insertions all r → HasVisited seen insertions all t
-  visited_read insertions all r t same read has = record {
+  pub visited_read : (insertions : List (List ℕ × List ℕ)) (all : List ChangedPageAt)
+      → HasVisited dev.seen insertions all r → HasVisited dev.seen insertions all t
+  visited_read insertions all has = record {
     origin = has.origin;
-    reads = registry_read has.origin insertions r t same read has.reads;
+    reads = registry_read has.origin insertions has.reads;
     are_all = (let P : Files → Type 0 = λ f. AreAllInFiles f t.root t.log.text.length all in
-        let Q : List ℕ → Type 0 = λ root. AreAllInFiles (seen r.log.folder) root t.log.text.length all in
-        let R : Said → Type 0 = λ text. AreAllInFiles (seen r.log.folder) r.root text.length all in
+        let Q : List ℕ → Type 0 = λ root. AreAllInFiles (dev.seen r.log.folder) root t.log.text.length all in
+        let R : Said → Type 0 = λ text. AreAllInFiles (dev.seen r.log.folder) r.root text.length all in
         subst P (sym read.found) (subst Q (sym same.0) (subst R (sym same.1) has.are_all)));
   }
 

@@ -9,7 +9,8 @@ use Rattle.warg_map.proofs.ForCallers.{empty_map_root}
 use Rattle.warg_pages.specs.ChangedPages.{ChangedPageAt, page_at, ChangesAt, AreChangedPages}
 use Rattle.warg_pages.specs.Prefixes.{bits_of_bytes, version}
 use Rattle.warg_pages.proofs.ForCallers.{one_path_below, version_within}
-use Rattle.warg_folder.specs.Files.{File, Files}
+use Rattle.warg_folder.specs.declared.device.Folder.{Ghosts}
+use Rattle.warg_folder.specs.Files.{File}
 use Rattle.warg_store.specs.Growing.{LogIn, Has, IsFresh, with_entry, with_page}
 use Rattle.warg_store.proofs.ForCallers.{has_with}
 use Rattle.warg_store.specs.Log.{LogOf, HasPage, Extends, no_entries_with}
@@ -183,7 +184,8 @@ pushed_more f log xs i x entry lt at is =
 -- one page more of those that are put
 pub put_more : (log : LogOf) (changed : List ChangedPageAt) (i : ℕ) (c : ChangedPageAt) → i < length changed
     → c ≡ get_or changed i c
-    → with_pages log (files_of (take (i + 1) changed)) ≡ with_page (with_pages log (files_of (take i changed))) (file_of c)
+    → with_pages log (files_of (take (i + 1) changed))
+    ≡ with_page (with_pages log (files_of (take i changed))) (file_of c)
 put_more log changed i c lt at =
     ap (λ l. with_pages log (files_of l)) (take_more changed i c lt)
     ∙ ap (λ l. with_pages log l) (map-append file_of (take i changed) (get_or changed i c ∷ []))
@@ -218,10 +220,12 @@ empty_registry origin root lines is says = ap (λ (l : List (List ℕ)). no_entr
     (says ∙ ap (λ r. line_of r ∷ []) (no_insertions_root root is))
 
 -- the log with these entries and pages more is the next one
-pub next_has : {F : Type 0} (seen : F → Files) (may_leave : F → Files → Type 0) (served old next : LogOf) (l : LogIn F)
-    (es : List (List ℕ)) (fs : List File) (root : List ℕ) → IsNextLog old next es fs root
-    → Has seen may_leave served old (with_pages (with_entries old es) fs) l → Has seen may_leave served old next l
-next_has seen may_leave served old next l es fs root is has =
+pub next_has : {F : Type 0} (dev : Ghosts F) {served old next : LogOf} {l : LogIn F} {es : List (List ℕ)}
+    {fs : List File}
+    {root : List ℕ} → IsNextLog old next es fs root
+    → Has dev.seen dev.may_leave served old (with_pages (with_entries old es) fs) l
+    → Has dev.seen dev.may_leave served old next l
+next_has dev {served = served} {old = old} {next = next} {l = l} {es = es} {fs = fs} is has =
     let more = with_entries old es in
     let put = with_pages more fs in
     let grown : length old.entries < length put.entries =
@@ -238,5 +242,5 @@ next_has seen may_leave served old next l es fs root is has =
       lines = next.lines;
       pages = next.pages;
     } in
-    subst (λ (n : LogOf). Has seen may_leave served old n l) same
-    (has_with seen may_leave served old put l next.lines next.pages grown within rest has)
+    subst (λ (n : LogOf). Has dev.seen dev.may_leave served old n l) same
+    (has_with dev.seen dev.may_leave served old put l next.lines next.pages grown within rest has)

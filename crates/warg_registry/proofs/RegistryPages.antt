@@ -184,7 +184,8 @@ served_checkpoint origin insertions files serves =
 pub read_files : (origin : List ℕ) (insertions : List (List ℕ × List ℕ)) (files : Files)
     → HasFiles (registry_of origin insertions) files → AreOwnPages sha256 (page_read files) insertions
 read_files origin insertions files has = λ prefix bytes short there.
-    ap (λ (o : Option (List ℕ)). Some (unwrap_or o (0 ∷ []))) (own_files origin insertions files has prefix bytes short there)
+    ap (λ (o : Option (List ℕ)). Some (unwrap_or o (0 ∷ [])))
+    (own_files origin insertions files has prefix bytes short there)
 
 -- So whoever reads the checkpoint and the map's root of them has a source of the insertions' pages.
 pub read_source : (origin : List ℕ) (insertions : List (List ℕ × List ℕ)) (files : Files) (root : List ℕ) (count : ℕ)

@@ -55,9 +55,11 @@ IsLastBy IsFaithful files version index e last = IsFaithful → (root : List ℕ
     × (last ≡ eqb number (index + 1))
 
 -- an entry more
-pub one_replayed : (IsFaithful : Type 0) (files : Files) (version : ℕ) (log new : Blocks) (last after : ℕ) (is_last : Bool)
+pub one_replayed : (IsFaithful : Type 0) (files : Files) (version : ℕ) (log new : Blocks) (last after : ℕ)
+    (is_last : Bool)
     (es : List (List ℕ × List ℕ)) (e : List ℕ × List ℕ)
-    → ((ds : List (List ℕ)) → StandsFor sha256 log ds → StandsFor sha256 new (ds ++ leaf_digest sha256 (entry_of e) ∷ []))
+    → ((ds : List (List ℕ)) → StandsFor sha256 log ds
+    → StandsFor sha256 new (ds ++ leaf_digest sha256 (entry_of e) ∷ []))
     → IsLastBy IsFaithful files version log.len e is_last → after ≡ last + cond is_last 1 0
     → AreReplayed IsFaithful files version log last es → AreReplayed IsFaithful files version new after (es ++ e ∷ [])
 one_replayed IsFaithful files version log new last after is_last es e stands by counts was = record {
@@ -105,7 +107,8 @@ other_checkpoints a b e root size =
     let all : are_same a b ≡ true = λ i. (roots i && true) && sizes i in
     true≢false (e ∙ ap not all)
 
-module _ (IsFaithful : Type 0) (files : Files) (version : ℕ) (log : Blocks) (last : ℕ) (found checkpoint : RootAndLength)
+module _ (IsFaithful : Type 0) (files : Files) (version : ℕ) (log : Blocks) (last : ℕ)
+    (found checkpoint : RootAndLength)
     (es : List (List ℕ × List ℕ)) (was : AreReplayed IsFaithful files version log last es)
     (is_root : (ds : List (List ℕ)) → StandsFor sha256 log ds → found.root ≡ root_of sha256 ds)
     (is_length : found.length ≡ log.len) where

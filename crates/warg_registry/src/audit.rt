@@ -136,20 +136,19 @@ impl<F: Folder + Drop> RegistryReader<F> {
         ensures cause { HasCauseOf (LogError.Folder FolderError.Failed) F.IsFaithful
             (F.faults self.old.log.folder) (F.faults self.new.log.folder) result }
     {
-        let version = self.checkpoint().length() as u64;
+        let version = self.version();
         let mut lones = LoneKeys { count: 0 };
-        self.pages.fault = None;
-        match visit_pages(
+        self.pages.last.forget();
+        let led = visit_pages(
             self.alloc,
             &mut self.pages,
             &self.root,
             version,
             LoneKeyCheck::Hashed,
             &mut lones,
-        ) {
-            Ok(()) => Ok(lones.count),
-            Err(error) => Err(self.pages.refusal(error)),
-        }
+        );
+        self.pages.last.or_refusal(led)?;
+        Ok(lones.count)
     }
 
     // Reads all entries, one bundle after the other.
@@ -249,12 +248,10 @@ impl<F: Folder + Drop> RegistryReader<F> {
         ensures cause { HasCauseOf (LogError.Folder FolderError.Failed) F.IsFaithful
             (F.faults self.old.log.folder) (F.faults self.new.log.folder) result }
     {
-        let version = self.checkpoint().length() as u64;
-        self.pages.fault = None;
-        match held_in_pages(self.alloc, &mut self.pages, version, key) {
-            Ok(held) => Ok(held),
-            Err(error) => Err(self.pages.refusal(error)),
-        }
+        let version = self.version();
+        self.pages.last.forget();
+        let led = held_in_pages(self.alloc, &mut self.pages, version, key);
+        self.pages.last.or_refusal(led)
     }
 
     // Whether an insertion is the last one of its key by the pages, in which it has to be.
@@ -280,7 +277,7 @@ impl<F: Folder + Drop> RegistryReader<F> {
             Some(last) => Ok(last),
             None => {
                 let fault = "hasn't the key of a log's entry, or another value or version";
-                Err(damaged(self.alloc, self.pages.last.as_str(), fault))
+                Err(self.pages.last.damaged(fault))
             }
         }
     }

@@ -1,12 +1,12 @@
 //! Why bytes are read as no insertion, a text as none of a registry, and a call on a registry's folder is refused.
 
 ghost use Rattle.std.specs.Prelude.{◌≡◌, ◌↔◌, Some, IsErrOf};
-ghost use Rattle.warg_pages.specs.Refusals.{IsMemoryUnless, IsOfSourceUnless};
+ghost use Rattle.warg_pages.specs.Refusals.{IsMemoryUnless};
 ghost use Rattle.warg_store.specs.Refusals.{IsNoFault, IsNoFailure};
 
 use std::alloc::{AllocError, AllocFailed, Global};
 use thiserror::Error;
-use warg_pages::{ProveError, WayError};
+use warg_pages::WayError;
 use warg_store::{CommitError, Damage, FolderError, LogError, PushError};
 
 /// Why bytes are no insertion's entry.
@@ -169,27 +169,8 @@ pub(crate) fn damaged(alloc: Global, name: &str, fault: &'static str) -> LogErro
     }
 }
 
-/// Why pages lead to nothing, where this one was read last, and this was wrong with it.
-pub(crate) fn of_source(
-    alloc: Global,
-    last: &str,
-    fault: Option<ReadFault>,
-    error: ProveError<FolderError>,
-) -> LogError
-    ensures whole { IsOfSourceUnless ⊥ error → IsNoFault ⊥ result }
-    ensures cause { result ≡ LogError.Folder FolderError.Failed → fault ≡ Some ReadFault.DeviceFailed }
-{
-    match error {
-        ProveError::Pages(_) => LogError::Folder(of_reading(fault)),
-        ProveError::Way(WayError::BadPage) if fault == Some(ReadFault::NoFile) => {
-            damaged(alloc, last, "is missing")
-        }
-        ProveError::Way(error) => of_pages(alloc, last, error),
-    }
-}
-
-// Why a page wasn't read: its device failed, or memory was refused.
-fn of_reading(fault: Option<ReadFault>) -> FolderError
+/// Why a page wasn't read: its device failed, or memory was refused.
+pub(crate) fn of_reading(fault: Option<ReadFault>) -> FolderError
     ensures { (result ≡ FolderError.Failed) ↔ (fault ≡ Some ReadFault.DeviceFailed) }
 {
     match fault {

@@ -23,7 +23,7 @@ ghost use Rattle.warg_registry.specs.Folder.{registry_of, page_read, HasRegistry
 use crate::error::{PublishError, RegistryError, damaged};
 use crate::extension::{map_line, map_root};
 use crate::insertion::write_insertion;
-use crate::source::{KeptPages, below_map};
+use crate::source::{KeptPages, LastPage, below_map};
 use std::alloc::{AllocError, Global};
 use std::marker::Model;
 use warg_crypto::{Hash, Sha256};
@@ -59,9 +59,10 @@ impl<F: Folder + Drop> RegistryFolder<F> {
     fn with(alloc: Global, log: LogFolder<F>, map: PagedMap<Sha256>) -> RegistryFolder<F>
         ensures { result ≡ record { log = log; takes = true; root = map.root; count = map.version } }
     {
+        let last = LastPage::new(alloc);
         RegistryFolder {
             alloc,
-            pages: KeptPages::new(alloc, log),
+            pages: KeptPages { log, last },
             map,
             is_open: true,
         }
@@ -183,7 +184,7 @@ impl<F: Folder + Drop> RegistryFolder<F> {
         ensures cause { HasCauseOf (PublishError.Log (LogError.Folder FolderError.Failed)) F.IsFaithful
             (F.faults self.old.log.folder) (F.faults self.new.log.folder) result }
     {
-        self.pages.fault = None;
+        self.pages.last.forget();
         match self.map.insert_all(self.alloc, &mut self.pages, insertions) {
             Ok(changed) => Ok(changed),
             Err(ProveError::Way(WayError::WrongDigest)) => {
@@ -194,7 +195,7 @@ impl<F: Folder + Drop> RegistryFolder<F> {
                     insertions,
                 )))
             }
-            Err(error) => Err(PublishError::Log(self.pages.refusal(error))),
+            Err(error) => Err(PublishError::Log(self.pages.last.refusal(error))),
         }
     }
 
@@ -299,10 +300,10 @@ fn find_fault<F: Folder + Drop>(
     ensures cause { F.IsFaithful → result ≡ LogError.Folder FolderError.Failed
         → F.faults pages.old.log.folder < F.faults pages.new.log.folder }
 {
-    pages.fault = None;
+    pages.last.forget();
     'keys: for insertion in insertions {
         if let Err(error) = prove_by_pages(alloc, pages, &map.root, map.version, &insertion.0) {
-            return pages.refusal(error);
+            return pages.last.refusal(error);
         }
     }
     damaged(

@@ -85,18 +85,16 @@ impl NeededPages {
         ensures cause { HasCauseOf (LogError.Folder FolderError.Failed) F.IsFaithful
             (F.faults pages.old.log.folder) (F.faults pages.new.log.folder) result }
     {
-        pages.fault = None;
-        match visit_pages(
+        pages.last.forget();
+        let led = visit_pages(
             self.alloc,
             pages,
             root,
             version,
             LoneKeyCheck::Skipped,
             self,
-        ) {
-            Ok(()) => Ok(()),
-            Err(error) => Err(pages.refusal(error)),
-        }
+        );
+        pages.last.or_refusal(led)
     }
 
     /// Those of some names that are none of these.
@@ -170,7 +168,7 @@ impl<F: Folder + Drop> KeptPages<F> {
         ensures cause { HasCauseOf (LogError.Folder FolderError.Failed) F.IsFaithful
             (F.faults self.old.log.folder) (F.faults self.new.log.folder) result }
     {
-        let mut needed = NeededPages::new(self.alloc);
+        let mut needed = NeededPages::new(self.last.alloc);
         needed.add(self, root, version)?;
         let served = self.served()?;
         if is_map(&served, root, version) {
@@ -197,12 +195,13 @@ impl<F: Folder + Drop> KeptPages<F> {
         ensures cause { HasCauseOf (LogError.Folder FolderError.Failed) F.IsFaithful
             (F.faults self.old.log.folder) (F.faults self.new.log.folder) result }
     {
+        let alloc = self.last.alloc;
         let text = self.log.served()?;
         let version = text.checkpoint().length() as u64;
-        match root_said(self.alloc, &text) {
+        match root_said(alloc, &text) {
             Ok(root) => Ok(PagedMap { root, version }),
             Err(RegistryError::Log(error)) => Err(error),
-            Err(RegistryError::NoMap) => Err(damaged(self.alloc, "checkpoint", "names no map")),
+            Err(RegistryError::NoMap) => Err(damaged(alloc, "checkpoint", "names no map")),
         }
     }
 

@@ -14,10 +14,10 @@ ghost use Rattle.warg_registry.specs.Folder.{registry_of, IsNoFault};
 ghost use Rattle.warg_registry.specs.Reading.{ReadsRegistry, IsKeyShown, IsLogged, IsOfEntry, IsOwnKey, IsHeldAt, IsKeyIn};
 ghost use Rattle.warg_registry.specs.Insertions.{entry_of, entries_of, IsInsertion};
 
-use crate::error::{RegistryError, damaged};
+use crate::error::RegistryError;
 use crate::folder::root_said;
 use crate::insertion::inserted_value;
-use crate::source::ServedPages;
+use crate::source::{LastPage, ServedPages};
 use std::alloc::Global;
 use std::marker::Model;
 use warg_crypto::{Hash, Sha256};
@@ -73,12 +73,8 @@ impl<F: Folder + Drop> RegistryReader<F> {
     {
         let log = LogReader::open_served(alloc, folder)?;
         let root = root_said(alloc, log.text())?;
-        let pages = ServedPages {
-            alloc,
-            log,
-            last: String::new(alloc),
-            fault: None,
-        };
+        let last = LastPage::new(alloc);
+        let pages = ServedPages { log, last };
         Ok(RegistryReader { alloc, pages, root })
     }
 
@@ -87,6 +83,13 @@ impl<F: Folder + Drop> RegistryReader<F> {
         ensures { result ≡ checkpoint_said self.now.log.text }
     {
         self.pages.log.checkpoint()
+    }
+
+    /// How many insertions the map has.
+    pub(crate) fn version(&self) -> u64
+        ensures { result ≡ self.now.log.text.length }
+    {
+        self.checkpoint().length() as u64
     }
 
     /// The root of the map.
@@ -177,12 +180,10 @@ impl<F: Folder + Drop> RegistryReader<F> {
         ensures cause { HasCauseOf (LogError.Folder FolderError.Failed) F.IsFaithful
             (F.faults self.old.log.folder) (F.faults self.new.log.folder) result }
     {
-        let version = self.checkpoint().length() as u64;
-        self.pages.fault = None;
-        match prove_by_pages(self.alloc, &mut self.pages, &self.root, version, &key) {
-            Ok(found) => Ok(found),
-            Err(error) => Err(self.pages.refusal(error)),
-        }
+        let version = self.version();
+        self.pages.last.forget();
+        let led = prove_by_pages(self.alloc, &mut self.pages, &self.root, version, &key);
+        self.pages.last.or_refusal(led)
     }
 
     // The value that a held key's entry has, once it is read so.
@@ -258,7 +259,7 @@ impl<F: Folder + Drop> RegistryReader<F> {
             )),
             None => {
                 let fault = "names an entry that isn't an insertion of the key's value";
-                Err(damaged(self.alloc, self.pages.last.as_str(), fault))
+                Err(self.pages.last.damaged(fault))
             }
         }
     }

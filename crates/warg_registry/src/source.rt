@@ -1,29 +1,108 @@
 //! A log in a folder as the source of its map's pages.
 
-ghost use Rattle.std.specs.Prelude.{◌≡◌, ◌∷◌, ◌++◌, [], ℕ, true, List, Some, codes, IfOk, string_bytes};
+ghost use Rattle.std.specs.Prelude.{◌≡◌, ◌∷◌, ◌++◌, [], ℕ, true, List, Option, Some, None, Ok, codes, option_map, unwrap_or, IfOk, IfErr, IsErrOf};
 ghost use Rattle.warg_pages.specs.Refusals.{IsOfSourceUnless};
 ghost use Rattle.warg_store.specs.Growing.{LogIn};
 ghost use Rattle.warg_folder.specs.Moments.{IsRead};
 ghost use Rattle.warg_store.specs.Reading.{ServedIn};
-ghost use Rattle.warg_store.specs.Refusals.{IsNoFault};
+ghost use Rattle.warg_store.specs.Refusals.{IsNoFault, IsNoFailure};
 ghost use Rattle.warg_registry.specs.Folder.{path_below, page_read, found_if, IsLogRead};
 ghost use Rattle.warg_registry.specs.Sources.{LogBefore, IsFailureTold};
 
-use crate::error::{ReadFault, of_source};
-use std::alloc::{AllocError, Global};
-use warg_pages::{Pages, ProveError, page_path};
+use crate::error::{ReadFault, damaged, of_pages, of_reading};
+use std::alloc::Global;
+use warg_pages::{Pages, ProveError, WayError, page_path};
 use warg_store::{Folder, FolderError, LogError, LogFolder, LogReader};
 
 // The most bytes that a page has: 256 slots of 106 bytes.
 const MOST: usize = 256 * 106;
 
-/// A log that is added to, with the path of the page that was read last, and what was wrong with it.
+/// The page that was read last, and what was wrong with it.
+#[derive(Drop)]
+pub(crate) struct LastPage {
+    pub(crate) alloc: Global,
+    pub(crate) path: String,
+    pub(crate) fault: Option<ReadFault>,
+}
+
+impl LastPage {
+    /// As it is before a page is read.
+    pub(crate) fn new(alloc: Global) -> LastPage {
+        LastPage {
+            alloc,
+            path: String::new(alloc),
+            fault: None,
+        }
+    }
+
+    /// Forgets what was wrong, before pages are read anew.
+    pub(crate) fn forget(&mut self)
+        ensures { self.new.fault ≡ None }
+    {
+        self.fault = None;
+    }
+
+    /// Notes what was read at a path. Returns the page's bytes, or, where it is missing, one byte, as no page has.
+    fn note(
+        &mut self,
+        path: String,
+        read: Result<Option<Vec<u8>>, FolderError>,
+    ) -> Result<Vec<u8>, FolderError>
+        ensures bytes { IfOk result (λ bytes. (found : Option _) × (read ≡ Ok found)
+            × (bytes.items ≡ unwrap_or (option_map (λ v. v.items) found) (0 ∷ []))) }
+        ensures fault { self.new.fault ≡ Some ReadFault.DeviceFailed → IsErrOf read FolderError.Failed }
+    {
+        self.path = path;
+        self.fault = ReadFault::of(&read);
+        match read? {
+            Some(bytes) => Ok(bytes),
+            None => Ok(Vec::from_slice(self.alloc, &[0])?),
+        }
+    }
+
+    /// What pages led to, or why they lead to nothing.
+    pub(crate) fn or_refusal<T>(
+        &self,
+        led: Result<T, ProveError<FolderError>>,
+    ) -> Result<T, LogError>
+        ensures led { IfOk result (λ found. led ≡ Ok found) }
+        ensures whole { IfErr led (IsOfSourceUnless ⊥) → IfErr result (IsNoFault ⊥) }
+        ensures cause { IsErrOf result (LogError.Folder FolderError.Failed)
+            → self.now.fault ≡ Some ReadFault.DeviceFailed }
+    {
+        match led {
+            Ok(found) => Ok(found),
+            Err(error) => Err(self.refusal(error)),
+        }
+    }
+
+    /// Why pages lead to nothing.
+    pub(crate) fn refusal(&self, error: ProveError<FolderError>) -> LogError
+        ensures whole { IsOfSourceUnless ⊥ error → IsNoFault ⊥ result }
+        ensures cause { result ≡ LogError.Folder FolderError.Failed → self.now.fault ≡ Some ReadFault.DeviceFailed }
+    {
+        match error {
+            ProveError::Pages(_) => LogError::Folder(of_reading(self.fault)),
+            ProveError::Way(WayError::BadPage) if self.fault == Some(ReadFault::NoFile) => {
+                self.damaged("is missing")
+            }
+            ProveError::Way(error) => of_pages(self.alloc, self.path.as_str(), error),
+        }
+    }
+
+    /// That the page is missing or corrupt.
+    pub(crate) fn damaged(&self, fault: &'static str) -> LogError
+        ensures { IsNoFailure result }
+    {
+        damaged(self.alloc, self.path.as_str(), fault)
+    }
+}
+
+/// A log that is added to, with the page that was read last.
 #[derive(Drop)]
 pub(crate) struct KeptPages<F: Folder + Drop> {
-    pub(crate) alloc: Global,
     pub(crate) log: LogFolder<F>,
-    pub(crate) last: String,
-    pub(crate) fault: Option<ReadFault>,
+    pub(crate) last: LastPage,
 }
 
 impl<F: Folder + Drop> Pages<Global> for KeptPages<F> {
@@ -34,57 +113,28 @@ impl<F: Folder + Drop> Pages<Global> for KeptPages<F> {
 
     ghost IsKnown = { λ pages known. (known.is_faithful ≡ true → F.IsFaithful
         × IsLogRead F.seen F.may_leave F.moment F.left_since known.log pages.log)
-        × IsFailureTold F.IsFaithful known.faults (F.faults pages.log.folder) pages.fault };
+        × IsFailureTold F.IsFaithful known.faults (F.faults pages.log.folder) pages.last.fault };
 
     ghost bytes_at = { λ known. found_if known.is_faithful (page_read (F.seen known.log.folder)) };
 
     ghost tells_all = { λ known. known.is_faithful ≡ true };
 
     fn page(&mut self, prefix: &[u8], version: u64) -> Result<Vec<u8>, FolderError> {
-        let path = page_path(self.alloc, prefix, version)?;
+        let path = page_path(self.last.alloc, prefix, version)?;
         let read = self.log.page(below_map(path.as_str()), MOST);
-        self.last = path;
-        self.fault = ReadFault::of(&read);
-        match read? {
-            Some(bytes) => Ok(bytes),
-            None => Ok(missing_page(self.alloc)?),
-        }
+        self.last.note(path, read)
     }
 }
 
-impl<F: Folder + Drop> KeptPages<F> {
-    /// The pages of a log, of which none was read.
-    pub(crate) fn new(alloc: Global, log: LogFolder<F>) -> KeptPages<F>
-        ensures { result.log ≡ log }
-    {
-        KeptPages {
-            alloc,
-            log,
-            last: String::new(alloc),
-            fault: None,
-        }
-    }
-
-    /// Why these pages lead to nothing.
-    pub(crate) fn refusal(&self, error: ProveError<FolderError>) -> LogError
-        ensures whole { IsOfSourceUnless ⊥ error → IsNoFault ⊥ result }
-        ensures cause { result ≡ LogError.Folder FolderError.Failed → self.now.fault ≡ Some ReadFault.DeviceFailed }
-    {
-        of_source(self.alloc, self.last.as_str(), self.fault, error)
-    }
-}
-
-/// A log that is read, with the path of the page that was read last, and what was wrong with it.
+/// A log that is read, with the page that was read last.
 #[derive(Drop)]
 pub(crate) struct ServedPages<F: Folder + Drop> {
-    pub(crate) alloc: Global,
     pub(crate) log: LogReader<F>,
-    pub(crate) last: String,
-    pub(crate) fault: Option<ReadFault>,
+    pub(crate) last: LastPage,
 }
 
 impl<F: Folder + Drop> Pages<Global> for ServedPages<F> {
-    // A page that is missing has other bytes than any page, and so no error is a fault of the files.
+    // As of a log that is added to.
     type Error = FolderError;
 
     ghost Known = { LogBefore (ServedIn F) };
@@ -92,39 +142,17 @@ impl<F: Folder + Drop> Pages<Global> for ServedPages<F> {
     ghost IsKnown = { λ pages known. (pages.log ≡ record known.log { folder = pages.log.folder })
         × (known.is_faithful ≡ true → F.IsFaithful
         × IsRead F.seen F.may_leave F.moment F.left_since known.log.folder pages.log.folder)
-        × IsFailureTold F.IsFaithful known.faults (F.faults pages.log.folder) pages.fault };
+        × IsFailureTold F.IsFaithful known.faults (F.faults pages.log.folder) pages.last.fault };
 
     ghost bytes_at = { λ known. found_if known.is_faithful (page_read (F.seen known.log.folder)) };
 
     ghost tells_all = { λ known. known.is_faithful ≡ true };
 
     fn page(&mut self, prefix: &[u8], version: u64) -> Result<Vec<u8>, FolderError> {
-        let path = page_path(self.alloc, prefix, version)?;
+        let path = page_path(self.last.alloc, prefix, version)?;
         let read = self.log.page(below_map(path.as_str()), MOST);
-        self.last = path;
-        self.fault = ReadFault::of(&read);
-        match read? {
-            Some(bytes) => Ok(bytes),
-            None => Ok(missing_page(self.alloc)?),
-        }
+        self.last.note(path, read)
     }
-}
-
-impl<F: Folder + Drop> ServedPages<F> {
-    /// Why these pages lead to nothing.
-    pub(crate) fn refusal(&self, error: ProveError<FolderError>) -> LogError
-        ensures whole { IsOfSourceUnless ⊥ error → IsNoFault ⊥ result }
-        ensures cause { result ≡ LogError.Folder FolderError.Failed → self.now.fault ≡ Some ReadFault.DeviceFailed }
-    {
-        of_source(self.alloc, self.last.as_str(), self.fault, error)
-    }
-}
-
-// What is read where a page is missing: one byte, as no page has.
-fn missing_page(alloc: Global) -> Result<Vec<u8>, AllocError>
-    ensures { IfOk result (λ bytes. bytes.items ≡ 0 ∷ []) }
-{
-    Vec::from_slice(alloc, &[0])
 }
 
 /// What a page's path has below `map/`.

@@ -2,7 +2,6 @@ use Rattle.std.proofs.Common.{ℕ, List, map, sym, arith, Bor}
 use Rattle.std.proofs.lemmas.List.{get_or-map, length-map}
 use Rattle.warg_store.specs.Log.{AreShort}
 use Rattle.warg_registry.specs.Insertions.{entry_of}
-use Rattle.warg_registry.specs.Publishing.{IsRefusedFor}
 use Rattle.warg_registry.proofs.Refused.{told_as, refused_for, none_long}
 use Rattle.warg_registry.proofs.folder.entries_in.Goals as goal
 
@@ -16,6 +15,6 @@ returns-in_err-entry_in-clause-refused c =
     let i = c.insertions.insertion-index in
     let long : Type 0 = AreShort (map entry_of (map pair all)) → ⊥ in
     let e = c.in_err-entry_in.field-0.0 in
-    told_as (IsRefusedFor long ⊥) e c.from_residual.result c.from_residual.ensures.1
+    told_as _ _ _ c.from_residual.ensures.1
     (refused_for _ ⊥ long ⊥ e (none_long entry_of (map pair all) i _ (omega (arith, length-map all pair))
     (sym (get_or-map pair all i _ _ (omega arith)))) (λ n. n) c.in_err-entry_in.ensures.refused)

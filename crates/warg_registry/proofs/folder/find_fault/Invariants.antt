@@ -9,5 +9,5 @@ invariant-keys g l = record {
       → IsLogRead g.F.Folder.seen g.F.Folder.may_leave g.F.Folder.moment g.F.Folder.left_since known l.fn.pages.log
       → IsLogRead g.F.Folder.seen g.F.Folder.may_leave g.F.Folder.moment g.F.Folder.left_since known l.pages.log;
   told : IsFailureTold g.F.Folder.IsFaithful (g.F.Folder.faults l.fn.pages.log.folder)
-      (g.F.Folder.faults l.pages.log.folder) l.pages.fault;
+      (g.F.Folder.faults l.pages.log.folder) l.pages.last.fault;
 }

@@ -10,7 +10,6 @@ use Rattle.warg_folder.proofs.ForCallers.{read_is, read_leaves}
 use Rattle.warg_registry.specs.Folder.{with_entries}
 use Rattle.warg_registry.proofs.RegistryGrowth.{pushed_more, no_entries_more}
 use Rattle.warg_registry.proofs.FolderMoments.{beside_then}
-use Rattle.warg_registry.specs.Publishing.{IsRefusedFor, of_push}
 use Rattle.warg_registry.proofs.Refused.{told_as, push_refused, none_long}
 use Rattle.warg_registry.proofs.folder.push_all.Goals as goal
 
@@ -32,10 +31,8 @@ push-requires g c = c.entries.invariant.ready
 
 pub returns-in_err-push-clause-any_moment : goal.returns-in_err-push-clause-any_moment
 returns-in_err-push-clause-any_moment g c = λ faithful served old next has.
-    let dev = g.F.Folder in
     let now = c.entries.invariant.pushed faithful served old next has in
-    beside_then dev.seen dev.may_leave dev.moment dev.left_since g.met.F.Folder.counts_now g.met.F.Folder.only_now
-    g.met.F.Folder.seen_may_stay c.args.log.now.folder c.entries.log.folder c.push.new.self.folder
+    beside_then g.F.Folder g.met.F.Folder.counts_now g.met.F.Folder.seen_may_stay
     (c.entries.invariant.moments faithful served old next has) (c.push.ensures.any_moment faithful now.is_open)
 
 pub entries-preserved : goal.entries-preserved
@@ -51,10 +48,8 @@ entries-preserved g c =
       ready = λ faithful. c.push.ensures.ready faithful;
       moments = λ faithful served old next has.
           let now = c.entries.invariant.pushed faithful served old next has in
-          beside_then dev.seen dev.may_leave dev.moment dev.left_since g.met.F.Folder.counts_now
-          g.met.F.Folder.only_now g.met.F.Folder.seen_may_stay c.args.log.now.folder c.entries.log.folder
-          c.push.new.self.folder (c.entries.invariant.moments faithful served old next has)
-          (c.push.ensures.any_moment faithful now.is_open);
+          beside_then dev g.met.F.Folder.counts_now g.met.F.Folder.seen_may_stay
+          (c.entries.invariant.moments faithful served old next has) (c.push.ensures.any_moment faithful now.is_open);
       faults = omega (arith, c.entries.invariant.faults, c.push.ensures.cause.later);
     }
 
@@ -86,7 +81,7 @@ returns-in_err-push-clause-refused g c = λ faithful served old next has.
     let taken = map items (take i entries) in
     let size : length (next.entries ++ taken) ≡ c.entries.log.edge.len =
     sym (length-map (next.entries ++ taken) (λ (e : List ℕ). sha256 (0 ∷ e))) ∙ now.edge.count in
-    told_as (λ e. IsRefusedFor long full (of_push e)) e c.from_residual.result c.from_residual.ensures.1
+    told_as _ _ _ c.from_residual.ensures.1
     (push_refused long full e
     (λ same. none_long items entries i c.entry-item.result (omega arith) c.entry-item.is (omega (
       arith,

@@ -28,9 +28,7 @@ put_one-requires g c = c.pages.invariant.ready
 
 pub returns-in_err-put_one-clause-any_moment : goal.returns-in_err-put_one-clause-any_moment
 returns-in_err-put_one-clause-any_moment g c = λ faithful served old next has.
-    let dev = g.F.Folder in
-    beside_then dev.seen dev.may_leave dev.moment dev.left_since g.met.F.Folder.counts_now g.met.F.Folder.only_now
-    g.met.F.Folder.seen_may_stay c.args.log.now.folder c.pages.log.folder c.put_one.new.log.folder
+    beside_then g.F.Folder g.met.F.Folder.counts_now g.met.F.Folder.seen_may_stay
     (c.pages.invariant.moments faithful served old next has)
     (c.put_one.ensures.any_moment faithful (c.pages.invariant.stays ∙ has.is_open))
 
@@ -48,9 +46,8 @@ pages-preserved g c =
           (c.pages.invariant.put faithful served old next has fresh) free);
       ready = λ faithful. c.put_one.ensures.ready faithful;
       moments = λ faithful served old next has.
-          beside_then dev.seen dev.may_leave dev.moment dev.left_since g.met.F.Folder.counts_now
-          g.met.F.Folder.only_now g.met.F.Folder.seen_may_stay c.args.log.now.folder c.pages.log.folder
-          c.put_one.new.log.folder (c.pages.invariant.moments faithful served old next has)
+          beside_then dev g.met.F.Folder.counts_now g.met.F.Folder.seen_may_stay
+          (c.pages.invariant.moments faithful served old next has)
           (c.put_one.ensures.any_moment faithful (c.pages.invariant.stays ∙ has.is_open));
       faults = omega (arith, c.pages.invariant.faults, c.put_one.ensures.cause.later);
       stays = c.put_one.ensures.open ∙ c.pages.invariant.stays;

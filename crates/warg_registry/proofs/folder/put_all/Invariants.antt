@@ -9,7 +9,8 @@ use Rattle.warg_registry.proofs.folder.put_all.Given as goal
 abbrev pub invariant-pages : goal.invariant-pages
 invariant-pages g l = record {
   put : g.F.Folder.IsFaithful → (served old next : LogOf)
-      → Has g.F.Folder.seen g.F.Folder.may_leave served old next l.fn.log → AreFresh served old next (files_of l.changed)
+      → Has g.F.Folder.seen g.F.Folder.may_leave served old next l.fn.log
+      → AreFresh served old next (files_of l.changed)
       → Has g.F.Folder.seen g.F.Folder.may_leave served old (with_pages next (files_of (take l.page-index l.changed)))
       l.log;
   ready : g.F.Folder.IsFaithful → IsReady g.F.Folder.seen g.F.Folder.may_leave l.log;

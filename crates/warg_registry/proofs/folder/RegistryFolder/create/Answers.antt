@@ -32,9 +32,9 @@ returns-in_err-log-clause-origin g c = λ refused.
     let origin = c.args.origin.now in
     let lines : map (λ (l : Vec ℕ Global). l.items) c.as_slice.result.now ≡ line_of c.new-map.result.root ∷ [] =
     ap (map (λ (l : Vec ℕ Global). l.items)) c.as_slice.ensures.value ∙ c.in_ok-lines.ensures.lines in
-    let P : CreateError → Type 0 = λ e. e ≡ Origin → (65535 < length origin) ⊎ (CanBeKept (registry_of origin []) → ⊥) in
+    let P : CreateError → Type 0 =
+    λ e. e ≡ Origin → (65535 < length origin) ⊎ (CanBeKept (registry_of origin []) → ⊥) in
     let Q : LogOf → Type 0 = λ n. (65535 < length origin) ⊎ (CanBeKept n → ⊥) in
     let none = empty_registry origin c.new-map.result.root _ c.new-map.ensures.root lines in
-    subst (λ r. IfErr r P) refused (told_as P c.in_err-log.field-0.0 c.from_residual-in_err-log.result
-    c.from_residual-in_err-log.ensures.1
+    subst (λ r. IfErr r P) refused (told_as _ _ _ c.from_residual-in_err-log.ensures.1
     (λ is. subst Q none (c.in_err-log.ensures.origin (ap (λ e. Err e) is)))) refl

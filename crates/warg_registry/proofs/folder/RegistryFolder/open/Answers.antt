@@ -1,23 +1,16 @@
-use Rattle.std.proofs.Common.{◌≡◌, [], ◌∷◌, length, refl, sym, ap, subst, ◌∙◌}
+use Rattle.std.proofs.Common.{◌≡◌, length, refl, sym, ap, subst, ◌∙◌}
 use Rattle.std.proofs.lemmas.List.{length-map}
-use Rattle.warg_crypto.specs.Digests.{sha256}
-use Rattle.warg_map.specs.Sparse.{map_of, sparse_root}
 use Rattle.warg_tiles.specs.CheckpointText.{Said}
-use Rattle.warg_registry.specs.Folder.{registry_of, HasRegistry, RegistryIn, IsNoFault}
-use Rattle.warg_registry.specs.declared.error.RegistryError.TheVariants as RegistryError
+use Rattle.warg_registry.specs.Folder.{registry_of, HasRegistry, RegistryIn}
 use Rattle.warg_registry.proofs.Refused.{told_as}
 use Rattle.warg_registry.specs.Insertions.{entry_of}
-use Rattle.warg_registry.specs.Registry.{line_of}
-use Rattle.warg_registry.proofs.MapLines.{one_root, map_digest}
+use Rattle.warg_registry.proofs.MapLines.{own_root, root_of_map}
 use Rattle.warg_registry.proofs.folder.RegistryFolder.open.Goals as goal
 
 pub returns-clause-has : goal.returns-clause-has
 returns-clause-has g c = λ faithful origin served kept has.
     let dev = g.F.Folder in
     let found = c.in_ok-log.ensures.has faithful (registry_of origin served) (registry_of origin kept) has in
-    let map_root = sparse_root sha256 256 (map_of sha256 kept) in
-    let lines : line_of c.in_ok-root.root ∷ [] ≡ line_of map_root ∷ [] = sym c.in_ok-root.ensures.ok.1
-    ∙ ap (λ (t : Said). t.extensions) (c.text.ensures ∙ found.text) in
     let counts : c.in_ok-log.log.edge.len ≡ length kept = c.in_ok-log.ensures.all
     ∙ ap (λ (t : Said). t.length) found.text ∙ length-map kept entry_of in
     subst (λ (r : RegistryIn g.row.F.Denot). HasRegistry dev.seen dev.may_leave origin served kept r)
@@ -25,18 +18,17 @@ returns-clause-has g c = λ faithful origin served kept has.
     (record {
       takes = refl;
       log = found;
-      root = one_root c.in_ok-root.root map_root c.in_ok-root.ensures.ok.0 (map_digest (map_of sha256 kept)) lines;
+      root = root_of_map origin c.in_ok-root.root kept (c.text.ensures ∙ found.text) c.in_ok-root.ensures.ok;
       count = c.length-version.ensures.value ∙ counts;
     })
 
 pub returns-in_err-log-clause-opens : goal.returns-in_err-log-clause-opens
 returns-in_err-log-clause-opens g c = λ faithful origin served kept has.
-    told_as IsNoFault (RegistryError.Log c.in_err-log.field-0.0) c.from_residual.result c.from_residual.ensures.1
+    told_as _ _ _ c.from_residual.ensures.1
     (c.in_err-log.ensures.opens faithful (registry_of origin served) (registry_of origin kept) has)
 
 pub returns-in_err-root-clause-opens : goal.returns-in_err-root-clause-opens
 returns-in_err-root-clause-opens g c = λ faithful origin served kept has.
     let found = c.in_ok-log.ensures.has faithful (registry_of origin served) (registry_of origin kept) has in
-    told_as IsNoFault c.in_err-root.field-0.0 c.from_residual-in_err-root.result c.from_residual-in_err-root.ensures.1
-    (c.in_err-root.ensures.err (sparse_root sha256 256 (map_of sha256 kept)) (map_digest (map_of sha256 kept))
-    (ap (λ (t : Said). t.extensions) (c.text.ensures ∙ found.text)))
+    told_as _ _ _ c.from_residual-in_err-root.ensures.1
+    (own_root origin kept (c.text.ensures ∙ found.text) c.in_err-root.ensures.err)

@@ -2,145 +2,93 @@ use Rattle.std.proofs.Common.{◌≡◌, true, None, List, sym, subst, string_by
 use Rattle.std.specs.List.{All}
 use Rattle.std.specs.declared.alloc.Global.{Global}
 use Rattle.std.specs.declared.string.String.{String}
-use Rattle.warg_store.specs.Log.{IsOneOf}
-use Rattle.warg_folder.specs.Moments.{LeavesOnly}
 use Rattle.warg_folder.specs.Names.{is_page}
 use Rattle.warg_store.specs.Pruned.{ArePagesNotOf, IsWithoutPages}
-use Rattle.warg_registry.specs.Folder.{registry_of, RegistryIn, HasRegistry}
+use Rattle.warg_registry.specs.Folder.{registry_of}
 use Rattle.warg_registry.specs.Pruning.{bytes_of}
-use Rattle.warg_store.specs.Refusals.{IsNoFault}
-use Rattle.warg_store.specs.declared.error.LogError.TheVariants as LogError
 use Rattle.warg_registry.proofs.Refused.{told_as}
 use Rattle.warg_registry.proofs.WhilePruned.{looked_at, of_registry}
 use Rattle.warg_registry.proofs.folder.RegistryFolder.prune.Goals as goal
 
 pub returns-clause-pruned : goal.returns-clause-pruned
 returns-clause-pruned g c = λ faithful origin served kept has.
-    let dev = g.F.Folder in
-    let inside = subst (λ (x : RegistryIn g.row.F.Denot). HasRegistry dev.seen dev.may_leave origin served kept x)
-    (sym c.self.view_is) has in
-    let run = looked_at dev.seen dev.may_leave dev.moment dev.left_since g.met.F.Folder.counts_now
-    g.met.F.Folder.only_now g.met.F.Folder.seen_may_stay _ c.spare.new.self.log (c.spare.ensures.read faithful)
-    origin served kept inside in
+    let run = looked_at g.F.Folder origin served kept c.self.view_is has
+    (g.met.F.Folder.only_now c.args.self.now.log.folder) (c.spare.ensures.read faithful) in
     let S = registry_of origin served in
     let K = registry_of origin kept in
-    let none = run.none (bytes_of c.in_ok-spare.spare.items) (c.in_ok-spare.ensures.spare faithful) in
-    let these = subst (λ names. ArePagesNotOf (bytes_of names) S K K) (sym c.as_slice.ensures.value) none in
-    record {
-      takes = inside.takes;
-      log = c.in_ok-remove_pages.ensures.pruned faithful S K K (c.in_ok-pruned.ensures.pruned faithful S K K run.at) these;
-      root = inside.root;
-      count = inside.count;
-    }
+    let these = subst (λ names. ArePagesNotOf (bytes_of names) S K K) (sym c.as_slice.ensures.value)
+    (run.none _ (c.in_ok-spare.ensures.spare faithful)) in
+    run.has c.remove_pages.new.self (c.in_ok-remove_pages.ensures.pruned faithful S K K
+    (c.in_ok-pruned.ensures.pruned faithful S K K run.at) these)
 
 pub returns-in_err-spare-clause-any_moment : goal.returns-in_err-spare-clause-any_moment
 returns-in_err-spare-clause-any_moment g c = λ faithful origin served kept has.
-    let dev = g.F.Folder in
-    let inside = subst (λ (x : RegistryIn g.row.F.Denot). HasRegistry dev.seen dev.may_leave origin served kept x)
-    (sym c.self.view_is) has in
-    let run = looked_at dev.seen dev.may_leave dev.moment dev.left_since g.met.F.Folder.counts_now
-    g.met.F.Folder.only_now g.met.F.Folder.seen_may_stay _ c.spare.new.self.log (c.spare.ensures.read faithful)
-    origin served kept inside in
-    let S = registry_of origin served in
-    let K = registry_of origin kept in
-    let P : RegistryIn g.row.F.Denot → Type 0 = λ x. LeavesOnly dev.moment dev.left_since x.log.folder
-    c.spare.new.self.log.folder (IsOneOf S K K) in
-    subst P c.self.view_is run.reading
+    (looked_at g.F.Folder origin served kept c.self.view_is has
+    (g.met.F.Folder.only_now c.args.self.now.log.folder) (c.spare.ensures.read faithful)).reading
 
 pub returns-in_err-pruned-clause-any_moment : goal.returns-in_err-pruned-clause-any_moment
 returns-in_err-pruned-clause-any_moment g c = λ faithful origin served kept has.
-    let dev = g.F.Folder in
-    let inside = subst (λ (x : RegistryIn g.row.F.Denot). HasRegistry dev.seen dev.may_leave origin served kept x)
-    (sym c.self.view_is) has in
-    let run = looked_at dev.seen dev.may_leave dev.moment dev.left_since g.met.F.Folder.counts_now
-    g.met.F.Folder.only_now g.met.F.Folder.seen_may_stay _ c.spare.new.self.log (c.spare.ensures.read faithful)
-    origin served kept inside in
+    let run = looked_at g.F.Folder origin served kept c.self.view_is has
+    (g.met.F.Folder.only_now c.args.self.now.log.folder) (c.spare.ensures.read faithful) in
     let S = registry_of origin served in
     let K = registry_of origin kept in
-    let P : RegistryIn g.row.F.Denot → Type 0 = λ x. LeavesOnly dev.moment dev.left_since x.log.folder
-    c.prune.new.self.folder (IsOneOf S K K) in
-    subst P c.self.view_is (run.pruning c.prune.new.self (c.prune.ensures.any_moment faithful S K K run.at))
+    run.pruning c.prune.new.self (c.prune.ensures.any_moment faithful S K K run.at)
 
 pub returns-in_err-remove_pages-clause-any_moment : goal.returns-in_err-remove_pages-clause-any_moment
 returns-in_err-remove_pages-clause-any_moment g c = λ faithful origin served kept has.
-    let dev = g.F.Folder in
-    let inside = subst (λ (x : RegistryIn g.row.F.Denot). HasRegistry dev.seen dev.may_leave origin served kept x)
-    (sym c.self.view_is) has in
-    let run = looked_at dev.seen dev.may_leave dev.moment dev.left_since g.met.F.Folder.counts_now
-    g.met.F.Folder.only_now g.met.F.Folder.seen_may_stay _ c.spare.new.self.log (c.spare.ensures.read faithful)
-    origin served kept inside in
+    let run = looked_at g.F.Folder origin served kept c.self.view_is has
+    (g.met.F.Folder.only_now c.args.self.now.log.folder) (c.spare.ensures.read faithful) in
     let S = registry_of origin served in
     let K = registry_of origin kept in
-    let P : RegistryIn g.row.F.Denot → Type 0 = λ x. LeavesOnly dev.moment dev.left_since x.log.folder
-    c.remove_pages.new.self.folder (IsOneOf S K K) in
-    let none = run.none (bytes_of c.in_ok-spare.spare.items) (c.in_ok-spare.ensures.spare faithful) in
-    let these = subst (λ names. ArePagesNotOf (bytes_of names) S K K) (sym c.as_slice.ensures.value) none in
-    subst P c.self.view_is (run.removing c.prune.new.self c.remove_pages.new.self
+    let these = subst (λ names. ArePagesNotOf (bytes_of names) S K K) (sym c.as_slice.ensures.value)
+    (run.none _ (c.in_ok-spare.ensures.spare faithful)) in
+    run.removing c.prune.new.self c.remove_pages.new.self
     (c.prune.ensures.any_moment faithful S K K run.at)
-    (c.remove_pages.ensures.any_moment faithful S K K (c.in_ok-pruned.ensures.pruned faithful S K K run.at) these))
+    (c.remove_pages.ensures.any_moment faithful S K K (c.in_ok-pruned.ensures.pruned faithful S K K run.at) these)
 
 pub returns-clause-any_moment : goal.returns-clause-any_moment
 returns-clause-any_moment g c = λ faithful origin served kept has.
-    let dev = g.F.Folder in
-    let inside = subst (λ (x : RegistryIn g.row.F.Denot). HasRegistry dev.seen dev.may_leave origin served kept x)
-    (sym c.self.view_is) has in
-    let run = looked_at dev.seen dev.may_leave dev.moment dev.left_since g.met.F.Folder.counts_now
-    g.met.F.Folder.only_now g.met.F.Folder.seen_may_stay _ c.spare.new.self.log (c.spare.ensures.read faithful)
-    origin served kept inside in
+    let run = looked_at g.F.Folder origin served kept c.self.view_is has
+    (g.met.F.Folder.only_now c.args.self.now.log.folder) (c.spare.ensures.read faithful) in
     let S = registry_of origin served in
     let K = registry_of origin kept in
-    let P : RegistryIn g.row.F.Denot → Type 0 = λ x. LeavesOnly dev.moment dev.left_since x.log.folder
-    c.remove_pages.new.self.folder (IsOneOf S K K) in
-    let none = run.none (bytes_of c.in_ok-spare.spare.items) (c.in_ok-spare.ensures.spare faithful) in
-    let these = subst (λ names. ArePagesNotOf (bytes_of names) S K K) (sym c.as_slice.ensures.value) none in
-    subst P c.self.view_is (run.removing c.prune.new.self c.remove_pages.new.self
+    let these = subst (λ names. ArePagesNotOf (bytes_of names) S K K) (sym c.as_slice.ensures.value)
+    (run.none _ (c.in_ok-spare.ensures.spare faithful)) in
+    run.removing c.prune.new.self c.remove_pages.new.self
     (c.prune.ensures.any_moment faithful S K K run.at)
-    (c.remove_pages.ensures.any_moment faithful S K K (c.in_ok-pruned.ensures.pruned faithful S K K run.at) these))
+    (c.remove_pages.ensures.any_moment faithful S K K (c.in_ok-pruned.ensures.pruned faithful S K K run.at) these)
 
 pub returns-clause-all : goal.returns-clause-all
 returns-clause-all g c = λ faithful origin served kept has.
-    let dev = g.F.Folder in
-    let inside = subst (λ (x : RegistryIn g.row.F.Denot). HasRegistry dev.seen dev.may_leave origin served kept x)
-    (sym c.self.view_is) has in
-    let run = looked_at dev.seen dev.may_leave dev.moment dev.left_since g.met.F.Folder.counts_now
-    g.met.F.Folder.only_now g.met.F.Folder.seen_may_stay _ c.spare.new.self.log (c.spare.ensures.read faithful)
-    origin served kept inside in
+    let run = looked_at g.F.Folder origin served kept c.self.view_is has
+    (g.met.F.Folder.only_now c.args.self.now.log.folder) (c.spare.ensures.read faithful) in
     let S = registry_of origin served in
     let K = registry_of origin kept in
-    let names = c.in_ok-spare.spare.items in
-    let Without : List (String Global) → Type 0 = λ ks. IsWithoutPages (bytes_of ks) (dev.seen c.prune.new.self.folder)
-    (dev.seen c.remove_pages.new.self.folder) in
-    let Removed : List (String Global) → Type 0 = λ ks. All (λ (name : String Global). is_page (string_bytes name) ≡ true
-    → dev.seen c.remove_pages.new.self.folder (string_bytes name) ≡ None) ks in
-    run.remaining c.prune.new.self c.remove_pages.new.self names (c.in_ok-pruned.ensures.only faithful S K K run.at)
+    let files = g.F.Folder.seen c.remove_pages.new.self.folder in
+    let Without : List (String Global) → Type 0 = λ names. IsWithoutPages (bytes_of names)
+    (g.F.Folder.seen c.prune.new.self.folder) files in
+    let Removed : List (String Global) → Type 0 = λ names. All (λ (name : String Global).
+    is_page (string_bytes name) ≡ true → files (string_bytes name) ≡ None) names in
+    run.remaining c.prune.new.self c.remove_pages.new.self c.in_ok-spare.spare.items
+    (c.in_ok-pruned.ensures.only faithful S K K run.at)
     (subst Without c.as_slice.ensures.value (c.in_ok-remove_pages.ensures.only faithful))
     (subst Removed c.as_slice.ensures.value (c.in_ok-remove_pages.ensures.removed faithful))
     (c.in_ok-spare.ensures.all faithful)
 
 pub returns-in_err-spare-clause-whole : goal.returns-in_err-spare-clause-whole
 returns-in_err-spare-clause-whole g c = λ faithful origin served kept has.
-    let dev = g.F.Folder in
-    let inside = subst (λ (x : RegistryIn g.row.F.Denot). HasRegistry dev.seen dev.may_leave origin served kept x)
-    (sym c.self.view_is) has in
-    told_as (IsNoFault ⊥) c.in_err-spare.field-0.0 c.from_residual.result c.from_residual.ensures.1
-    (of_registry dev.seen dev.may_leave dev.moment dev.left_since g.met.F.Folder.counts_now g.met.F.Folder.only_now
-    g.met.F.Folder.seen_may_stay _ c.spare.new.self.log (c.spare.ensures.read faithful) origin served kept inside
+    told_as _ _ _ c.from_residual.ensures.1
+    (of_registry g.F.Folder origin served kept c.self.view_is has _
     (c.in_err-spare.ensures.whole faithful))
 
 pub returns-in_err-pruned-clause-whole : goal.returns-in_err-pruned-clause-whole
 returns-in_err-pruned-clause-whole g c = λ faithful origin served kept has.
-    let dev = g.F.Folder in
-    let inside = subst (λ (x : RegistryIn g.row.F.Denot). HasRegistry dev.seen dev.may_leave origin served kept x)
-    (sym c.self.view_is) has in
-    let run = looked_at dev.seen dev.may_leave dev.moment dev.left_since g.met.F.Folder.counts_now
-    g.met.F.Folder.only_now g.met.F.Folder.seen_may_stay _ c.spare.new.self.log (c.spare.ensures.read faithful)
-    origin served kept inside in
-    told_as (IsNoFault ⊥) c.in_err-pruned.field-0.0 c.from_residual-in_err-pruned.result
-    c.from_residual-in_err-pruned.ensures.1
-    (c.in_err-pruned.ensures.whole faithful (registry_of origin served) (registry_of origin kept)
-    (registry_of origin kept) run.at)
+    let run = looked_at g.F.Folder origin served kept c.self.view_is has
+    (g.met.F.Folder.only_now c.args.self.now.log.folder) (c.spare.ensures.read faithful) in
+    let S = registry_of origin served in
+    let K = registry_of origin kept in
+    told_as _ _ _ c.from_residual-in_err-pruned.ensures.1 (c.in_err-pruned.ensures.whole faithful S K K run.at)
 
 pub returns-in_err-remove_pages-clause-whole : goal.returns-in_err-remove_pages-clause-whole
 returns-in_err-remove_pages-clause-whole g c = λ faithful origin served kept has.
-    told_as (IsNoFault ⊥) (LogError.Folder c.in_err-remove_pages.field-0.0) c.from_residual-in_err-remove_pages.result
-    c.from_residual-in_err-remove_pages.ensures.1 tt
+    told_as _ _ _ c.from_residual-in_err-remove_pages.ensures.1 tt

@@ -18,7 +18,8 @@ returns c = λ pages named.
           let n = page_path p.prefix p.version in
           subst (λ (ks : List (String Global)). Contains (bytes_of ks) n) (sym c.in_ok-insert.ensures.keys)
           (name_there _ same_names keys c.in_ok-page_path.field-0 n (⊎_elim (λ old. inl (named.0 p old))
-          (λ new. inr (c.in_ok-page_path.ensures ∙ ap (λ (q : ChangedPageAt). page_path q.prefix q.version) (of_one r p new)))
+          (λ new. inr (c.in_ok-page_path.ensures
+          ∙ ap (λ (q : ChangedPageAt). page_path q.prefix q.version) (of_one r p new)))
           (Contains-append_cases pages (r ∷ []) p there))),
       λ n is. ⊎_elim (λ old.
           let from = named.1 n old in

@@ -4,7 +4,6 @@ use Rattle.warg_folder.specs.Files.{Files}
 use Rattle.warg_folder.proofs.ForCallers.{read_then}
 use Rattle.warg_pages.specs.Audits.{AreInPages}
 use Rattle.warg_store.specs.Reading.{checkpoint_said}
-use Rattle.warg_store.specs.Refusals.{IsNoFault}
 use Rattle.warg_tiles.specs.CheckpointText.{Said}
 use Rattle.warg_registry.specs.Auditing.{AreAllInFiles}
 use Rattle.warg_registry.specs.Folder.{registry_of}
@@ -45,20 +44,15 @@ returns-clause-insertions g c = λ faithful.
 
 pub returns-in_err-keys-clause-whole : goal.returns-in_err-keys-clause-whole
 returns-in_err-keys-clause-whole g c = λ faithful origin insertions has.
-    told_as (IsNoFault ⊥) c.in_err-keys.field-0.0 c.from_residual.result c.from_residual.ensures.1
+    told_as _ _ _ c.from_residual.ensures.1
     (c.in_err-keys.ensures.whole faithful origin insertions has)
 
 pub returns-clause-reads : goal.returns-clause-reads
 returns-clause-reads g c = λ faithful origin insertions has.
-    let dev = g.F.Folder in
     let keys = c.in_ok-keys.ensures in
     let replay = c.in_ok-replay.ensures in
-    registry_read dev.seen dev.may_leave dev.moment dev.left_since origin insertions c.count_keys.new.self
-    c.replay.new.self
-    replay.same (replay.read faithful)
-    (registry_read dev.seen dev.may_leave dev.moment dev.left_since origin insertions c.args.self.now
-    c.count_keys.new.self
-    keys.same (keys.read faithful) has)
+    registry_read g.F.Folder replay.same (replay.read faithful) origin insertions
+    (registry_read g.F.Folder keys.same (keys.read faithful) origin insertions has)
 
 pub returns-clause-read : goal.returns-clause-read
 returns-clause-read g c = λ faithful.
@@ -70,13 +64,12 @@ returns-clause-read g c = λ faithful.
 
 pub returns-in_err-replay-clause-whole : goal.returns-in_err-replay-clause-whole
 returns-in_err-replay-clause-whole g c = λ faithful origin insertions has.
-    let dev = g.F.Folder in
     let was = c.in_ok-keys.ensures in
     let keys = was.keys faithful in
-    let visited = visited_read dev.seen dev.may_leave dev.moment dev.left_since insertions keys.0 c.args.self.now
-    c.count_keys.new.self was.same (was.read faithful) (record { origin = origin; reads = has; are_all = keys.1 }) in
-    told_as (IsNoFault ⊥) c.in_err-replay.field-0.0 c.from_residual-in_err-replay.result
-    c.from_residual-in_err-replay.ensures.1 (c.in_err-replay.ensures.whole faithful insertions keys.0 visited)
+    let visited = visited_read g.F.Folder was.same (was.read faithful) insertions keys.0
+    (record { origin = origin; reads = has; are_all = keys.1 }) in
+    told_as _ _ _ c.from_residual-in_err-replay.ensures.1
+    (c.in_err-replay.ensures.whole faithful insertions keys.0 visited)
 
 pub returns-then-ne-clause-whole : goal.returns-then-ne-clause-whole
 returns-then-ne-clause-whole g c = λ faithful origin insertions has.
@@ -84,8 +77,7 @@ returns-then-ne-clause-whole g c = λ faithful origin insertions has.
     let mid = c.count_keys.new.self in
     let was = c.in_ok-keys.ensures in
     let done = c.in_ok-replay.ensures in
-    let has_mid = registry_read dev.seen dev.may_leave dev.moment dev.left_since origin insertions c.args.self.now mid
-    was.same (was.read faithful) has in
+    let has_mid = registry_read dev was.same (was.read faithful) origin insertions has in
     let same = own_checkpoint dev.IsFaithful (dev.seen mid.log.folder) mid.log.text.length c.in_ok-replay.replay.log
     c.in_ok-replay.replay.last c.checkpoint.result c.checkpoint-checkpoint.result done.replayed.0 done.replayed.1
     c.checkpoint.ensures.root c.checkpoint.ensures.length origin insertions
@@ -100,11 +92,10 @@ returns-then-replay-keys-clause-whole g c = λ faithful origin insertions has.
     let was = c.in_ok-keys.ensures in
     let keys = was.keys faithful in
     let replayed = c.in_ok-replay.ensures.replayed in
-    let visited = visited_read dev.seen dev.may_leave dev.moment dev.left_since insertions keys.0 c.args.self.now mid
-    was.same (was.read faithful) (record { origin = origin; reads = has; are_all = keys.1 }) in
+    let visited = visited_read dev was.same (was.read faithful) insertions keys.0
+    (record { origin = origin; reads = has; are_all = keys.1 }) in
     let in_pages = replayed.1.in_pages faithful mid.root keys.0 visited.are_all in
-    let has_mid = registry_read dev.seen dev.may_leave dev.moment dev.left_since origin insertions c.args.self.now mid
-    was.same (was.read faithful) has in
+    let has_mid = registry_read dev was.same (was.read faithful) origin insertions has in
     let same = one_list insertions replayed.0 (short_insertions insertions has_mid.reads.can.short)
     (sym (replayed.2 faithful (registry_of origin insertions) has_mid.reads)) in
     let P : List (List ℕ × List ℕ) → Type 0 = λ es. AreInPages sha256 keys.0 0 es in_pages.0 in

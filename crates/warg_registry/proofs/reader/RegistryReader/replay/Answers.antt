@@ -3,7 +3,6 @@ use Rattle.std.proofs.Math.Seq.{take-add}
 use Rattle.std.proofs.lemmas.List.{map-append, length-map, take_all}
 use Rattle.warg_folder.proofs.ForCallers.{read_is, read_then}
 use Rattle.warg_log.specs.Claims.{RootAndLength}
-use Rattle.warg_store.specs.Refusals.{IsNoFault}
 use Rattle.warg_tiles.specs.CheckpointText.{Said}
 use Rattle.warg_registry.specs.Folder.{registry_of}
 use Rattle.warg_registry.specs.Insertions.{entry_of, entries_of}
@@ -78,9 +77,8 @@ returns-in_err-replay_bundle-clause-whole g c = λ faithful insertions all has.
     let starts = replayed_length dev.IsFaithful (dev.seen first.log.folder) first.log.text.length c.bundles.replay.log
     c.bundles.replay.last was.replayed.0 (entries_of insertions) (256 * c.bundles.bundle) was.replayed.1
     (was.replayed.2 faithful log has.reads.reads) (omega (arith, all_entries, inside)) in
-    let visited = visited_read dev.seen dev.may_leave dev.moment dev.left_since insertions all first c.bundles.self
-    was.same (was.read faithful) has in
-    told_as (IsNoFault ⊥) c.in_err-replay_bundle.field-0.0 c.from_residual.result c.from_residual.ensures.1
+    let visited = visited_read dev was.same (was.read faithful) insertions all has in
+    told_as _ _ _ c.from_residual.ensures.1
     (c.in_err-replay_bundle.ensures.whole faithful insertions all visited inside starts)
 
 pub returns-clause-replayed : goal.returns-clause-replayed

@@ -4,7 +4,6 @@ use Rattle.std.specs.Prelude.{slice_get}
 use Rattle.warg_folder.specs.Moments.{IsRead}
 use Rattle.warg_folder.proofs.ForCallers.{read_then}
 use Rattle.warg_store.specs.Reading.{ServedIn, Reads, bundle_in}
-use Rattle.warg_store.specs.Refusals.{IsNoFault}
 use Rattle.warg_tiles.specs.CheckpointText.{Said}
 use Rattle.warg_registry.specs.Auditing.{AreReplayed}
 use Rattle.warg_registry.specs.Folder.{registry_of}
@@ -105,9 +104,7 @@ returns-in_err-replay_entry-clause-whole g c = λ faithful insertions all has in
     (made_at (λ (e : Vec ℕ Global). e.items) items c.entries.entry-index c.entry-item.result c.entries-test.true
     c.entry-item.is) in
     let place : c.entries.replay.log.len ≡ first + c.entries.entry-index = omega (arith, was.count, starts) in
-    let visited = visited_read dev.seen dev.may_leave dev.moment dev.left_since insertions all c.args.self.now
-    c.entries.self was.same (was.read faithful) has in
-    told_as (IsNoFault ⊥) c.in_err-replay_entry.field-0.0 c.from_residual-in_err-replay_entry.result
-    c.from_residual-in_err-replay_entry.ensures.1
+    let visited = visited_read dev was.same (was.read faithful) insertions all has in
+    told_as _ _ _ c.from_residual-in_err-replay_entry.ensures.1
     (c.in_err-replay_entry.ensures.whole faithful insertions all visited found.0
     (ap (slice_get insertions) place ∙ found.1) found.2)

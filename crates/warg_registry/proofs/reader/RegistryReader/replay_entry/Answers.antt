@@ -4,7 +4,6 @@ use Rattle.warg_crypto.specs.Tree.{leaf_digest}
 use Rattle.warg_log.specs.Blocks.{StandsFor}
 use Rattle.warg_registry.specs.Insertions.{entry_of}
 use Rattle.std.specs.Prelude.{slice_get}
-use Rattle.warg_store.specs.Refusals.{IsNoFault}
 use Rattle.warg_registry.proofs.Entries.{one_insertion}
 use Rattle.warg_registry.proofs.Refused.{told_as}
 use Rattle.warg_registry.proofs.Replaying.{one_replayed, IsLastBy}
@@ -46,5 +45,5 @@ returns-in_err-is_last-clause-whole g c = λ faithful insertions all has e at is
     let one : read ≡ e = one_insertion read e c.in-Ok.ensures.ok.0 (sym entry ∙ is) in
     let here : slice_get insertions c.length-index.result ≡ Some read =
     ap (slice_get insertions) c.length-index.ensures.value ∙ at ∙ ap (λ x. Some x) (sym one) in
-    told_as (IsNoFault ⊥) c.in_err-is_last.field-0.0 c.from_residual.result c.from_residual.ensures.1
+    told_as _ _ _ c.from_residual.ensures.1
     (c.in_err-is_last.ensures.whole faithful insertions all has here)

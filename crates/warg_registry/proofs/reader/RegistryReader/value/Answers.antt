@@ -2,7 +2,6 @@ use Rattle.std.proofs.Common.{◌≡◌, ℕ, ◌<◌, ◌≤◌, ◌^◌, List,
 use Rattle.std.specs.Prelude.{slice_get}
 use Rattle.warg_crypto.specs.Digests.{sha256}
 use Rattle.warg_store.specs.Reading.{IsShown, checkpoint_said}
-use Rattle.warg_store.specs.Refusals.{IsNoFault}
 use Rattle.warg_registry.specs.Insertions.{entries_of}
 use Rattle.warg_registry.specs.Reading.{IsOfEntry, IsLogged}
 use Rattle.warg_registry.proofs.FoundKeys as found
@@ -24,7 +23,8 @@ returns-clause-own g c = λ faithful.
     let key = c.args.key.now in
     let entry = c.as_slice.result.now in
     let peers = c.args.peers.items in
-    ok_then (IsOfEntry key c.args.index c.args.leaf.now entry peers) _ c.held.result (λ at is origin insertions has held.
+    ok_then (IsOfEntry key c.args.index c.args.leaf.now entry peers) _ c.held.result
+    (λ at is origin insertions has held.
     let there : slice_get (entries_of insertions) c.args.index ≡ Some entry =
     c.in_ok-entry.ensures.own faithful origin insertions has
     ∙ ap (λ (e : List ℕ). Some e) (sym c.as_slice.ensures.value) in
@@ -47,13 +47,14 @@ returns-clause-whole g c = λ faithful origin insertions has own held.
       ap (λ (e : List ℕ). length e) c.as_slice.ensures.value,
       c.in_ok-entry.entry.small,
     ) in
-    let is = entry_of_key sha256 insertions key entry c.args.leaf.now c.args.index small there held.place held.held own in
+    let is = entry_of_key sha256 insertions key entry c.args.leaf.now c.args.index small there
+    held.place held.held own in
     c.held.ensures.whole is.0 is.1 is.2 is.3
 
 pub returns-in_err-entry-clause-whole : goal.returns-in_err-entry-clause-whole
 returns-in_err-entry-clause-whole g c = λ faithful origin insertions has own held.
     let within = held_within sha256 insertions c.args.key.now c.args.leaf.now c.args.index held.place held.held in
-    told_as (IsNoFault ⊥) c.in_err-entry.field-0.0 c.from_residual.result c.from_residual.ensures.1
+    told_as _ _ _ c.from_residual.ensures.1
     (not_beyond (length (entries_of insertions) ≤ c.args.index) c.in_err-entry.field-0.0 (λ past. omega arith)
     (c.in_err-entry.ensures.whole faithful origin insertions has))
 
@@ -63,6 +64,8 @@ returns-clause-logged g c = λ from.
     let entry = c.as_slice.result.now in
     let peers = c.args.peers.items in
     let checkpoint = checkpoint_said c.args.self.now.log.text in
-    let included = subst (IsShown checkpoint c.args.index) (sym c.as_slice.ensures.value) (c.in_ok-entry.ensures.shown from) in
+    let included = subst (IsShown checkpoint c.args.index) (sym c.as_slice.ensures.value)
+    (c.in_ok-entry.ensures.shown from) in
     ok_then (IsOfEntry key c.args.index c.args.leaf.now entry peers) (IsLogged checkpoint key) c.held.result
-    (λ at is. found.logged key c.args.leaf.now entry c.args.index peers checkpoint at included is) c.held.ensures.of_entry
+    (λ at is. found.logged key c.args.leaf.now entry c.args.index peers checkpoint at included is)
+    c.held.ensures.of_entry

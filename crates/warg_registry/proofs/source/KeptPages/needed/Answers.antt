@@ -4,7 +4,6 @@ use Rattle.warg_crypto.specs.Digests.{sha256}
 use Rattle.warg_pages.specs.ProvedKeys.{IsOwnSource}
 use Rattle.warg_registry.specs.Folder.{page_read}
 use Rattle.warg_registry.specs.Pruning.{bytes_of, IsPageOf}
-use Rattle.warg_store.specs.Refusals.{IsNoFault}
 use Rattle.warg_registry.proofs.Pruned.{no_paths, none_named, of_visits}
 use Rattle.warg_registry.proofs.Refused.{told_as}
 use Rattle.warg_registry.proofs.source.KeptPages.needed.Goals as goal
@@ -48,19 +47,17 @@ returns-then-is_map-clause-needed g c = λ faithful known origin served kept rea
 
 pub returns-in_err-add-clause-whole : goal.returns-in_err-add-clause-whole
 returns-in_err-add-clause-whole g c = λ faithful known origin served kept read serves own.
-    told_as (IsNoFault ⊥) c.in_err-add.field-0.0 c.from_residual.result c.from_residual.ensures.1
+    told_as _ _ _ c.from_residual.ensures.1
     (c.in_err-add.ensures.whole faithful known kept read own)
 
 pub returns-in_err-served-clause-whole : goal.returns-in_err-served-clause-whole
 returns-in_err-served-clause-whole g c = λ faithful known origin served kept read serves own.
-    told_as (IsNoFault ⊥) c.in_err-served.field-0.0 c.from_residual-in_err-served.result
-    c.from_residual-in_err-served.ensures.1
+    told_as _ _ _ c.from_residual-in_err-served.ensures.1
     (c.in_err-served.ensures.whole faithful known origin served (c.in_ok-add.ensures.read faithful known read) serves)
 
 pub returns-in_err-add-2-clause-whole : goal.returns-in_err-add-2-clause-whole
 returns-in_err-add-2-clause-whole g c = λ faithful known origin served kept read serves own.
     let read_one = c.in_ok-add.ensures.read faithful known read in
-    told_as (IsNoFault ⊥) c.in_err-add-2.field-0.0 c.from_residual-in_err-add-2.result
-    c.from_residual-in_err-add-2.ensures.1
+    told_as _ _ _ c.from_residual-in_err-add-2.ensures.1
     (c.in_err-add-2.ensures.whole faithful known served (c.in_ok-served.ensures.read faithful known read_one)
     (c.in_ok-served.ensures.served faithful known origin served read_one serves))

@@ -1,6 +1,5 @@
 use Rattle.std.proofs.Common.{⊎_elim, inl, inr}
 use Rattle.warg_registry.specs.Pruning.{bytes_of}
-use Rattle.warg_store.specs.Refusals.{IsNoFault}
 use Rattle.warg_registry.proofs.Pruned.{none_of}
 use Rattle.warg_registry.proofs.Refused.{told_as}
 use Rattle.warg_registry.proofs.source.KeptPages.spare.Goals as goal
@@ -16,16 +15,17 @@ returns-clause-spare g c = λ faithful known origin served kept read serves own.
 pub returns-clause-all : goal.returns-clause-all
 returns-clause-all g c = λ faithful known origin served kept read serves own n page there.
     let needed = c.in_ok-needed.ensures.needed faithful known origin served kept read serves own in
-    let listed = c.in_ok-names.ensures.all faithful known (c.in_ok-needed.ensures.read faithful known read) n page there in
-    ⊎_elim (λ spare. inl spare) (λ key. ⊎_elim (λ these. inr (inl these)) (λ those. inr (inr those)) (needed.only n key))
+    let listed = c.in_ok-names.ensures.all faithful known
+    (c.in_ok-needed.ensures.read faithful known read) n page there in
+    ⊎_elim (λ spare. inl spare)
+    (λ key. ⊎_elim (λ these. inr (inl these)) (λ those. inr (inr those)) (needed.only n key))
     (c.in_ok-others.ensures.all n listed)
 
 pub returns-in_err-needed-clause-whole : goal.returns-in_err-needed-clause-whole
 returns-in_err-needed-clause-whole g c = λ faithful known origin served kept read serves own.
-    told_as (IsNoFault ⊥) c.in_err-needed.field-0.0 c.from_residual.result c.from_residual.ensures.1
+    told_as _ _ _ c.from_residual.ensures.1
     (c.in_err-needed.ensures.whole faithful known origin served kept read serves own)
 
 pub returns-in_err-names-clause-whole : goal.returns-in_err-names-clause-whole
 returns-in_err-names-clause-whole g c = λ faithful known origin served kept read serves own.
-    told_as (IsNoFault ⊥) c.in_err-names.field-0.0 c.from_residual-in_err-names.result
-    c.from_residual-in_err-names.ensures.1 c.in_err-names.ensures.whole
+    told_as _ _ _ c.from_residual-in_err-names.ensures.1 c.in_err-names.ensures.whole
