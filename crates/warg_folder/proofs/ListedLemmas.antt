@@ -1,14 +1,29 @@
 -- The names that a folder in memory lists.
-use Rattle.std.proofs.Common.{◌≡◌, inl, inr, ℕ, ◌+◌, ◌<◌, List, [], ◌∷◌, ◌++◌, length, get_or, map, true, Some, IsSome, nat_eq, sym, ◌∙◌, ap, subst, arith, string_bytes}
-use Rattle.std.specs.List.{All, Contains, starts_with}
+use Rattle.std.proofs.Common.{◌≡◌, ◌≢◌, inl, inr, ℕ, ◌+◌, ◌<◌, List, [], ◌∷◌, ◌++◌, length, get_or, map, true, Some, IsSome, nat_eq, sym, ◌∙◌, ap, subst, arith, string_bytes}
+use Rattle.std.specs.List.{All, AllPairs, Contains, starts_with}
+use Rattle.std.proofs.lemmas.List.Quantifiers.{all_pairs_push}
 use Rattle.std.proofs.lemmas.Bool.{cases_lt}
-use Rattle.std.proofs.lemmas.List.{get_or_default, map-append}
+use Rattle.std.proofs.lemmas.List.{get_or-map, get_or_default, length-map, map-append}
 use Rattle.std.proofs.lemmas.List.Elements.{All-push, Contains-append_left, Contains-push}
 use Rattle.std.specs.declared.string.String.{String}
 use Rattle.std.specs.declared.alloc.Global.{Global}
 use Rattle.warg_folder.specs.declared.memory.Call.{Call}
 use Rattle.warg_folder.specs.Memory.{seen_after, name_put}
 use Rattle.warg_folder.proofs.MemoryLemmas.{was_put}
+
+-- no two of the names are one
+abbrev pub AreApart : List (String Global) → Type 0
+AreApart names = AllPairs (λ (a b : String Global). string_bytes a ≢ string_bytes b) names
+
+pub apart_more : (names new : List (String Global)) (x : String Global) → new ≡ names ++ x ∷ [] → AreApart names
+    → (Contains (map (λ name. string_bytes name) names) (string_bytes x) → ⊥) → AreApart new
+apart_more names new x is apart other =
+    subst AreApart (sym is) (all_pairs_push (λ (a b : String Global). string_bytes a ≢ string_bytes b) names x apart
+    (λ k d below same. other (
+      k,
+      omega (arith, length-map names (λ (name : String Global). string_bytes name), below),
+      get_or-map (λ (name : String Global). string_bytes name) names k d (string_bytes x) below ∙ same,
+    )))
 
 module _ (calls : List Call) (prefix : List ℕ) where
   -- each has a file and begins with the prefix
@@ -54,11 +69,12 @@ module _ (calls : List Call) (prefix : List ℕ) where
 
   pub all_same : (i : ℕ) (call : Call) (names : List (String Global)) → i < length calls → call ≡ get_or calls i call
       → AreAll i names → ((n : List ℕ) → name_put call ≡ Some n → IsSome (seen_after calls n)
-      → starts_with nat_eq n prefix ≡ true → ⊥) → AreAll (i + 1) names
+      → starts_with nat_eq n prefix ≡ true → Contains (map (λ name. string_bytes name) names) n)
+      → AreAll (i + 1) names
   all_same i call names below is all none k d n lt by some begins = elim (cases_lt k i) [
     | inl before ↦ all k d n before by some begins
     | inr here ↦ let same : k ≡ i = omega arith in
-        absurd (none n (ap name_put (sym (at_call i k call d below is same)) ∙ by) some begins)
+        none n (ap name_put (sym (at_call i k call d below is same)) ∙ by) some begins
   ]
 
   -- a file that is there was put by some call

@@ -1,6 +1,6 @@
 //! A folder in memory, for tests. It keeps each call that changed it, so that each past moment can be told from them.
 
-ghost use Rattle.std.specs.Prelude.{◌≡◌, ◌≢◌, ◌+◌, ℕ, List, [], ◌∷◌, ◌++◌, nat_eq, true, length, take, Option, Some, None, IfOk, OnOk, OnErr, IsErrOf, is_some, IsSome, IfSome, IfNone, MatchOption, string_bytes, option_map};
+ghost use Rattle.std.specs.Prelude.{◌≡◌, ◌≢◌, ◌+◌, ℕ, List, [], ◌∷◌, ◌++◌, nat_eq, true, length, take, Option, Some, None, IfOk, OnOk, OnErr, IsErrOf, is_some, IsSome, IsTrue, IfSome, IfNone, MatchOption, Contains, ◌↔◌, map, string_bytes, option_map};
 ghost use Rattle.std.specs.List.{starts_with};
 ghost use Rattle.std.specs.Option.{option_copied};
 ghost use Rattle.warg_folder.specs.declared.device.FolderError.TheVariants.{Memory};
@@ -142,15 +142,29 @@ fn has_file(calls: &[Call], name: &str) -> bool
     found(calls, name).is_some()
 }
 
-// The name at which a call put a file, if it begins with the prefix and has a file.
-fn listed<'a>(calls: &[Call], call: &'a Call, prefix: &str) -> Option<&'a str>
+// Whether a name is one of these.
+fn is_among(names: &[String], name: &str) -> bool
+    ensures { IsTrue result ↔ Contains (map (λ it. string_bytes it) names.now) name.now }
+{
+    'names: for it in names {
+        if it.as_str() == name {
+            return true;
+        }
+    }
+    false
+}
+
+// The name at which a call put a file, if it begins with the prefix, has a file, and is none of these.
+fn listed<'a>(calls: &[Call], call: &'a Call, prefix: &str, names: &[String]) -> Option<&'a str>
     ensures some { IfSome result (λ name. (name_put call.now ≡ Some name.now)
         × IsSome (seen_after calls.now name.now) × (starts_with nat_eq name.now prefix.now ≡ true)) }
     ensures none { IfNone result ((n : List ℕ) → name_put call.now ≡ Some n
-        → IsSome (seen_after calls.now n) → starts_with nat_eq n prefix.now ≡ true → ⊥) }
+        → IsSome (seen_after calls.now n) → starts_with nat_eq n prefix.now ≡ true
+        → Contains (map (λ it. string_bytes it) names.now) n) }
+    ensures other { IfSome result (λ name. Contains (map (λ it. string_bytes it) names.now) name.now → ⊥) }
 {
     let name = name_put(call)?;
-    if begins_with(name, prefix) && has_file(calls, name) {
+    if begins_with(name, prefix) && has_file(calls, name) && !is_among(names, name) {
         Some(name)
     } else {
         None
@@ -202,7 +216,7 @@ impl Folder for MemoryFolder {
         let calls = self.calls.as_slice();
         let mut names = Vec::new(alloc);
         'each: for call in calls {
-            match listed(calls, call, prefix) {
+            match listed(calls, call, prefix, names.as_slice()) {
                 Some(name) => names.push(copied(alloc, name)?)?,
                 None => {}
             }

@@ -1,5 +1,5 @@
 -- Lemmas for the proofs of the crates above, over public definitions alone.
-use Rattle.std.proofs.Common.{◌≡◌, ◌⊎◌, ⊎_elim, ℕ, ◌<◌, List, length, sym, ap, subst, ◌∙◌, arith}
+use Rattle.std.proofs.Common.{◌≡◌, ◌⊎◌, ⊎_elim, ℕ, ◌+◌, ◌<◌, List, length, sym, ap, subst, ◌∙◌, arith}
 use Rattle.std.specs.List.{Contains}
 use Rattle.warg_folder.specs.Files.{File, Files}
 use Rattle.warg_folder.specs.Moments.{IsRead}
@@ -7,9 +7,15 @@ use Rattle.warg_store.specs.Log.{LogOf, HasFiles, Keeps, ArePagesStaged, IsCommi
 use Rattle.warg_folder.specs.Commits.{IsBeside}
 use Rattle.warg_store.specs.Growing.{LogIn, IsReady, Has}
 use Rattle.warg_store.specs.Reading.{ServedIn, Reads}
+use Rattle.warg_store.specs.Pruned.{AreGone}
 use Rattle.warg_store.proofs.FetchedLemmas as fetched
+use Rattle.warg_store.proofs.GoneLemmas as gone
 use Rattle.warg_store.proofs.GrowingLemmas as growing
 use Rattle.warg_store.proofs.ReadyRuns.{staging_kept}
+
+-- files that are removed, and then others
+pub gone_then : (m n : ℕ) (old mid new : Files) → AreGone m old mid → AreGone n mid new → AreGone (m + n) old new
+gone_then = gone.gone_then
 
 module _ {F : Type 0} (seen : F → Files) (may_leave : F → Files → Type 0) (moment : F → ℕ)
     (left_since : F → ℕ → Files → Type 0) where

@@ -17,6 +17,7 @@ mod CreateLemmas
 mod OpenLemmas
 mod SignLemmas
 mod FetchedLemmas
+mod GoneLemmas
 mod PruneLemmas
 mod RemoveLemmas
 mod WholeLemmas

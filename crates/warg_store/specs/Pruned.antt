@@ -1,10 +1,10 @@
 -- What is removed: by pruning, partial tiles and bundles whose full one is there; by their names, pages.
-use Rattle.std.specs.Prelude.{◌≡◌, ◌≢◌, ◌⊎◌, ℕ, ◌<◌, true, List, None, IsSome}
+use Rattle.std.specs.Prelude.{◌≡◌, ◌≢◌, ◌⊎◌, ℕ, zero, suc, ◌<◌, true, List, None, IsSome}
 use Rattle.std.specs.List.{Contains}
 use Rattle.warg_tiles.specs.Tiles.{TileAt}
 use Rattle.warg_tiles.specs.TilePaths.{tile_path, entries_path}
 use Rattle.warg_tiles.specs.Between.{IsTileOf}
-use Rattle.warg_folder.specs.Files.{File, Files}
+use Rattle.warg_folder.specs.Files.{File, Files, without}
 use Rattle.warg_folder.specs.Names.{is_served, is_page, page_name}
 use Rattle.warg_store.specs.Log.{LogOf}
 
@@ -30,6 +30,11 @@ pub record IsSpare (kept served : ℕ) (files : Files) (n : List ℕ) : Type 0 w
 -- Each served file is as it was, or was spare and is gone.
 abbrev pub IsPruned : ℕ → ℕ → Files → Files → Type 0
 IsPruned kept served old new = (n : List ℕ) → is_served n ≡ true → (new n ≡ old n) ⊎ ((new n ≡ None) × IsSpare kept served old n)
+
+-- So many files were removed, one after the other, each of which was there.
+abbrev pub AreGone : ℕ → Files → Files → Type 0
+AreGone zero old new = new ≡ old
+AreGone (suc n) old new = (name : List ℕ) × (before : Files) × AreGone n old before × IsSome (before name) × (new ≡ without name before)
 
 -- None of the names is that of one of the pages.
 abbrev pub IsNoneOf : List (List ℕ) → List File → Type 0

@@ -1,13 +1,13 @@
 //! The pages of a log's folder.
 
-ghost use Rattle.std.specs.Prelude.{◌≡◌, ◌+◌, ℕ, true, List, take, map, option_map, None, IfOk, OnOk, IsSome, All, Contains, string_bytes};
-ghost use Rattle.warg_folder.specs.Files.{Files};
+ghost use Rattle.std.specs.Prelude.{◌≡◌, ◌≢◌, ◌+◌, ℕ, true, List, length, take, map, option_map, None, IfOk, OnOk, IsSome, All, AllPairs, Contains, string_bytes};
+ghost use Rattle.warg_folder.specs.Files.{Files, without};
 ghost use Rattle.warg_store.specs.Growing.{Has};
 ghost use Rattle.warg_store.specs.Log.{LogOf, IsOneOf};
 ghost use Rattle.warg_folder.specs.Moments.{Only, Follows, Elapses, IsRead, LeavesOnly, HasCause};
 ghost use Rattle.warg_folder.specs.Names.{is_page, page_name};
 ghost use Rattle.warg_store.specs.Private.Steps.{IsPageGone};
-ghost use Rattle.warg_store.specs.Pruned.{ArePagesNotOf, IsWithoutPages};
+ghost use Rattle.warg_store.specs.Pruned.{AreGone, ArePagesNotOf, IsWithoutPages};
 
 use crate::log_folder::LogFolder;
 use std::alloc::Global;
@@ -28,13 +28,15 @@ impl<F: Folder + Drop> LogFolder<F> {
         read_page(self.alloc, &mut self.folder, path, most)
     }
 
-    /// The names below `map/` that have a file, in any order, each at least once. It changes nothing, and fails only if memory
+    /// The names below `map/` that have a file, in any order, each once. It changes nothing, and fails only if memory
     /// is refused or the device fails.
     pub fn pages(&mut self) -> Result<Vec<String>, FolderError>
         ensures there { F.IsFaithful → IfOk result (λ names. All (λ name. IsSome (F.seen self.old.folder (string_bytes name))
             × (is_page (string_bytes name) ≡ true)) names.items) }
         ensures all { F.IsFaithful → IfOk result (λ names. (n : List ℕ) → IsSome (F.seen self.old.folder n)
             → is_page n ≡ true → Contains (map (λ name. string_bytes name) names.items) n) }
+        ensures once { F.IsFaithful → IfOk result (λ names.
+            AllPairs (λ a b. string_bytes a ≢ string_bytes b) names.items) }
         ensures same { self.new ≡ record self.old { folder = self.new.folder } }
         ensures read { F.IsFaithful
             → IsRead F.seen F.may_leave F.moment F.left_since self.old.folder self.new.folder }
@@ -59,6 +61,10 @@ impl<F: Folder + Drop> LogFolder<F> {
             → Has F.seen F.may_leave served old next self.old
             → ArePagesNotOf (map (λ name. string_bytes name) names.now) served old next
             → LeavesOnly F.moment F.left_since self.old.folder self.new.folder (IsOneOf served old old) }
+        ensures gone { F.IsFaithful → AllPairs (λ a b. string_bytes a ≢ string_bytes b) names.now
+            → All (λ name. IsSome (F.seen self.old.folder (string_bytes name))
+            × (is_page (string_bytes name) ≡ true)) names.now
+            → OnOk result (AreGone (length names.now) (F.seen self.old.folder) (F.seen self.new.folder)) }
         ensures same { self.new ≡ record self.old { folder = self.new.folder } }
         ensures cause { HasCause F.IsFaithful (F.faults self.old.folder) (F.faults self.new.folder) result }
     {
@@ -72,6 +78,9 @@ fn remove_all<F: Folder>(folder: &mut F, names: &[String]) -> Result<(), FolderE
         → F.seen folder.new (string_bytes name) ≡ None) names.now) }
     ensures only { F.IsFaithful → OnOk result (IsWithoutPages (map (λ name. string_bytes name) names.now)
         (F.seen folder.old) (F.seen folder.new)) }
+    ensures gone { F.IsFaithful → AllPairs (λ a b. string_bytes a ≢ string_bytes b) names.now
+        → All (λ name. IsSome (F.seen folder.old (string_bytes name)) × (is_page (string_bytes name) ≡ true)) names.now
+        → OnOk result (AreGone (length names.now) (F.seen folder.old) (F.seen folder.new)) }
     ensures durable { F.IsFaithful → OnOk result (Only (F.seen folder.new) (F.may_leave folder.new)) }
     ensures any_moment { F.IsFaithful → LeavesOnly F.moment F.left_since folder.old folder.new (λ c. (d : Files)
         × F.may_leave folder.old d × IsWithoutPages (map (λ name. string_bytes name) names.now) d c) }
@@ -87,6 +96,9 @@ fn remove_each<F: Folder>(folder: &mut F, names: &[String]) -> Result<(), Folder
         → F.seen folder.new (string_bytes name) ≡ None) names.now) }
     ensures only { F.IsFaithful → OnOk result (IsWithoutPages (map (λ name. string_bytes name) names.now)
         (F.seen folder.old) (F.seen folder.new)) }
+    ensures gone { F.IsFaithful → AllPairs (λ a b. string_bytes a ≢ string_bytes b) names.now
+        → All (λ name. IsSome (F.seen folder.old (string_bytes name)) × (is_page (string_bytes name) ≡ true)) names.now
+        → OnOk result (AreGone (length names.now) (F.seen folder.old) (F.seen folder.new)) }
     ensures crash { F.IsFaithful → Follows (IsWithoutPages (map (λ name. string_bytes name) names.now))
         (F.may_leave folder.old) (F.may_leave folder.new) }
     ensures any_moment { F.IsFaithful → LeavesOnly F.moment F.left_since folder.old folder.new (λ c. (d : Files)
@@ -103,6 +115,8 @@ fn remove_each<F: Folder>(folder: &mut F, names: &[String]) -> Result<(), Folder
 fn remove_one<F: Folder>(folder: &mut F, name: &str) -> Result<(), FolderError>
     ensures removed { F.IsFaithful → OnOk result (is_page name.now ≡ true → F.seen folder.new name.now ≡ None) }
     ensures only { F.IsFaithful → OnOk result (IsPageGone name.now (F.seen folder.old) (F.seen folder.new)) }
+    ensures gone { F.IsFaithful → is_page name.now ≡ true
+        → OnOk result (F.seen folder.new ≡ without name.now (F.seen folder.old)) }
     ensures crash { F.IsFaithful → Follows (IsPageGone name.now) (F.may_leave folder.old) (F.may_leave folder.new) }
     ensures time { F.IsFaithful → Elapses F.moment F.left_since F.may_leave folder.old folder.new }
     ensures cause { HasCause F.IsFaithful (F.faults folder.old) (F.faults folder.new) result }

@@ -1,15 +1,15 @@
 //! Files that the log needs no more.
 
-ghost use Rattle.std.specs.Prelude.{◌≡◌, ◌≤◌, ◌<◌, ◌↔◌, ℕ, true, List, length, IsTrue, IfOk, IfErr, IfSome, OnOk, string_bytes};
+ghost use Rattle.std.specs.Prelude.{◌≡◌, ◌≢◌, ◌≤◌, ◌<◌, ◌^◌, ◌↔◌, ℕ, true, List, length, if◌then◌else◌, All, AllPairs, IsSome, IsTrue, IfOk, IfErr, IfSome, OnOk, string_bytes};
 ghost use Rattle.warg_tiles.specs.Between.{IsTileOf};
-ghost use Rattle.warg_folder.specs.Files.{Files};
+ghost use Rattle.warg_folder.specs.Files.{Files, without};
 ghost use Rattle.warg_folder.specs.Moments.{Only, LeavesOnly, HasCause, HasCauseOf};
 ghost use Rattle.warg_folder.specs.Names.{is_staged};
 ghost use Rattle.warg_folder.specs.Commits.{IsStaging};
 ghost use Rattle.warg_store.specs.Log.{LogOf, Serves, Keeps, IsOneOf};
 ghost use Rattle.warg_store.specs.Growing.{Has};
 ghost use Rattle.warg_store.specs.Refusals.{IsNoFault};
-ghost use Rattle.warg_store.specs.Pruned.{full_of, HasFull, IsPruned};
+ghost use Rattle.warg_store.specs.Pruned.{full_of, HasFull, IsPruned, AreGone};
 ghost use Rattle.warg_store.specs.Private.Steps.{IsPruning};
 
 use crate::error::LogError;
@@ -44,6 +44,9 @@ impl<F: Folder + Drop> LogFolder<F> {
             (F.seen self.old.folder) (F.seen self.new.folder) }
         ensures whole { F.IsFaithful → (served old next : LogOf)
             → Has F.seen F.may_leave served old next self.old → IfErr result (IsNoFault ⊥) }
+        ensures gone { F.IsFaithful → IfOk result (λ n.
+            AreGone n (F.seen self.old.folder) (F.seen self.new.folder)) }
+        ensures few { IfOk result (λ n. n < 2 ^ 63) }
         ensures cause { HasCauseOf (LogError.Folder FolderError.Failed) F.IsFaithful
             (F.faults self.old.folder) (F.faults self.new.folder) result }
     {
@@ -62,6 +65,8 @@ fn prune_all<F: Folder>(alloc: Global, folder: &mut F, kept: usize) -> Result<us
     ensures done { F.IsFaithful → OnOk result (Only (F.seen folder.new) (F.may_leave folder.new)
         × ((n : List ℕ) → is_staged n ≡ true → F.seen folder.new n ≡ F.seen folder.old n)) }
     ensures whole { F.IsFaithful → (log : LogOf) → Serves log (F.seen folder.old) → IfErr result (IsNoFault ⊥) }
+    ensures gone { F.IsFaithful → IfOk result (λ n. AreGone n (F.seen folder.old) (F.seen folder.new)) }
+    ensures few { IfOk result (λ n. n < 2 ^ 63) }
     ensures cause { HasCauseOf (LogError.Folder FolderError.Failed) F.IsFaithful
         (F.faults folder.old) (F.faults folder.new) result }
 {
@@ -88,6 +93,10 @@ fn prune_each<F: Folder>(
         → F.may_leave folder.new c → IsPruning kept served s c }
     ensures staged { F.IsFaithful → OnOk result ((n : List ℕ) → is_staged n ≡ true
         → F.seen folder.new n ≡ F.seen folder.old n) }
+    ensures gone { F.IsFaithful → AllPairs (λ a b. string_bytes a ≢ string_bytes b) names.now
+        → All (λ name. IsSome (F.seen folder.old (string_bytes name))) names.now
+        → IfOk result (λ n. AreGone n (F.seen folder.old) (F.seen folder.new)) }
+    ensures few { IfOk result (λ n. n ≤ length names.now) }
     ensures cause { HasCause F.IsFaithful (F.faults folder.old) (F.faults folder.new) result }
 {
     let mut removed = 0usize;
@@ -115,6 +124,8 @@ fn prune_one<F: Folder>(
         → F.may_leave folder.new c → IsPruning kept served s c }
     ensures staged { F.IsFaithful → OnOk result ((n : List ℕ) → is_staged n ≡ true
         → F.seen folder.new n ≡ F.seen folder.old n) }
+    ensures gone { F.IsFaithful → IfOk result (λ is. F.seen folder.new
+        ≡ (if is then without name.now (F.seen folder.old) else F.seen folder.old)) }
     ensures cause { HasCause F.IsFaithful (F.faults folder.old) (F.faults folder.new) result }
 {
     let Some(named) = tile_named(alloc, name)? else {

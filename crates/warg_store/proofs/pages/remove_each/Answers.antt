@@ -1,4 +1,4 @@
-use Rattle.std.proofs.Common.{◌≡◌, ℕ, List, true, None, ap, subst, ◌∙◌, arith, string_bytes}
+use Rattle.std.proofs.Common.{◌≡◌, ℕ, List, true, None, refl, sym, ap, subst, ◌∙◌, arith, string_bytes}
 use Rattle.std.specs.List.{All}
 use Rattle.std.proofs.lemmas.List.{take_all}
 use Rattle.std.proofs.lemmas.List.Elements.{All-more, All-weaker}
@@ -7,6 +7,8 @@ use Rattle.warg_folder.specs.Files.{Files}
 use Rattle.std.specs.declared.alloc.Global.{Global}
 use Rattle.warg_folder.specs.Names.{is_page}
 use Rattle.warg_folder.proofs.ForCallers.{leaves_none, goes_on}
+use Rattle.warg_store.specs.Pruned.{AreGone}
+use Rattle.warg_store.proofs.GoneLemmas.{gone_more, left_behind, first_left}
 use Rattle.warg_store.proofs.RemoveLemmas.{all_pages, one_gone, follows_one, still_gone, named_in}
 use Rattle.warg_store.proofs.pages.remove_each.Goals as goal
 
@@ -22,6 +24,7 @@ names-init g c = record {
   faults = omega arith;
   time = λ faithful. leaves_none g.F.Folder.moment g.F.Folder.left_since c.args.folder.now _
       (λ e left. (e, g.met.F.Folder.only_now c.args.folder.now e left, all_pages _ e));
+  gone = λ faithful apart there. (refl, λ k d behind inside. (there k d inside).0);
 }
 
 pub names-preserved : goal.names-preserved
@@ -46,6 +49,19 @@ names-preserved g c =
       time = λ faithful. goes_on _ _ _ c.args.folder.now c.names.folder c.remove_one.new.folder _
           (c.names.invariant.time faithful) (c.remove_one.ensures.time faithful)
           (follows_one _ name _ _ _ has (c.names.invariant.crash faithful) (c.remove_one.ensures.crash faithful));
+      gone = λ faithful apart there.
+          let was = c.names.invariant.gone faithful apart there in
+          let i = c.names.name-index in
+          let it = c.name-item.result in
+          let page : is_page name ≡ true = subst (λ (s : List ℕ). is_page s ≡ true)
+          (sym (c.as_str.ensures.value ∙ ap (λ (x : String Global). string_bytes x) c.name-item.is))
+          (there i it (omega arith)).1 in
+          let is = c.in_ok-remove_one.ensures.gone faithful page in (
+            gone_more i (g.F.Folder.seen c.args.folder.now) old new name was.0
+                (first_left c.args.names.now i it name old (omega arith) c.name-item.is c.as_str.ensures.value was.1) is,
+            left_behind c.args.names.now i it name old new (omega arith) c.name-item.is c.as_str.ensures.value apart
+                was.1 is,
+          );
     }
 
 pub returns-in_err-remove_one-clause-crash : goal.returns-in_err-remove_one-clause-crash
@@ -56,6 +72,11 @@ returns-in_err-remove_one-clause-crash g c = λ faithful. follows_one _ c.as_str
 pub returns-in_err-remove_one-clause-any_moment : goal.returns-in_err-remove_one-clause-any_moment
 returns-in_err-remove_one-clause-any_moment g c = λ faithful. goes_on _ _ _ _ _ _ _ (c.names.invariant.time faithful)
     (c.remove_one.ensures.time faithful) (returns-in_err-remove_one-clause-crash g c faithful)
+
+pub returns-clause-gone : goal.returns-clause-gone
+returns-clause-gone g c = λ faithful apart there.
+    subst (λ n. AreGone n (g.F.Folder.seen c.args.folder.now) (g.F.Folder.seen c.names.folder))
+    (omega (arith, c.names-test.false, c.names.auto.name-index-end)) (c.names.invariant.gone faithful apart there).0
 
 pub returns-clause-removed : goal.returns-clause-removed
 returns-clause-removed g c = λ faithful.

@@ -1,6 +1,11 @@
-use Rattle.std.proofs.Common.{◌≡◌, length, ap, subst, ◌∙◌}
+use Rattle.std.proofs.Common.{◌≡◌, ◌≢◌, IsSome, get_or, length, string_bytes, sym, ap, subst, ◌∙◌}
+use Rattle.std.specs.List.{All, AllPairs}
+use Rattle.std.specs.declared.string.String.{String}
+use Rattle.std.specs.declared.alloc.Global.{Global}
 use Rattle.warg_tiles.specs.CheckpointText.{Said}
+use Rattle.warg_folder.specs.Files.{Files}
 use Rattle.warg_folder.specs.Moments.{LeavesOnly}
+use Rattle.warg_store.specs.Pruned.{AreGone}
 use Rattle.warg_store.specs.Private.Steps.{IsPruning}
 use Rattle.warg_folder.proofs.ForCallers.{begins, goes_on, read_twice, leaves_then}
 use Rattle.warg_store.proofs.PruneLemmas.{begun}
@@ -78,3 +83,18 @@ returns-in_err-read_served-clause-any_moment g c = λ faithful served log keeps 
     (g.met.F.Folder.only_now c.args.folder.now) (c.read_served.ensures.time faithful)
     (λ d left. begun c.args.kept most s d (staging d left))
     (λ d left. begun c.args.kept most s d (staging d (c.read_served.ensures.crash faithful d left)))
+
+pub returns-clause-gone : goal.returns-clause-gone
+returns-clause-gone g c = λ faithful.
+    let first = g.F.Folder.seen c.args.folder.now in
+    let listed : g.F.Folder.seen c.list.new.self ≡ first = c.list.ensures.seen faithful ∙ c.read_served.ensures.seen faithful in
+    let has : (name : String Global) → Files → Type 0 = λ name files. IsSome (files (string_bytes name)) in
+    let there : All (λ name. has name (g.F.Folder.seen c.list.new.self)) c.as_slice.result.now =
+    subst (λ l. All (λ name. has name (g.F.Folder.seen c.list.new.self)) l) (sym c.as_slice.ensures.value)
+    (λ k d inside. subst (has (get_or c.in_ok-names.names.items k d)) (sym (c.list.ensures.seen faithful))
+    (c.in_ok-names.ensures.there faithful k d inside).0) in
+    subst (λ (f : Files). AreGone c.in_ok-removed.removed first f) (sym (c.sync.ensures.seen faithful))
+    (subst (λ (f : Files). AreGone c.in_ok-removed.removed f (g.F.Folder.seen c.prune_each.new.folder)) listed
+    (c.in_ok-removed.ensures.gone faithful
+    (subst (λ l. AllPairs (λ a b. string_bytes a ≢ string_bytes b) l) (sym c.as_slice.ensures.value)
+    (c.in_ok-names.ensures.once faithful)) there))

@@ -1,4 +1,8 @@
-use Rattle.std.proofs.Common.{refl, ◌∙◌, arith}
+use Rattle.std.proofs.Common.{◌≡◌, ◌+◌, refl, sym, subst, ◌∙◌, arith}
+use Rattle.warg_folder.specs.Files.{Files, without}
+use Rattle.warg_store.specs.Pruned.{AreGone}
+use Rattle.warg_store.proofs.GoneLemmas.{AreLeft, gone_more, left_behind, left_after, first_left}
+use Rattle.warg_store.proofs.pruning.prune_each.Goals.{then-branch, else-branch}
 use Rattle.warg_store.specs.Private.Steps.{IsPruning}
 use Rattle.warg_folder.proofs.ForCallers.{leaves_none, leaves_then}
 use Rattle.warg_store.proofs.pruning.prune_each.Goals as goal
@@ -10,6 +14,8 @@ names-init g c = record {
   time = λ faithful s all. leaves_none g.F.Folder.moment g.F.Folder.left_since c.args.folder.now
       (IsPruning c.args.kept c.args.served s) (λ e left. all e (g.met.F.Folder.only_now c.args.folder.now e left));
   staged = λ faithful n is. refl;
+  gone = λ faithful apart there. (refl, λ k d behind inside. there k d inside);
+  few = omega arith;
 }
 
 pub names-preserved : goal.names-preserved
@@ -24,6 +30,41 @@ names-preserved g c = record {
       (c.prune_one.ensures.any_moment faithful s (λ d was. c.names.invariant.crash faithful s d all was)) (λ e p. p)
       (λ e p. p);
   staged = λ faithful n is. c.in_ok-prune_one.ensures.staged faithful n is ∙ c.names.invariant.staged faithful n is;
+  gone = λ faithful apart there.
+      let first = g.F.Folder.seen c.args.folder.now in
+      let old = g.F.Folder.seen c.names.folder in
+      let new = g.F.Folder.seen c.prune_one.new.folder in
+      let name = c.as_str.result.now in
+      let i = c.names.name-index in
+      let was = c.names.invariant.gone faithful apart there in
+      let is = c.in_ok-prune_one.ensures.gone faithful in
+      elim c.if-branch.branch [
+        | then-branch w ↦
+            let gone : new ≡ without name old = rw w.if-branch.true at is in
+            let one : c.names.removed + 1 ≡ c.if-branch.removed = omega (
+              arith,
+              w.removed-is,
+              w.saturating_add-removed.ensures,
+              c.names.invariant.few,
+              c.names-test.true,
+            ) in (
+              subst (λ n. AreGone n first new) one (gone_more c.names.removed first old new name was.0
+                  (first_left c.args.names.now i c.name-item.result name old (omega arith) c.name-item.is
+                  c.as_str.ensures.value was.1) gone),
+              left_behind c.args.names.now i c.name-item.result name old new (omega arith) c.name-item.is
+                  c.as_str.ensures.value apart was.1 gone,
+            )
+        | else-branch w ↦
+            let same : old ≡ new = sym (rw w.if-branch.false at is) in (
+              subst (λ n. AreGone n first new) (sym w.removed-is) (subst (λ (f : Files). AreGone c.names.removed first f)
+                  same was.0),
+              subst (λ (f : Files). AreLeft (i + 1) c.args.names.now f) same (left_after c.args.names.now i old was.1),
+            )
+      ];
+  few = elim c.if-branch.branch [
+    | then-branch w ↦ omega (arith, w.removed-is, w.saturating_add-removed.ensures, c.names.invariant.few)
+    | else-branch w ↦ omega (arith, w.removed-is, c.names.invariant.few)
+  ];
 }
 
 pub returns-in_err-prune_one-clause-any_moment : goal.returns-in_err-prune_one-clause-any_moment

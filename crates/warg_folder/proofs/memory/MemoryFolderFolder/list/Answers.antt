@@ -1,11 +1,11 @@
-use Rattle.std.proofs.Common.{◌≡◌, ◌+◌, nat_eq, Vec, ◌++◌, ◌∷◌, [], List, ℕ, IsSome, Some, sym, ap, subst, ◌∙◌, arith, string_bytes}
-use Rattle.std.specs.List.{starts_with}
+use Rattle.std.proofs.Common.{◌≡◌, ◌+◌, nat_eq, Vec, ◌++◌, ◌∷◌, [], List, ℕ, IsSome, Some, sym, ap, subst, ◌∙◌, arith, map, true, string_bytes}
+use Rattle.std.specs.List.{Contains, starts_with}
 use Rattle.std.specs.declared.string.String.{String}
 use Rattle.std.specs.declared.alloc.Global.{Global}
 use Rattle.warg_folder.specs.declared.memory.Call.{Call}
 use Rattle.warg_folder.specs.declared.memory.Call.TheVariants.{Synced}
-use Rattle.warg_folder.specs.Memory.{seen_after}
-use Rattle.warg_folder.proofs.ListedLemmas.{AreThere, AreAll, there_more, all_more, all_same, all_put}
+use Rattle.warg_folder.specs.Memory.{seen_after, name_put}
+use Rattle.warg_folder.proofs.ListedLemmas.{AreThere, AreAll, AreApart, there_more, all_more, all_same, all_put, apart_more}
 use Rattle.warg_folder.proofs.memory.MemoryFolderFolder.list.Goals as goal
 use Rattle.warg_folder.proofs.memory.MemoryFolderFolder.list.Goals.{in-Some+in_ok-copied-in-Some+in_ok-push-in-Some, in-None}
 
@@ -25,6 +25,10 @@ each-preserved c =
                 c.each.invariant.there
                 (subst (λ (n : List ℕ). IsSome (seen_after calls n)) (sym named) some.1)
                 (ap (λ (n : List ℕ). starts_with nat_eq n prefix) named ∙ some.2);
+            once = apart_more c.each.names.items c.match-listed.names.items one more c.each.invariant.once
+                (λ among. w.in-Some.ensures.other (subst (λ (l : List (String Global)). Contains (map (λ it. string_bytes it) l)
+                w.in-Some.name.now) (sym c.as_slice.ensures.value)
+                (subst (Contains (map (λ it. string_bytes it) c.each.names.items)) named among)));
             all = all_more calls prefix c.each.call-index c.call-item.result c.each.names.items
                 c.match-listed.names.items one (omega arith) c.call-item.is more c.each.invariant.all
                 (some.0 ∙ ap (λ (n : List ℕ). Some n) (sym named));
@@ -34,9 +38,13 @@ each-preserved c =
           ap (λ (v : Vec (String Global) Global). v.items) w.names-is in
           record {
             there = subst (AreThere calls prefix) (sym same) c.each.invariant.there;
+            once = subst AreApart (sym same) c.each.invariant.once;
             all = subst (AreAll calls prefix (c.each.call-index + 1)) (sym same)
                 (all_same calls prefix c.each.call-index c.call-item.result c.each.names.items
-                (omega arith) c.call-item.is c.each.invariant.all w.in-None.ensures.none);
+                (omega arith) c.call-item.is c.each.invariant.all
+                (subst (λ (l : List (String Global)). (n : List ℕ) → name_put c.call-item.result ≡ Some n
+                → IsSome (seen_after calls n) → starts_with nat_eq n prefix ≡ true
+                → Contains (map (λ it. string_bytes it) l) n) c.as_slice.ensures.value w.in-None.ensures.none));
           }
     ]
 
