@@ -1,6 +1,6 @@
 //! A log in a folder as the source of its map's pages.
 
-ghost use Rattle.std.specs.Prelude.{◌≡◌, ◌∷◌, ◌++◌, [], ℕ, true, List, Option, Some, None, Ok, codes, option_map, unwrap_or, IfOk, IfErr, IsErrOf};
+ghost use Rattle.std.specs.Prelude.{◌≡◌, ◌∷◌, ◌++◌, [], ℕ, true, List, Some, None, Ok, codes, option_map, unwrap_or, IfOk, IfErr, IsOkAnd, IsErrOf};
 ghost use Rattle.warg_pages.specs.Refusals.{IsOfSourceUnless};
 ghost use Rattle.warg_store.specs.Growing.{LogIn};
 ghost use Rattle.warg_folder.specs.Moments.{IsRead};
@@ -48,8 +48,8 @@ impl LastPage {
         path: String,
         read: Result<Option<Vec<u8>>, FolderError>,
     ) -> Result<Vec<u8>, FolderError>
-        ensures bytes { IfOk result (λ bytes. (found : Option _) × (read ≡ Ok found)
-            × (bytes.items ≡ unwrap_or (option_map (λ v. v.items) found) (0 ∷ []))) }
+        ensures bytes { IfOk result (λ bytes. IsOkAnd read
+            (λ found. bytes.items ≡ unwrap_or (option_map (λ v. v.items) found) (0 ∷ []))) }
         ensures fault { self.new.fault ≡ Some ReadFault.DeviceFailed → IsErrOf read FolderError.Failed }
     {
         self.path = path;
