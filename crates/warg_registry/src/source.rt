@@ -6,7 +6,7 @@ ghost use Rattle.warg_store.specs.Growing.{LogIn};
 ghost use Rattle.warg_folder.specs.Moments.{IsRead};
 ghost use Rattle.warg_store.specs.Reading.{ServedIn};
 ghost use Rattle.warg_store.specs.Refusals.{IsNoFault, IsNoFailure};
-ghost use Rattle.warg_registry.specs.Folder.{path_below, page_read, found_if, IsLogRead};
+ghost use Rattle.warg_registry.specs.Folder.{page_read, found_if, IsLogRead};
 ghost use Rattle.warg_registry.specs.Sources.{LogBefore, IsFailureTold};
 
 use crate::error::{ReadFault, damaged, of_pages, of_reading};
