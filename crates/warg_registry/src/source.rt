@@ -42,7 +42,8 @@ impl LastPage {
         self.fault = None;
     }
 
-    /// Notes what was read at a path. Returns the page's bytes, or, where it is missing, one byte, as no page has.
+    /// Notes what was read at a path. Returns the page's bytes, or, where it is missing, one byte, as no page has. Its errors
+    /// are that of the reading, and memory.
     fn note(
         &mut self,
         path: String,
