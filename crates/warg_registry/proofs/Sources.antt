@@ -8,7 +8,7 @@ use Rattle.warg_pages.specs.ProvedKeys.{IsOwnSource}
 use Rattle.warg_store.specs.Growing.{LogIn}
 use Rattle.warg_store.specs.Reading.{ServedIn}
 use Rattle.warg_registry.specs.declared.error.ReadFault.{ReadFault}
-use Rattle.warg_registry.specs.Folder.{IsLogRead, RegistryIn, page_read}
+use Rattle.warg_registry.specs.Folder.{IsLogRead, ReadsOn, RegistryIn, page_read}
 use Rattle.warg_registry.specs.Reading.{RegistryRead, ReadsRegistry}
 use Rattle.warg_registry.specs.Sources.{LogBefore, IsFailureTold}
 use Rattle.warg_registry.proofs.RegistryPages.{read_source}
@@ -52,7 +52,7 @@ module _ {F : Type 0} (dev : Ghosts F) where
 
   -- The pages of a log that is added to were read: the log is as it was, and where the reading failed, the device did.
   pub record AreKeptRead (before : ℕ) (old new : LogIn F) (is : Option ReadFault) : Type 0 where
-    pub read : dev.IsFaithful → (known : LogIn F) → IsReadOnly known old → IsReadOnly known new
+    pub read : dev.IsFaithful → ReadsOn dev.seen dev.may_leave dev.moment dev.left_since old new
     pub told : IsFailureTold dev.IsFaithful before (dev.faults new.folder) is
 
   pub kept_read : {before : ℕ} {old new : LogIn F} {was is : Option ReadFault}
@@ -120,8 +120,7 @@ module _ {F : Type 0} (dev : Ghosts F) where
       subst (λ (x : RegistryRead F). AreServedRead x (with_root new root) old was is) view (record {
         known = here;
         own = λ origin insertions count counts has. read_source origin insertions (dev.seen old.folder) root count
-            old.text
-            has.reads.files has.reads.text counts has.is_root;
+            old.text has.reads.files has.reads.text counts has.is_root;
         same = (refl, ap (λ (l : ServedIn F). l.text) any.0);
         read = λ faithful. ((known (at_served old) (here faithful)).1 refl).1;
         told = any.2;

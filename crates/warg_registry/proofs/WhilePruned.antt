@@ -4,18 +4,16 @@ use Rattle.std.specs.Prelude.{IsSome}
 use Rattle.std.specs.List.{All, Contains}
 use Rattle.std.specs.declared.alloc.Global.{Global}
 use Rattle.std.specs.declared.string.String.{String}
-use Rattle.warg_crypto.specs.Digests.{sha256}
-use Rattle.warg_pages.specs.ProvedKeys.{IsOwnSource}
 use Rattle.warg_folder.specs.Files.{Files}
 use Rattle.warg_folder.specs.Moments.{LeavesOnly}
 use Rattle.warg_folder.specs.Names.{is_page}
 use Rattle.warg_folder.specs.declared.device.Folder.{Ghosts}
 use Rattle.warg_folder.proofs.ForCallers.{leaves_then}
 use Rattle.warg_store.specs.Growing.{LogIn, Has}
-use Rattle.warg_store.specs.Log.{LogOf, Serves, IsOneOf}
+use Rattle.warg_store.specs.Log.{LogOf, IsOneOf}
 use Rattle.warg_store.specs.Pruned.{IsNoneOf, ArePagesNotOf, IsPruned, IsWithoutPages}
-use Rattle.warg_registry.specs.Folder.{registry_of, pages_of, page_read, RegistryIn, HasRegistry, IsLogRead}
-use Rattle.warg_registry.specs.Pruning.{bytes_of, IsPageOf}
+use Rattle.warg_registry.specs.Folder.{registry_of, pages_of, RegistryIn, HasRegistry, IsLogRead, ReadsOn}
+use Rattle.warg_registry.specs.Pruning.{bytes_of, IsPageOf, OfBoth}
 use Rattle.warg_registry.proofs.FolderMoments.{one_read}
 use Rattle.warg_registry.proofs.LeftPages.{left}
 use Rattle.warg_registry.proofs.Publishing.{own_pages, read_has}
@@ -27,9 +25,7 @@ module _ {F : Type 0} (dev : Ghosts F) where
 
   -- what is said by the pages that a log's own map, with this root, and its served one need
   abbrev OfPages : LogIn F → List ℕ → ℕ → (LogIn F → List (List ℕ × List ℕ) → List (List ℕ × List ℕ) → Type 0) → Type 0
-  OfPages old root count Said = (known : LogIn F) (at : List ℕ) (these those : List (List ℕ × List ℕ)) → Logs known old
-      → Serves (registry_of at these) (dev.seen known.folder)
-      → IsOwnSource sha256 (page_read (dev.seen known.folder)) root count those → Said known these those
+  OfPages old root count Said = OfBoth dev.seen dev.may_leave dev.moment dev.left_since old root count Said
 
   -- a page that is there is one of these names', or is needed
   abbrev AreAll : List (List ℕ) → LogIn F → List (List ℕ × List ℕ) → List (List ℕ × List ℕ) → Type 0
@@ -87,7 +83,7 @@ module _ {F : Type 0} (dev : Ghosts F) (origin : List ℕ) (served kept : List (
 
     pub looked_at : {mid : LogIn F}
         → ((c : Files) → dev.left_since r.log.folder (dev.moment r.log.folder) c → dev.may_leave r.log.folder c)
-        → ((known : LogIn F) → Logs dev known old → Logs dev known mid) → IsPruning r old mid takes root count
+        → ReadsOn dev.seen dev.may_leave dev.moment dev.left_since old mid → IsPruning r old mid takes root count
     looked_at {mid = mid} now read = record {
       at = read_has dev inside here;
       has = λ l still. record { takes = inside.takes; log = still; root = inside.root; count = inside.count };

@@ -86,6 +86,12 @@ pub record IsLogRead {F : Type 0} (seen : F → Files) (may_leave : F → Files 
   pub same : new ≡ record old { folder = new.folder }
   pub read : IsRead seen may_leave moment left_since old.folder new.folder
 
+-- Each log that was only read before is only read further.
+abbrev pub ReadsOn : {F : Type 0} → (F → Files) → (F → Files → Type 0) → (F → ℕ) → (F → ℕ → Files → Type 0) → LogIn F
+    → LogIn F → Type 0
+ReadsOn {F = F} seen may_leave moment left_since old new = (known : LogIn F)
+    → IsLogRead seen may_leave moment left_since known old → IsLogRead seen may_leave moment left_since known new
+
 -- A log with further entries.
 abbrev pub with_entries : LogOf → List (List ℕ) → LogOf
 with_entries log entries = record log { entries = log.entries ++ entries }

@@ -9,9 +9,12 @@ use Rattle.warg_pages.specs.ChangedPages.{ChangedPageAt}
 use Rattle.warg_pages.specs.OwnPages.{stands}
 use Rattle.warg_pages.specs.PagePaths.{page_path}
 use Rattle.warg_pages.specs.Prefixes.{bits_of_bytes, version}
-use Rattle.warg_folder.specs.Files.{File}
+use Rattle.warg_pages.specs.ProvedKeys.{IsOwnSource}
+use Rattle.warg_folder.specs.Files.{File, Files}
 use Rattle.warg_folder.specs.Names.{page_name}
-use Rattle.warg_registry.specs.Folder.{pages_of}
+use Rattle.warg_store.specs.Growing.{LogIn}
+use Rattle.warg_store.specs.Log.{Serves}
+use Rattle.warg_registry.specs.Folder.{pages_of, registry_of, page_read, IsLogRead}
 
 -- The bytes of names.
 abbrev pub bytes_of : List (String Global) → List (List ℕ)
@@ -40,6 +43,15 @@ pub record AreNeeded (names : List (List ℕ)) (served kept : List (List ℕ × 
   pub all_served : HaveAllPages names served
   pub all_kept : HaveAllPages names kept
   pub only : (n : List ℕ) → Contains names n → IsPageOf served n ⊎ IsPageOf kept n
+
+-- What is said of each log that was only read since, where it serves the registry of one list of insertions, and a root
+-- leads to the pages of another.
+abbrev pub OfBoth : {F : Type 0} → (F → Files) → (F → Files → Type 0) → (F → ℕ) → (F → ℕ → Files → Type 0) → LogIn F
+    → List ℕ → ℕ → (LogIn F → List (List ℕ × List ℕ) → List (List ℕ × List ℕ) → Type 0) → Type 0
+OfBoth {F = F} seen may_leave moment left_since now root count Said =
+    (known : LogIn F) (origin : List ℕ) (served kept : List (List ℕ × List ℕ))
+    → IsLogRead seen may_leave moment left_since known now → Serves (registry_of origin served) (seen known.folder)
+    → IsOwnSource sha256 (page_read (seen known.folder)) root count kept → Said known served kept
 
 -- No name stands in both lists.
 abbrev pub AreNone : List (List ℕ) → List (List ℕ) → Type 0

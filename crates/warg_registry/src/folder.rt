@@ -7,7 +7,7 @@ ghost use Rattle.warg_map.specs.Sparse.{map_of, sparse_root, pair_bytes};
 ghost use Rattle.warg_pages.specs.ChangedPages.{AreChangedPages};
 ghost use Rattle.warg_pages.specs.ProvedKeys.{IsOwnSource};
 ghost use Rattle.warg_tiles.specs.CheckpointText.{IsLine};
-ghost use Rattle.warg_store.specs.Growing.{LogIn, IsReady, Has, HasNext, IsFresh, with_page};
+ghost use Rattle.warg_store.specs.Growing.{IsReady, Has, HasNext, IsFresh, with_page};
 ghost use Rattle.warg_store.specs.Log.{LogOf, HasLog, IsOneOf, IsCommitting, AreShort, CanBeKept};
 ghost use Rattle.warg_folder.specs.Moments.{LeavesOnly, HasCauseOf, HasLostCause};
 ghost use Rattle.warg_folder.specs.Names.{is_page};
@@ -18,7 +18,7 @@ ghost use Rattle.warg_registry.specs.Insertions.{entries_of, entry_of};
 ghost use Rattle.warg_registry.specs.Publishing.{IsRefusedFor, of_push};
 ghost use Rattle.warg_registry.specs.Pruning.{IsPageOf};
 ghost use Rattle.warg_registry.specs.Registry.{line_of};
-ghost use Rattle.warg_registry.specs.Folder.{registry_of, page_read, HasRegistry, IsLogRead, IsNoFault, with_entries, with_pages, file_of, files_of, AreFresh, IsNextLog};
+ghost use Rattle.warg_registry.specs.Folder.{registry_of, page_read, HasRegistry, IsLogRead, ReadsOn, IsNoFault, with_entries, with_pages, file_of, files_of, AreFresh, IsNextLog};
 
 use crate::error::{PublishError, RegistryError, damaged};
 use crate::extension::{map_line, map_root};
@@ -293,9 +293,7 @@ fn find_fault<F: Folder + Drop>(
     map: &PagedMap<Sha256>,
     insertions: &[(&[u8], &[u8])],
 ) -> LogError
-    ensures read { F.IsFaithful → (known : LogIn F)
-        → IsLogRead F.seen F.may_leave F.moment F.left_since known pages.old.log
-        → IsLogRead F.seen F.may_leave F.moment F.left_since known pages.new.log }
+    ensures read { F.IsFaithful → ReadsOn F.seen F.may_leave F.moment F.left_since pages.old.log pages.new.log }
     ensures later { F.faults pages.old.log.folder ≤ F.faults pages.new.log.folder }
     ensures cause { F.IsFaithful → result ≡ LogError.Folder FolderError.Failed
         → F.faults pages.old.log.folder < F.faults pages.new.log.folder }

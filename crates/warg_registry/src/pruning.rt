@@ -12,8 +12,8 @@ ghost use Rattle.warg_store.specs.Log.{Serves};
 ghost use Rattle.warg_folder.specs.Names.{is_page};
 ghost use Rattle.warg_store.specs.Pruned.{IsNoneOf};
 ghost use Rattle.warg_store.specs.Refusals.{IsNoFault};
-ghost use Rattle.warg_registry.specs.Folder.{registry_of, pages_of, page_read, IsLogRead};
-ghost use Rattle.warg_registry.specs.Pruning.{bytes_of, ArePathsOf, AreOnlyPathsOf, HaveAllPages, IsPageOf, AreNeeded, AreNone, AreAmong};
+ghost use Rattle.warg_registry.specs.Folder.{registry_of, pages_of, page_read, IsLogRead, ReadsOn};
+ghost use Rattle.warg_registry.specs.Pruning.{bytes_of, ArePathsOf, AreOnlyPathsOf, HaveAllPages, IsPageOf, AreNeeded, OfBoth, AreNone, AreAmong};
 
 use crate::error::{RegistryError, damaged};
 use crate::folder::root_said;
@@ -79,9 +79,7 @@ impl NeededPages {
             → IsLogRead F.seen F.may_leave F.moment F.left_since known pages.old.log
             → IsOwnSource sha256 (page_read (F.seen known.folder)) root.now version insertions
             → IfErr result (IsNoFault ⊥) }
-        ensures read { F.IsFaithful → (known : LogIn F)
-            → IsLogRead F.seen F.may_leave F.moment F.left_since known pages.old.log
-            → IsLogRead F.seen F.may_leave F.moment F.left_since known pages.new.log }
+        ensures read { F.IsFaithful → ReadsOn F.seen F.may_leave F.moment F.left_since pages.old.log pages.new.log }
         ensures cause { HasCauseOf (LogError.Folder FolderError.Failed) F.IsFaithful
             (F.faults pages.old.log.folder) (F.faults pages.new.log.folder) result }
     {
@@ -120,27 +118,15 @@ impl<F: Folder + Drop> KeptPages<F> {
         root: &Hash<Sha256>,
         version: u64,
     ) -> Result<Vec<String>, LogError>
-        ensures spare { F.IsFaithful → IfOk result (λ spare. (known : LogIn F) (origin : List ℕ)
-            (served kept : List (List ℕ × List ℕ))
-            → IsLogRead F.seen F.may_leave F.moment F.left_since known self.old.log
-            → Serves (registry_of origin served) (F.seen known.folder)
-            → IsOwnSource sha256 (page_read (F.seen known.folder)) root.now version kept
-            → IsNoneOf (bytes_of spare.items) (pages_of served) × IsNoneOf (bytes_of spare.items) (pages_of kept)) }
-        ensures all { F.IsFaithful → IfOk result (λ spare. (known : LogIn F) (origin : List ℕ)
-            (served kept : List (List ℕ × List ℕ))
-            → IsLogRead F.seen F.may_leave F.moment F.left_since known self.old.log
-            → Serves (registry_of origin served) (F.seen known.folder)
-            → IsOwnSource sha256 (page_read (F.seen known.folder)) root.now version kept
-            → (n : List ℕ) → is_page n ≡ true → IsSome (F.seen known.folder n)
-            → Contains (bytes_of spare.items) n ⊎ IsPageOf served n ⊎ IsPageOf kept n) }
-        ensures whole { F.IsFaithful → (known : LogIn F) (origin : List ℕ) (served kept : List (List ℕ × List ℕ))
-            → IsLogRead F.seen F.may_leave F.moment F.left_since known self.old.log
-            → Serves (registry_of origin served) (F.seen known.folder)
-            → IsOwnSource sha256 (page_read (F.seen known.folder)) root.now version kept
-            → IfErr result (IsNoFault ⊥) }
-        ensures read { F.IsFaithful → (known : LogIn F)
-            → IsLogRead F.seen F.may_leave F.moment F.left_since known self.old.log
-            → IsLogRead F.seen F.may_leave F.moment F.left_since known self.new.log }
+        ensures spare { F.IsFaithful → IfOk result (λ spare. OfBoth F.seen F.may_leave F.moment F.left_since self.old.log
+            root.now version (λ _ served kept.
+            IsNoneOf (bytes_of spare.items) (pages_of served) × IsNoneOf (bytes_of spare.items) (pages_of kept))) }
+        ensures all { F.IsFaithful → IfOk result (λ spare. OfBoth F.seen F.may_leave F.moment F.left_since self.old.log
+            root.now version (λ known served kept. (n : List ℕ) → is_page n ≡ true → IsSome (F.seen known.folder n)
+            → Contains (bytes_of spare.items) n ⊎ IsPageOf served n ⊎ IsPageOf kept n)) }
+        ensures whole { F.IsFaithful → OfBoth F.seen F.may_leave F.moment F.left_since self.old.log root.now version
+            (λ _ _ _. IfErr result (IsNoFault ⊥)) }
+        ensures read { F.IsFaithful → ReadsOn F.seen F.may_leave F.moment F.left_since self.old.log self.new.log }
         ensures cause { HasCauseOf (LogError.Folder FolderError.Failed) F.IsFaithful
             (F.faults self.old.log.folder) (F.faults self.new.log.folder) result }
     {
@@ -151,20 +137,11 @@ impl<F: Folder + Drop> KeptPages<F> {
 
     // The names of the pages that a map with a root and so many insertions needs, and of those that the served one needs.
     fn needed(&mut self, root: &Hash<Sha256>, version: u64) -> Result<NeededPages, LogError>
-        ensures needed { F.IsFaithful → IfOk result (λ needed. (known : LogIn F) (origin : List ℕ)
-            (served kept : List (List ℕ × List ℕ))
-            → IsLogRead F.seen F.may_leave F.moment F.left_since known self.old.log
-            → Serves (registry_of origin served) (F.seen known.folder)
-            → IsOwnSource sha256 (page_read (F.seen known.folder)) root.now version kept
-            → AreNeeded (bytes_of needed.names.keys) served kept) }
-        ensures whole { F.IsFaithful → (known : LogIn F) (origin : List ℕ) (served kept : List (List ℕ × List ℕ))
-            → IsLogRead F.seen F.may_leave F.moment F.left_since known self.old.log
-            → Serves (registry_of origin served) (F.seen known.folder)
-            → IsOwnSource sha256 (page_read (F.seen known.folder)) root.now version kept
-            → IfErr result (IsNoFault ⊥) }
-        ensures read { F.IsFaithful → (known : LogIn F)
-            → IsLogRead F.seen F.may_leave F.moment F.left_since known self.old.log
-            → IsLogRead F.seen F.may_leave F.moment F.left_since known self.new.log }
+        ensures needed { F.IsFaithful → IfOk result (λ needed. OfBoth F.seen F.may_leave F.moment F.left_since
+            self.old.log root.now version (λ _ served kept. AreNeeded (bytes_of needed.names.keys) served kept)) }
+        ensures whole { F.IsFaithful → OfBoth F.seen F.may_leave F.moment F.left_since self.old.log root.now version
+            (λ _ _ _. IfErr result (IsNoFault ⊥)) }
+        ensures read { F.IsFaithful → ReadsOn F.seen F.may_leave F.moment F.left_since self.old.log self.new.log }
         ensures cause { HasCauseOf (LogError.Folder FolderError.Failed) F.IsFaithful
             (F.faults self.old.log.folder) (F.faults self.new.log.folder) result }
     {
@@ -189,9 +166,7 @@ impl<F: Folder + Drop> KeptPages<F> {
             → IsLogRead F.seen F.may_leave F.moment F.left_since known self.old.log
             → Serves (registry_of origin insertions) (F.seen known.folder)
             → IfErr result (IsNoFault ⊥) }
-        ensures read { F.IsFaithful → (known : LogIn F)
-            → IsLogRead F.seen F.may_leave F.moment F.left_since known self.old.log
-            → IsLogRead F.seen F.may_leave F.moment F.left_since known self.new.log }
+        ensures read { F.IsFaithful → ReadsOn F.seen F.may_leave F.moment F.left_since self.old.log self.new.log }
         ensures cause { HasCauseOf (LogError.Folder FolderError.Failed) F.IsFaithful
             (F.faults self.old.log.folder) (F.faults self.new.log.folder) result }
     {
@@ -211,9 +186,7 @@ impl<F: Folder + Drop> KeptPages<F> {
             → IsLogRead F.seen F.may_leave F.moment F.left_since known self.old.log
             → (n : List ℕ) → is_page n ≡ true → IsSome (F.seen known.folder n) → Contains (bytes_of names.items) n) }
         ensures whole { IfErr result (IsNoFault ⊥) }
-        ensures read { F.IsFaithful → (known : LogIn F)
-            → IsLogRead F.seen F.may_leave F.moment F.left_since known self.old.log
-            → IsLogRead F.seen F.may_leave F.moment F.left_since known self.new.log }
+        ensures read { F.IsFaithful → ReadsOn F.seen F.may_leave F.moment F.left_since self.old.log self.new.log }
         ensures cause { HasCauseOf (LogError.Folder FolderError.Failed) F.IsFaithful
             (F.faults self.old.log.folder) (F.faults self.new.log.folder) result }
     {

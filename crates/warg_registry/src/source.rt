@@ -1,12 +1,12 @@
 //! A log in a folder as the source of its map's pages.
 
-ghost use Rattle.std.specs.Prelude.{◌≡◌, ◌∷◌, ◌++◌, [], ℕ, true, List, Option, Some, None, Ok, codes, option_map, unwrap_or, IfOk, IfErr, IsErrOf};
+ghost use Rattle.std.specs.Prelude.{◌≡◌, ◌∷◌, ◌++◌, [], ℕ, true, List, Some, None, Ok, codes, option_map, unwrap_or, IfOk, IfErr, IsOkAnd, IsErrOf};
 ghost use Rattle.warg_pages.specs.Refusals.{IsOfSourceUnless};
 ghost use Rattle.warg_store.specs.Growing.{LogIn};
 ghost use Rattle.warg_folder.specs.Moments.{IsRead};
 ghost use Rattle.warg_store.specs.Reading.{ServedIn};
 ghost use Rattle.warg_store.specs.Refusals.{IsNoFault, IsNoFailure};
-ghost use Rattle.warg_registry.specs.Folder.{path_below, page_read, found_if, IsLogRead};
+ghost use Rattle.warg_registry.specs.Folder.{page_read, found_if, IsLogRead};
 ghost use Rattle.warg_registry.specs.Sources.{LogBefore, IsFailureTold};
 
 use crate::error::{ReadFault, damaged, of_pages, of_reading};
@@ -42,14 +42,15 @@ impl LastPage {
         self.fault = None;
     }
 
-    /// Notes what was read at a path. Returns the page's bytes, or, where it is missing, one byte, as no page has.
+    /// Notes what was read at a path. Returns the page's bytes, or, where it is missing, one byte, as no page has. Its errors
+    /// are that of the reading, and memory.
     fn note(
         &mut self,
         path: String,
         read: Result<Option<Vec<u8>>, FolderError>,
     ) -> Result<Vec<u8>, FolderError>
-        ensures bytes { IfOk result (λ bytes. (found : Option _) × (read ≡ Ok found)
-            × (bytes.items ≡ unwrap_or (option_map (λ v. v.items) found) (0 ∷ []))) }
+        ensures bytes { IfOk result (λ bytes. IsOkAnd read
+            (λ found. bytes.items ≡ unwrap_or (option_map (λ v. v.items) found) (0 ∷ []))) }
         ensures fault { self.new.fault ≡ Some ReadFault.DeviceFailed → IsErrOf read FolderError.Failed }
     {
         self.path = path;

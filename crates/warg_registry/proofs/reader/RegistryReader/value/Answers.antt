@@ -1,5 +1,7 @@
 use Rattle.std.proofs.Common.{◌≡◌, ℕ, ◌<◌, ◌≤◌, ◌^◌, List, length, Some, sym, ap, subst, ◌∙◌, arith}
 use Rattle.std.specs.Prelude.{slice_get}
+use Rattle.std.specs.declared.alloc.Global.{Global}
+use Rattle.std.specs.declared.vec.Vec.{Vec}
 use Rattle.warg_crypto.specs.Digests.{sha256}
 use Rattle.warg_store.specs.Reading.{IsShown, checkpoint_said}
 use Rattle.warg_registry.specs.Insertions.{entries_of}
@@ -8,6 +10,15 @@ use Rattle.warg_registry.proofs.FoundKeys as found
 use Rattle.warg_registry.proofs.HeldEntries.{entry_of_key, held_within}
 use Rattle.warg_registry.proofs.Refused.{ok_then, not_beyond, told_as}
 use Rattle.warg_registry.proofs.reader.RegistryReader.value.Goals as goal
+
+-- the entry that was read, as it is passed on
+passed : (insertions : List (List ℕ × List ℕ)) (index : ℕ) (entry : Vec ℕ Global) {slice : List ℕ} → slice ≡ entry.items
+    → slice_get (entries_of insertions) index ≡ Some entry.items
+    → (length slice < 2 ^ 64) × (slice_get (entries_of insertions) index ≡ Some slice)
+passed insertions index entry same there = (
+  omega (arith, ap (λ (e : List ℕ). length e) same, entry.small),
+  there ∙ ap (λ (e : List ℕ). Some e) (sym same),
+)
 
 pub returns-clause-shown : goal.returns-clause-shown
 returns-clause-shown g c =
@@ -25,29 +36,17 @@ returns-clause-own g c = λ faithful.
     let peers = c.args.peers.items in
     ok_then (IsOfEntry key c.args.index c.args.leaf.now entry peers) _ c.held.result
     (λ at is origin insertions has held.
-    let there : slice_get (entries_of insertions) c.args.index ≡ Some entry =
-    c.in_ok-entry.ensures.own faithful origin insertions has
-    ∙ ap (λ (e : List ℕ). Some e) (sym c.as_slice.ensures.value) in
-    let small : length entry < 2 ^ 64 = omega (
-      arith,
-      ap (λ (e : List ℕ). length e) c.as_slice.ensures.value,
-      c.in_ok-entry.entry.small,
-    ) in
-    found.own key c.args.leaf.now entry c.args.index peers insertions at small there held is) c.held.ensures.of_entry
+    let read = passed insertions c.args.index c.in_ok-entry.entry c.as_slice.ensures.value
+    (c.in_ok-entry.ensures.own faithful origin insertions has) in
+    found.own key c.args.leaf.now entry c.args.index peers insertions at read.0 read.1 held is) c.held.ensures.of_entry
 
 pub returns-clause-whole : goal.returns-clause-whole
 returns-clause-whole g c = λ faithful origin insertions has own held.
     let key = c.args.key.now in
     let entry = c.as_slice.result.now in
-    let there : slice_get (entries_of insertions) c.args.index ≡ Some entry =
-    c.in_ok-entry.ensures.own faithful origin insertions has
-    ∙ ap (λ (e : List ℕ). Some e) (sym c.as_slice.ensures.value) in
-    let small : length entry < 2 ^ 64 = omega (
-      arith,
-      ap (λ (e : List ℕ). length e) c.as_slice.ensures.value,
-      c.in_ok-entry.entry.small,
-    ) in
-    let is = entry_of_key sha256 insertions key entry c.args.leaf.now c.args.index small there
+    let read = passed insertions c.args.index c.in_ok-entry.entry c.as_slice.ensures.value
+    (c.in_ok-entry.ensures.own faithful origin insertions has) in
+    let is = entry_of_key sha256 insertions key entry c.args.leaf.now c.args.index read.0 read.1
     held.place held.held own in
     c.held.ensures.whole is.0 is.1 is.2 is.3
 
