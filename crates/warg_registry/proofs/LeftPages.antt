@@ -6,7 +6,8 @@ use Rattle.std.specs.declared.alloc.Global.{Global}
 use Rattle.std.specs.declared.string.String.{String}
 use Rattle.warg_folder.specs.Files.{Files}
 use Rattle.warg_folder.specs.Names.{is_tile, is_page}
-use Rattle.warg_store.specs.Pruned.{IsPruned, IsWithoutPages}
+use Rattle.warg_tiles.specs.TilePaths.{tile_path}
+use Rattle.warg_store.specs.Pruned.{full_of, IsPruned, IsWithoutPages}
 use Rattle.warg_registry.specs.Pruning.{bytes_of}
 use Rattle.warg_registry.proofs.Listed.{of_mapped}
 
@@ -24,6 +25,18 @@ gone new names n removed page there =
     let at = subst Gone found.1.2 (removed found.1.0 found.0 found.1.1) in
     let Q : List ℕ → Type 0 = λ m. new m ≡ None in
     subst Q found.2 (at (ap is_page found.2 ∙ page))
+
+-- a page that is there stays while files are pruned
+pub page_stays : (old new : Files) (kept served : ℕ) → IsPruned kept served old new → (n : List ℕ) → is_page n ≡ true
+    → IsSome (old n) → IsSome (new n)
+page_stays old new kept served prunes n page there = ⊎_elim
+    (λ same. subst IsSome (sym same) there)
+    (λ away. absurd (⊎_elim (λ (tile : (tile_path away.1.tile ≡ n) × (tile_path (full_of away.1.tile) ≡ away.1.full)).
+    other (ap is_page tile.0)) (λ bundle. other (ap is_page bundle.1)) away.1.paths))
+    (prunes n (or_second (is_tile n) (is_page n) page))
+  where
+    other : false ≡ is_page n → ⊥
+    other e = let no : false ≡ true = e ∙ page in cc
 
 -- of a folder in which files are pruned and pages are removed, each page that is left was there, and wasn't to go
 pub left : (before mid pruned new : Files) (names : List (String Global)) (kept served : ℕ) (P : List ℕ → Type 0)

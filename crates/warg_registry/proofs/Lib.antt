@@ -4,6 +4,7 @@ mod HeldEntries
 mod FoundKeys
 mod Refused
 mod Listed
+mod SomeNames
 mod RegistryPages
 mod RegistryGrowth
 mod Pruned

@@ -1,7 +1,7 @@
 -- The pages that a registry needs.
-use Rattle.std.specs.Prelude.{◌≡◌, ◌⊎◌, ℕ, true, List, map}
+use Rattle.std.specs.Prelude.{◌≡◌, ◌≢◌, ◌⊎◌, ℕ, true, List, map}
 use Rattle.std.specs.declared.alloc.Global.{Global}
-use Rattle.std.specs.List.{Contains}
+use Rattle.std.specs.List.{AllPairs, Contains}
 use Rattle.std.specs.String.{string_bytes}
 use Rattle.std.specs.declared.string.String.{String}
 use Rattle.warg_crypto.specs.Digests.{sha256}
@@ -19,6 +19,15 @@ use Rattle.warg_registry.specs.Folder.{pages_of, registry_of, page_read, IsLogRe
 -- The bytes of names.
 abbrev pub bytes_of : List (String Global) → List (List ℕ)
 bytes_of names = map (λ name. string_bytes name) names
+
+-- No two of the names are one.
+abbrev pub AreApart : List (String Global) → Type 0
+AreApart names = AllPairs (λ a b. string_bytes a ≢ string_bytes b) names
+
+-- Each of these is one of the names, and where no two of the names are one, no two of these are.
+pub record AreSome (these names : List (String Global)) : Type 0 where
+  pub within : (n : List ℕ) → Contains (bytes_of these) n → Contains (bytes_of names) n
+  pub apart : AreApart names → AreApart these
 
 -- Among the names are those of these pages.
 abbrev pub ArePathsOf : List (List ℕ) → List ChangedPageAt → Type 0

@@ -8,10 +8,10 @@ ghost use Rattle.warg_pages.specs.Audits.{IsHeldIn, IsInPages};
 ghost use Rattle.warg_pages.specs.ChangedPages.{ChangedPageAt};
 ghost use Rattle.warg_pages.specs.Visits.{lone_slots};
 ghost use Rattle.warg_store.specs.Audited.{IsOfEntries, ShowsLogAndOlder, HasOlder};
-ghost use Rattle.warg_folder.specs.Moments.{IsRead, HasCauseOf};
+ghost use Rattle.warg_folder.specs.Moments.{IsRead};
 ghost use Rattle.warg_store.specs.Log.{LogOf};
 ghost use Rattle.warg_store.specs.Reading.{Reads, bundle_in, checkpoint_said};
-ghost use Rattle.warg_store.specs.Refusals.{IsNoFault, IsNoFailure};
+ghost use Rattle.warg_store.specs.Refusals.{IsNoFault, IsNoFailure, HasLogCause};
 ghost use Rattle.warg_registry.specs.Auditing.{AreOfRegistry, AreAllInFiles, AreReplayed, HasVisited};
 ghost use Rattle.warg_registry.specs.Folder.{registry_of};
 ghost use Rattle.warg_registry.specs.Insertions.{entry_of, entries_of};
@@ -85,8 +85,7 @@ impl<F: Folder + Drop> RegistryReader<F> {
         ensures whole { F.IsFaithful → (origin : List ℕ) (insertions : List (List ℕ × List ℕ))
             → ReadsRegistry F.seen origin insertions self.old
             → HasOlder (registry_of origin insertions) (F.seen self.old.log.folder) → IfErr result (IsNoFault ⊥) }
-        ensures cause { HasCauseOf (LogError.Folder FolderError.Failed) F.IsFaithful
-            (F.faults self.old.log.folder) (F.faults self.new.log.folder) result }
+        ensures cause { HasLogCause F.IsFaithful (F.faults self.old.log.folder) (F.faults self.new.log.folder) result }
     {
         let checkpoint = self.audited_map()?;
         self.pages.log.audit(progress)?;
@@ -106,8 +105,7 @@ impl<F: Folder + Drop> RegistryReader<F> {
         ensures text { OnOk result (self.new.log.text ≡ self.old.log.text) }
         ensures read { F.IsFaithful → OnOk result
             (IsRead F.seen F.may_leave F.moment F.left_since self.old.log.folder self.new.log.folder) }
-        ensures cause { HasCauseOf (LogError.Folder FolderError.Failed) F.IsFaithful
-            (F.faults self.old.log.folder) (F.faults self.new.log.folder) result }
+        ensures cause { HasLogCause F.IsFaithful (F.faults self.old.log.folder) (F.faults self.new.log.folder) result }
     {
         let keys = self.count_keys()?;
         let replay = self.replay()?;
@@ -133,8 +131,7 @@ impl<F: Folder + Drop> RegistryReader<F> {
         ensures same { (self.new.root ≡ self.old.root) × (self.new.log.text ≡ self.old.log.text) }
         ensures read { F.IsFaithful
             → IsRead F.seen F.may_leave F.moment F.left_since self.old.log.folder self.new.log.folder }
-        ensures cause { HasCauseOf (LogError.Folder FolderError.Failed) F.IsFaithful
-            (F.faults self.old.log.folder) (F.faults self.new.log.folder) result }
+        ensures cause { HasLogCause F.IsFaithful (F.faults self.old.log.folder) (F.faults self.new.log.folder) result }
     {
         let version = self.version();
         let mut lones = LoneKeys { count: 0 };
@@ -161,8 +158,7 @@ impl<F: Folder + Drop> RegistryReader<F> {
         ensures same { (self.new.root ≡ self.old.root) × (self.new.log.text ≡ self.old.log.text) }
         ensures read { F.IsFaithful
             → IsRead F.seen F.may_leave F.moment F.left_since self.old.log.folder self.new.log.folder }
-        ensures cause { HasCauseOf (LogError.Folder FolderError.Failed) F.IsFaithful
-            (F.faults self.old.log.folder) (F.faults self.new.log.folder) result }
+        ensures cause { HasLogCause F.IsFaithful (F.faults self.old.log.folder) (F.faults self.new.log.folder) result }
     {
         let mut replay = Replay {
             log: StackLog::default(self.alloc),
@@ -190,8 +186,7 @@ impl<F: Folder + Drop> RegistryReader<F> {
         ensures same { (self.new.root ≡ self.old.root) × (self.new.log.text ≡ self.old.log.text) }
         ensures read { F.IsFaithful
             → IsRead F.seen F.may_leave F.moment F.left_since self.old.log.folder self.new.log.folder }
-        ensures cause { HasCauseOf (LogError.Folder FolderError.Failed) F.IsFaithful
-            (F.faults self.old.log.folder) (F.faults self.new.log.folder) result }
+        ensures cause { HasLogCause F.IsFaithful (F.faults self.old.log.folder) (F.faults self.new.log.folder) result }
     {
         let entries = self.pages.log.entries(bundle)?;
         'entries: for entry in &entries {
@@ -216,8 +211,7 @@ impl<F: Folder + Drop> RegistryReader<F> {
         ensures same { (self.new.root ≡ self.old.root) × (self.new.log.text ≡ self.old.log.text) }
         ensures read { F.IsFaithful
             → IsRead F.seen F.may_leave F.moment F.left_since self.old.log.folder self.new.log.folder }
-        ensures cause { HasCauseOf (LogError.Folder FolderError.Failed) F.IsFaithful
-            (F.faults self.old.log.folder) (F.faults self.new.log.folder) result }
+        ensures cause { HasLogCause F.IsFaithful (F.faults self.old.log.folder) (F.faults self.new.log.folder) result }
     {
         let index = replay.log.length();
         if index >= GREATEST_LENGTH {
@@ -245,8 +239,7 @@ impl<F: Folder + Drop> RegistryReader<F> {
         ensures same { (self.new.root ≡ self.old.root) × (self.new.log.text ≡ self.old.log.text) }
         ensures read { F.IsFaithful
             → IsRead F.seen F.may_leave F.moment F.left_since self.old.log.folder self.new.log.folder }
-        ensures cause { HasCauseOf (LogError.Folder FolderError.Failed) F.IsFaithful
-            (F.faults self.old.log.folder) (F.faults self.new.log.folder) result }
+        ensures cause { HasLogCause F.IsFaithful (F.faults self.old.log.folder) (F.faults self.new.log.folder) result }
     {
         let version = self.version();
         self.pages.last.forget();
@@ -268,8 +261,7 @@ impl<F: Folder + Drop> RegistryReader<F> {
         ensures same { (self.new.root ≡ self.old.root) × (self.new.log.text ≡ self.old.log.text) }
         ensures read { F.IsFaithful
             → IsRead F.seen F.may_leave F.moment F.left_since self.old.log.folder self.new.log.folder }
-        ensures cause { HasCauseOf (LogError.Folder FolderError.Failed) F.IsFaithful
-            (F.faults self.old.log.folder) (F.faults self.new.log.folder) result }
+        ensures cause { HasLogCause F.IsFaithful (F.faults self.old.log.folder) (F.faults self.new.log.folder) result }
     {
         let key: Hash<Sha256> = Hash::of(&insertion.key);
         let held = self.held_in_map(&key)?;

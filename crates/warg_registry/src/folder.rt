@@ -13,7 +13,8 @@ ghost use Rattle.warg_folder.specs.Moments.{LeavesOnly, HasCauseOf, HasLostCause
 ghost use Rattle.warg_folder.specs.Names.{is_page};
 ghost use Rattle.warg_folder.specs.Commits.{IsBeside, opened};
 ghost use Rattle.warg_store.specs.Opening.{IsOpening, HasNoLogFile, HasLogFile};
-ghost use Rattle.warg_store.specs.Refusals.{IsNoFault as IsNoLogFault};
+ghost use Rattle.warg_store.specs.Refusals.{IsNoFault as IsNoLogFault, HasLogCause};
+ghost use Rattle.warg_store.specs.Pruned.{AreGone};
 ghost use Rattle.warg_registry.specs.Insertions.{entries_of, entry_of};
 ghost use Rattle.warg_registry.specs.Publishing.{IsRefusedFor, of_push};
 ghost use Rattle.warg_registry.specs.Pruning.{IsPageOf};
@@ -216,10 +217,12 @@ impl<F: Folder + Drop> RegistryFolder<F> {
         ensures all { F.IsFaithful → OnOk result ((origin : List ℕ) (served kept : List (List ℕ × List ℕ))
             → HasRegistry F.seen F.may_leave origin served kept self.old → (n : List ℕ) → is_page n ≡ true
             → IsSome (F.seen self.new.log.folder n) → IsPageOf served n ⊎ IsPageOf kept n) }
+        ensures gone { F.IsFaithful → IfOk result (λ n. (origin : List ℕ) (served kept : List (List ℕ × List ℕ))
+            → HasRegistry F.seen F.may_leave origin served kept self.old
+            → AreGone n (F.seen self.old.log.folder) (F.seen self.new.log.folder)) }
         ensures whole { F.IsFaithful → (origin : List ℕ) (served kept : List (List ℕ × List ℕ))
             → HasRegistry F.seen F.may_leave origin served kept self.old → IfErr result (IsNoLogFault ⊥) }
-        ensures cause { HasCauseOf (LogError.Folder FolderError.Failed) F.IsFaithful
-            (F.faults self.old.log.folder) (F.faults self.new.log.folder) result }
+        ensures cause { HasLogCause F.IsFaithful (F.faults self.old.log.folder) (F.faults self.new.log.folder) result }
     {
         let spare = self.pages.spare(&self.map.root, self.map.version)?;
         let log = &mut self.pages.log;

@@ -1,19 +1,18 @@
 //! The pages that a registry needs, and those that it doesn't.
 
-ghost use Rattle.std.specs.Prelude.{◌≡◌, ◌⊎◌, ◌++◌, ℕ, true, List, [], IfOk, IfErr, OnOk, IsSome, IsTrue};
-ghost use Rattle.std.specs.List.{Contains};
+ghost use Rattle.std.specs.Prelude.{◌≡◌, ◌⊎◌, ◌++◌, ℕ, true, List, [], IfOk, IfErr, OnOk, IsSome, IsTrue, string_bytes};
+ghost use Rattle.std.specs.List.{All, Contains};
 ghost use Rattle.warg_crypto.specs.Digests.{sha256};
 ghost use Rattle.warg_pages.specs.ChangedPages.{ChangedPageAt};
 ghost use Rattle.warg_pages.specs.PagePaths.{page_path};
 ghost use Rattle.warg_pages.specs.ProvedKeys.{IsOwnSource};
-ghost use Rattle.warg_folder.specs.Moments.{HasCauseOf};
 ghost use Rattle.warg_store.specs.Growing.{LogIn};
 ghost use Rattle.warg_store.specs.Log.{Serves};
 ghost use Rattle.warg_folder.specs.Names.{is_page};
 ghost use Rattle.warg_store.specs.Pruned.{IsNoneOf};
-ghost use Rattle.warg_store.specs.Refusals.{IsNoFault};
+ghost use Rattle.warg_store.specs.Refusals.{IsNoFault, HasLogCause};
 ghost use Rattle.warg_registry.specs.Folder.{registry_of, pages_of, page_read, IsLogRead, ReadsOn};
-ghost use Rattle.warg_registry.specs.Pruning.{bytes_of, ArePathsOf, AreOnlyPathsOf, HaveAllPages, IsPageOf, AreNeeded, OfBoth, AreNone, AreAmong};
+ghost use Rattle.warg_registry.specs.Pruning.{bytes_of, AreApart, AreSome, ArePathsOf, AreOnlyPathsOf, HaveAllPages, IsPageOf, AreNeeded, OfBoth, AreNone, AreAmong};
 
 use crate::error::{RegistryError, damaged};
 use crate::folder::root_said;
@@ -80,8 +79,7 @@ impl NeededPages {
             → IsOwnSource sha256 (page_read (F.seen known.folder)) root.now version insertions
             → IfErr result (IsNoFault ⊥) }
         ensures read { F.IsFaithful → ReadsOn F.seen F.may_leave F.moment F.left_since pages.old.log pages.new.log }
-        ensures cause { HasCauseOf (LogError.Folder FolderError.Failed) F.IsFaithful
-            (F.faults pages.old.log.folder) (F.faults pages.new.log.folder) result }
+        ensures cause { HasLogCause F.IsFaithful (F.faults pages.old.log.folder) (F.faults pages.new.log.folder) result }
     {
         pages.last.forget();
         let led = visit_pages(
@@ -100,6 +98,7 @@ impl NeededPages {
         ensures none { IfOk result (λ others. AreNone (bytes_of others.items) (bytes_of self.now.names.keys)) }
         ensures all { IfOk result (λ others.
             AreAmong (bytes_of names.items) (bytes_of others.items) (bytes_of self.now.names.keys)) }
+        ensures some { IfOk result (λ others. AreSome others.items names.items) }
     {
         let mut others = Vec::new(self.alloc);
         'names: for name in names {
@@ -124,11 +123,13 @@ impl<F: Folder + Drop> KeptPages<F> {
         ensures all { F.IsFaithful → IfOk result (λ spare. OfBoth F.seen F.may_leave F.moment F.left_since self.old.log
             root.now version (λ known served kept. (n : List ℕ) → is_page n ≡ true → IsSome (F.seen known.folder n)
             → Contains (bytes_of spare.items) n ⊎ IsPageOf served n ⊎ IsPageOf kept n)) }
+        ensures apart { F.IsFaithful → IfOk result (λ spare. AreApart spare.items) }
+        ensures there { F.IsFaithful → IfOk result (λ spare. All (λ name.
+            IsSome (F.seen self.new.log.folder (string_bytes name)) × (is_page (string_bytes name) ≡ true)) spare.items) }
         ensures whole { F.IsFaithful → OfBoth F.seen F.may_leave F.moment F.left_since self.old.log root.now version
             (λ _ _ _. IfErr result (IsNoFault ⊥)) }
         ensures read { F.IsFaithful → ReadsOn F.seen F.may_leave F.moment F.left_since self.old.log self.new.log }
-        ensures cause { HasCauseOf (LogError.Folder FolderError.Failed) F.IsFaithful
-            (F.faults self.old.log.folder) (F.faults self.new.log.folder) result }
+        ensures cause { HasLogCause F.IsFaithful (F.faults self.old.log.folder) (F.faults self.new.log.folder) result }
     {
         let needed = self.needed(root, version)?;
         let names = self.names()?;
@@ -142,8 +143,7 @@ impl<F: Folder + Drop> KeptPages<F> {
         ensures whole { F.IsFaithful → OfBoth F.seen F.may_leave F.moment F.left_since self.old.log root.now version
             (λ _ _ _. IfErr result (IsNoFault ⊥)) }
         ensures read { F.IsFaithful → ReadsOn F.seen F.may_leave F.moment F.left_since self.old.log self.new.log }
-        ensures cause { HasCauseOf (LogError.Folder FolderError.Failed) F.IsFaithful
-            (F.faults self.old.log.folder) (F.faults self.new.log.folder) result }
+        ensures cause { HasLogCause F.IsFaithful (F.faults self.old.log.folder) (F.faults self.new.log.folder) result }
     {
         let mut needed = NeededPages::new(self.last.alloc);
         needed.add(self, root, version)?;
@@ -167,8 +167,7 @@ impl<F: Folder + Drop> KeptPages<F> {
             → Serves (registry_of origin insertions) (F.seen known.folder)
             → IfErr result (IsNoFault ⊥) }
         ensures read { F.IsFaithful → ReadsOn F.seen F.may_leave F.moment F.left_since self.old.log self.new.log }
-        ensures cause { HasCauseOf (LogError.Folder FolderError.Failed) F.IsFaithful
-            (F.faults self.old.log.folder) (F.faults self.new.log.folder) result }
+        ensures cause { HasLogCause F.IsFaithful (F.faults self.old.log.folder) (F.faults self.new.log.folder) result }
     {
         let alloc = self.last.alloc;
         let text = self.log.served()?;
@@ -185,10 +184,12 @@ impl<F: Folder + Drop> KeptPages<F> {
         ensures all { F.IsFaithful → IfOk result (λ names. (known : LogIn F)
             → IsLogRead F.seen F.may_leave F.moment F.left_since known self.old.log
             → (n : List ℕ) → is_page n ≡ true → IsSome (F.seen known.folder n) → Contains (bytes_of names.items) n) }
+        ensures apart { F.IsFaithful → IfOk result (λ names. AreApart names.items) }
+        ensures there { F.IsFaithful → IfOk result (λ names. All (λ name.
+            IsSome (F.seen self.new.log.folder (string_bytes name)) × (is_page (string_bytes name) ≡ true)) names.items) }
         ensures whole { IfErr result (IsNoFault ⊥) }
         ensures read { F.IsFaithful → ReadsOn F.seen F.may_leave F.moment F.left_since self.old.log self.new.log }
-        ensures cause { HasCauseOf (LogError.Folder FolderError.Failed) F.IsFaithful
-            (F.faults self.old.log.folder) (F.faults self.new.log.folder) result }
+        ensures cause { HasLogCause F.IsFaithful (F.faults self.old.log.folder) (F.faults self.new.log.folder) result }
     {
         Ok(self.log.pages()?)
     }

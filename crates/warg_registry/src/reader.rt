@@ -6,10 +6,10 @@ ghost use Rattle.warg_crypto.specs.Tree.{leaf_digest};
 ghost use Rattle.warg_map.specs.Bits.{key_bits};
 ghost use Rattle.warg_map.specs.ProofValue.{proof_value};
 ghost use Rattle.warg_pages.specs.ProvedKeys.{LeadsTo, IsProved};
-ghost use Rattle.warg_folder.specs.Moments.{HasCauseOf, HasLostCause};
+ghost use Rattle.warg_folder.specs.Moments.{HasLostCause};
 ghost use Rattle.warg_store.specs.Log.{Serves};
 ghost use Rattle.warg_store.specs.Reading.{IsShown, checkpoint_said};
-ghost use Rattle.warg_store.specs.Refusals.{IsNoFault as IsNoLogFault, IsNoFailure};
+ghost use Rattle.warg_store.specs.Refusals.{IsNoFault as IsNoLogFault, IsNoFailure, HasLogCause};
 ghost use Rattle.warg_registry.specs.Folder.{registry_of, IsNoFault};
 ghost use Rattle.warg_registry.specs.Reading.{ReadsRegistry, IsKeyShown, IsLogged, IsOfEntry, IsOwnKey, IsHeldAt, IsKeyIn};
 ghost use Rattle.warg_registry.specs.Insertions.{entry_of, entries_of, IsInsertion};
@@ -123,8 +123,7 @@ impl<F: Folder + Drop> RegistryReader<F> {
             → IfErr result (IsNoLogFault ⊥) }
         ensures reads { F.IsFaithful → (origin : List ℕ) (insertions : List (List ℕ × List ℕ))
             → ReadsRegistry F.seen origin insertions self.old → ReadsRegistry F.seen origin insertions self.new }
-        ensures cause { HasCauseOf (LogError.Folder FolderError.Failed) F.IsFaithful
-            (F.faults self.old.log.folder) (F.faults self.new.log.folder) result }
+        ensures cause { HasLogCause F.IsFaithful (F.faults self.old.log.folder) (F.faults self.new.log.folder) result }
     {
         self.found(key, EntryFrom::Bundle)
     }
@@ -141,8 +140,7 @@ impl<F: Folder + Drop> RegistryReader<F> {
             → IfErr result (IsNoLogFault ⊥) }
         ensures reads { F.IsFaithful → (origin : List ℕ) (insertions : List (List ℕ × List ℕ))
             → ReadsRegistry F.seen origin insertions self.old → ReadsRegistry F.seen origin insertions self.new }
-        ensures cause { HasCauseOf (LogError.Folder FolderError.Failed) F.IsFaithful
-            (F.faults self.old.log.folder) (F.faults self.new.log.folder) result }
+        ensures cause { HasLogCause F.IsFaithful (F.faults self.old.log.folder) (F.faults self.new.log.folder) result }
     {
         self.found(key, EntryFrom::Log)
     }
@@ -158,8 +156,7 @@ impl<F: Folder + Drop> RegistryReader<F> {
             → IfErr result (IsNoLogFault ⊥) }
         ensures reads { F.IsFaithful → (origin : List ℕ) (insertions : List (List ℕ × List ℕ))
             → ReadsRegistry F.seen origin insertions self.old → ReadsRegistry F.seen origin insertions self.new }
-        ensures cause { HasCauseOf (LogError.Folder FolderError.Failed) F.IsFaithful
-            (F.faults self.old.log.folder) (F.faults self.new.log.folder) result }
+        ensures cause { HasLogCause F.IsFaithful (F.faults self.old.log.folder) (F.faults self.new.log.folder) result }
     {
         match self.prove(key)? {
             KeyInPages::Held(index, leaf, peers) => self.value(key, index, &leaf, peers, from),
@@ -177,8 +174,7 @@ impl<F: Folder + Drop> RegistryReader<F> {
         ensures same { (self.new.root ≡ self.old.root) × (self.new.log.text ≡ self.old.log.text) }
         ensures reads { F.IsFaithful → (origin : List ℕ) (insertions : List (List ℕ × List ℕ))
             → ReadsRegistry F.seen origin insertions self.old → ReadsRegistry F.seen origin insertions self.new }
-        ensures cause { HasCauseOf (LogError.Folder FolderError.Failed) F.IsFaithful
-            (F.faults self.old.log.folder) (F.faults self.new.log.folder) result }
+        ensures cause { HasLogCause F.IsFaithful (F.faults self.old.log.folder) (F.faults self.new.log.folder) result }
     {
         let version = self.version();
         self.pages.last.forget();
@@ -208,8 +204,7 @@ impl<F: Folder + Drop> RegistryReader<F> {
             → IfErr result (IsNoLogFault ⊥) }
         ensures reads { F.IsFaithful → (origin : List ℕ) (insertions : List (List ℕ × List ℕ))
             → ReadsRegistry F.seen origin insertions self.old → ReadsRegistry F.seen origin insertions self.new }
-        ensures cause { HasCauseOf (LogError.Folder FolderError.Failed) F.IsFaithful
-            (F.faults self.old.log.folder) (F.faults self.new.log.folder) result }
+        ensures cause { HasLogCause F.IsFaithful (F.faults self.old.log.folder) (F.faults self.new.log.folder) result }
     {
         let entry = self.entry(index as usize, from)?;
         self.held(key, index, leaf, entry.as_slice(), peers)
@@ -228,8 +223,7 @@ impl<F: Folder + Drop> RegistryReader<F> {
         ensures root { self.new.root ≡ self.old.root }
         ensures reads { F.IsFaithful → (origin : List ℕ) (insertions : List (List ℕ × List ℕ))
             → ReadsRegistry F.seen origin insertions self.old → ReadsRegistry F.seen origin insertions self.new }
-        ensures cause { HasCauseOf (LogError.Folder FolderError.Failed) F.IsFaithful
-            (F.faults self.old.log.folder) (F.faults self.new.log.folder) result }
+        ensures cause { HasLogCause F.IsFaithful (F.faults self.old.log.folder) (F.faults self.new.log.folder) result }
     {
         match from {
             EntryFrom::Bundle => self.pages.log.bundle_entry(index),

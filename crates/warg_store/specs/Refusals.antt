@@ -1,6 +1,7 @@
 -- Why a call on a log in files is refused.
-use Rattle.std.specs.Prelude.{◌≢◌}
+use Rattle.std.specs.Prelude.{◌≢◌, ℕ, Result}
 use Rattle.warg_folder.specs.declared.device.FolderError.TheVariants.{Failed}
+use Rattle.warg_folder.specs.Moments.{HasCauseOf}
 use Rattle.warg_store.specs.declared.error.LogError.{LogError}
 use Rattle.warg_store.specs.declared.error.LogError.TheVariants.{NoLog, Damaged, RolledBack, OutOfRange, Folder}
 
@@ -15,3 +16,7 @@ IsNoFault beyond (Folder cause) = Unit {0}
 -- The device hasn't failed.
 abbrev pub IsNoFailure : LogError → Type 0
 IsNoFailure error = error ≢ Folder Failed
+
+-- A call on a log says that a faithful device has failed only where it has since.
+abbrev pub HasLogCause : {T : Type 0} → Type 0 → ℕ → ℕ → Result T LogError → Type 0
+HasLogCause IsFaithful before now result = HasCauseOf (Folder Failed) IsFaithful before now result

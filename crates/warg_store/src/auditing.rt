@@ -8,7 +8,7 @@ ghost use Rattle.warg_tiles.specs.CheckpointText.{Said, text_of};
 ghost use Rattle.warg_tiles.specs.TileLog.{StandsFor};
 ghost use Rattle.warg_tiles.specs.TilePaths.{tile_path};
 ghost use Rattle.warg_folder.specs.Files.{Files};
-ghost use Rattle.warg_folder.specs.Moments.{Only, IsRead, LeavesOnly, HasCauseOf};
+ghost use Rattle.warg_folder.specs.Moments.{Only, IsRead, LeavesOnly};
 ghost use Rattle.warg_folder.specs.Commits.{opened, committed, IsStaging, NothingStaged, IsBetween};
 ghost use Rattle.warg_store.specs.Audited.{HasEntries, HasOlder, IsOfEntries, ShowsLog, ShowsLogAndOlder};
 ghost use Rattle.warg_store.specs.Log.{LogOf, HasState};
@@ -17,7 +17,7 @@ ghost use Rattle.warg_store.specs.Reading.{AreOfLog, bundle_in, checkpoint_said}
 ghost use Rattle.warg_store.specs.Rebuilt.{HasBundlesOf, IsStated, IsRebuilt, IsRebuilding};
 ghost use Rattle.warg_store.specs.Private.Compared.{HasTiles, HasNarrower, HasNarrowerBundles, IsOwnTile, IsWhole};
 ghost use Rattle.warg_store.specs.Private.Used.{IsReadyFor, IsUsed, AreUsed, IsEnough, HasUsed, HasUsedAll, IsRemaking};
-ghost use Rattle.warg_store.specs.Refusals.{IsNoFault, IsNoFailure};
+ghost use Rattle.warg_store.specs.Refusals.{IsNoFault, IsNoFailure, HasLogCause};
 
 use crate::edge::read_tile;
 use crate::error::LogError;
@@ -58,8 +58,7 @@ pub(crate) fn audited<F: Folder, P: Progress>(
     ensures whole { F.IsFaithful → (log : LogOf) → AreOfLog log checkpoint.now (F.seen folder.old)
         → HasOlder log (F.seen folder.old) → IfErr result (IsNoFault ⊥) }
     ensures read { F.IsFaithful → IsRead F.seen F.may_leave F.moment F.left_since folder.old folder.new }
-    ensures cause { HasCauseOf (LogError.Folder FolderError.Failed) F.IsFaithful
-        (F.faults folder.old) (F.faults folder.new) result }
+    ensures cause { HasLogCause F.IsFaithful (F.faults folder.old) (F.faults folder.new) result }
 {
     let log = replayed(alloc, folder, checkpoint.length(), Use::Compare, progress)?;
     same_root(alloc, &log, checkpoint)
@@ -87,8 +86,7 @@ pub fn rebuild<F: Folder, P: Progress>(
     ensures any_moment { F.IsFaithful → LeavesOnly F.moment F.left_since folder.old folder.new
         (λ c. F.may_leave folder.old c ⊎ IsRebuilding (F.seen folder.old) c) }
 
-    ensures cause { HasCauseOf (LogError.Folder FolderError.Failed) F.IsFaithful
-        (F.faults folder.old) (F.faults folder.new) result }
+    ensures cause { HasLogCause F.IsFaithful (F.faults folder.old) (F.faults folder.new) result }
 {
     if let Err(error) = recover(alloc, folder) {
         return Err(LogError::of_recovery(alloc, &error));
@@ -115,8 +113,7 @@ fn remade<F: Folder, P: Progress>(
     ensures durable { F.IsFaithful → OnOk result (Only (F.seen folder.new) (F.may_leave folder.new)) }
     ensures any_moment { F.IsFaithful → LeavesOnly F.moment F.left_since folder.old folder.new
         (IsRemaking state.now (F.seen folder.old)) }
-    ensures cause { HasCauseOf (LogError.Folder FolderError.Failed) F.IsFaithful
-        (F.faults folder.old) (F.faults folder.new) result }
+    ensures cause { HasLogCause F.IsFaithful (F.faults folder.old) (F.faults folder.new) result }
 {
     let checkpoint = state.checkpoint();
     let log = replayed(alloc, folder, checkpoint.length(), Use::Stage, progress)?;
@@ -138,8 +135,7 @@ fn commit_state<F: Folder>(
     ensures durable { F.IsFaithful → OnOk result (Only (F.seen folder.new) (F.may_leave folder.new)) }
     ensures any_moment { F.IsFaithful → LeavesOnly F.moment F.left_since folder.old folder.new
         (IsBetween (F.seen folder.old) (committed (text_of state.now) (F.seen folder.old))) }
-    ensures cause { HasCauseOf (LogError.Folder FolderError.Failed) F.IsFaithful
-        (F.faults folder.old) (F.faults folder.new) result }
+    ensures cause { HasLogCause F.IsFaithful (F.faults folder.old) (F.faults folder.new) result }
 {
     let text = state.write(alloc)?;
     if text.len() > MOST_TEXT {
@@ -188,8 +184,7 @@ fn replayed<F: Folder, P: Progress>(
     ensures whole { F.IsFaithful → (kept : LogOf) → IsEnough use_as kept (F.seen folder.old)
         → length kept.entries ≡ log_length → IfErr result (IsNoFault ⊥) }
     ensures used { F.IsFaithful → IsUsed use_as F.seen F.may_leave F.moment F.left_since folder.old folder.new }
-    ensures cause { HasCauseOf (LogError.Folder FolderError.Failed) F.IsFaithful
-        (F.faults folder.old) (F.faults folder.new) result }
+    ensures cause { HasLogCause F.IsFaithful (F.faults folder.old) (F.faults folder.new) result }
 {
     let mut log = TileLog::new(alloc);
     'bundles: for number in 0..log_length.div_ceil(256) {
@@ -228,8 +223,7 @@ fn replay_bundle<F: Folder, P: Progress>(
         → StandsFor sha256 log.old (leaves_of sha256 (take (256 * number) kept.entries))
         → IfErr result (IsNoFault ⊥) }
     ensures used { F.IsFaithful → IsUsed use_as F.seen F.may_leave F.moment F.left_since folder.old folder.new }
-    ensures cause { HasCauseOf (LogError.Folder FolderError.Failed) F.IsFaithful
-        (F.faults folder.old) (F.faults folder.new) result }
+    ensures cause { HasLogCause F.IsFaithful (F.faults folder.old) (F.faults folder.new) result }
 {
     let entries = read_entries(alloc, folder, number, log_length)?;
     push_all(log, entries.as_slice(), progress)?;
@@ -284,8 +278,7 @@ fn use_bundle<F: Folder>(
     ensures whole { F.IsFaithful → (kept : LogOf) → IsEnough use_as kept (F.seen folder.old)
         → map (λ e. e.items) entries.now ≡ bundle_in kept number → IfErr result (IsNoFault ⊥) }
     ensures read { F.IsFaithful → IsRead F.seen F.may_leave F.moment F.left_since folder.old folder.new }
-    ensures cause { HasCauseOf (LogError.Folder FolderError.Failed) F.IsFaithful
-        (F.faults folder.old) (F.faults folder.new) result }
+    ensures cause { HasLogCause F.IsFaithful (F.faults folder.old) (F.faults folder.new) result }
 {
     match use_as {
         Use::Stage => Ok(()),
@@ -307,8 +300,7 @@ fn use_tiles<F: Folder>(
         → AllByRecursion (IsOwnTile kept) (map (λ t. (t.tile, t.digests.items)) tiles.now)
         → IfErr result (IsNoFault ⊥) }
     ensures used { F.IsFaithful → IsUsed use_as F.seen F.may_leave F.moment F.left_since folder.old folder.new }
-    ensures cause { HasCauseOf (LogError.Folder FolderError.Failed) F.IsFaithful
-        (F.faults folder.old) (F.faults folder.new) result }
+    ensures cause { HasLogCause F.IsFaithful (F.faults folder.old) (F.faults folder.new) result }
 {
     match use_as {
         Use::Stage => Ok(stage_tiles(alloc, folder, 0, tiles)?),
@@ -329,8 +321,7 @@ fn compare_tiles<F: Folder>(
         → AllByRecursion (IsOwnTile log) (map (λ t. (t.tile, t.digests.items)) tiles.now)
         → IfErr result (IsNoFault ⊥) }
     ensures read { F.IsFaithful → IsRead F.seen F.may_leave F.moment F.left_since folder.old folder.new }
-    ensures cause { HasCauseOf (LogError.Folder FolderError.Failed) F.IsFaithful
-        (F.faults folder.old) (F.faults folder.new) result }
+    ensures cause { HasLogCause F.IsFaithful (F.faults folder.old) (F.faults folder.new) result }
 {
     'tiles: for tile in tiles {
         compare_tile(alloc, folder, tile)?;
@@ -352,8 +343,7 @@ fn compare_tile<F: Folder>(
     ensures whole { F.IsFaithful → (log : LogOf) → IsWhole log (F.seen folder.old)
         → IsOwnTile log (stored.now.tile, stored.now.digests.items) → IfErr result (IsNoFault ⊥) }
     ensures read { F.IsFaithful → IsRead F.seen F.may_leave F.moment F.left_since folder.old folder.new }
-    ensures cause { HasCauseOf (LogError.Folder FolderError.Failed) F.IsFaithful
-        (F.faults folder.old) (F.faults folder.new) result }
+    ensures cause { HasLogCause F.IsFaithful (F.faults folder.old) (F.faults folder.new) result }
 {
     let found = read_tile(alloc, folder, stored.tile)?;
     if found.digests.as_slice() == stored.digests.as_slice() {

@@ -10,9 +10,9 @@ ghost use Rattle.warg_tiles.specs.TileLog.{StandsFor, tile_digests};
 ghost use Rattle.warg_tiles.specs.TilePaths.{tile_path, entries_path};
 ghost use Rattle.warg_store.specs.Growing.{ArePartsOf};
 ghost use Rattle.warg_store.specs.Log.{LogOf, AreShort, CanBeKept, IsBundleIn, HasFiles, said_of, tile_bytes, bundle_bytes};
-ghost use Rattle.warg_folder.specs.Moments.{IsRead, HasCauseOf};
+ghost use Rattle.warg_folder.specs.Moments.{IsRead};
 ghost use Rattle.warg_store.specs.Reading.{checkpoint_said};
-ghost use Rattle.warg_store.specs.Refusals.{IsNoFault, IsNoFailure};
+ghost use Rattle.warg_store.specs.Refusals.{IsNoFault, IsNoFailure, HasLogCause};
 
 use crate::error::LogError;
 use std::alloc::Global;
@@ -47,8 +47,7 @@ pub(crate) fn read_tile<F: Folder>(
     ensures whole { F.IsFaithful → (log : LogOf)
         → F.seen folder.old (tile_path tile) ≡ Some (tile_bytes log tile) → IfErr result (IsNoFault ⊥) }
     ensures read { F.IsFaithful → IsRead F.seen F.may_leave F.moment F.left_since folder.old folder.new }
-    ensures cause { HasCauseOf (LogError.Folder FolderError.Failed) F.IsFaithful
-        (F.faults folder.old) (F.faults folder.new) result }
+    ensures cause { HasLogCause F.IsFaithful (F.faults folder.old) (F.faults folder.new) result }
 {
     let path = tile.path(alloc)?;
     let Some(bytes) = folder.read(alloc, path.as_str(), MOST_TILE)? else {
@@ -79,8 +78,7 @@ pub(crate) fn read_edge<F: Folder>(
     ensures whole { F.IsFaithful → (log : LogOf) → log_length ≡ length log.entries
         → HasFiles log (F.seen folder.old) → IfErr result (IsNoFault ⊥) }
     ensures read { F.IsFaithful → IsRead F.seen F.may_leave F.moment F.left_since folder.old folder.new }
-    ensures cause { HasCauseOf (LogError.Folder FolderError.Failed) F.IsFaithful
-        (F.faults folder.old) (F.faults folder.new) result }
+    ensures cause { HasLogCause F.IsFaithful (F.faults folder.old) (F.faults folder.new) result }
 {
     let mut edge = Vec::new(alloc);
     'levels: for level in 0..8 {
@@ -155,8 +153,7 @@ pub(crate) fn read_bundle<F: Folder>(
         → F.seen folder.old (entries_path tile.now) ≡ Some (bundle_bytes log tile.now)
         → IfErr result (IsNoFault ⊥) }
     ensures read { F.IsFaithful → IsRead F.seen F.may_leave F.moment F.left_since folder.old folder.new }
-    ensures cause { HasCauseOf (LogError.Folder FolderError.Failed) F.IsFaithful
-        (F.faults folder.old) (F.faults folder.new) result }
+    ensures cause { HasLogCause F.IsFaithful (F.faults folder.old) (F.faults folder.new) result }
 {
     let path = tile.entries_path(alloc)?;
     match folder.read(alloc, path.as_str(), MOST_BUNDLE)? {
@@ -214,8 +211,7 @@ pub(crate) fn read_last_bundle<F: Folder>(
     ensures whole { F.IsFaithful → (log : LogOf) → CanBeKept log → HasFiles log (F.seen folder.old)
         → ArePartsOf log edge.now → IfErr result (IsNoFault ⊥) }
     ensures read { F.IsFaithful → IsRead F.seen F.may_leave F.moment F.left_since folder.old folder.new }
-    ensures cause { HasCauseOf (LogError.Folder FolderError.Failed) F.IsFaithful
-        (F.faults folder.old) (F.faults folder.new) result }
+    ensures cause { HasLogCause F.IsFaithful (F.faults folder.old) (F.faults folder.new) result }
 {
     match edge.first() {
         Some(stored) if stored.tile.level() == 0 => {

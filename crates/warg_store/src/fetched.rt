@@ -6,9 +6,9 @@ ghost use Rattle.warg_crypto.specs.Digests.{sha256};
 ghost use Rattle.warg_log.specs.Tree.{leaves_of};
 ghost use Rattle.warg_tiles.specs.Between.{IsTileOf};
 ghost use Rattle.warg_store.specs.Log.{LogOf, IsTileIn, HasFiles};
-ghost use Rattle.warg_folder.specs.Moments.{Within, HasCauseOf};
+ghost use Rattle.warg_folder.specs.Moments.{Within};
 ghost use Rattle.warg_store.specs.Private.Fetched.{AreOwn, GivesMore};
-ghost use Rattle.warg_store.specs.Refusals.{IsNoFault};
+ghost use Rattle.warg_store.specs.Refusals.{IsNoFault, HasLogCause};
 
 use crate::edge::read_tile;
 use crate::error::LogError;
@@ -38,8 +38,7 @@ pub(crate) fn fetch<F: Folder>(
         → AllByRecursion (IsTileOf n) tiles.now → IfErr result (IsNoFault ⊥) }
     ensures seen { F.IsFaithful → F.seen folder.new ≡ F.seen folder.old }
     ensures crash { F.IsFaithful → Within (F.may_leave folder.old) (F.may_leave folder.new) }
-    ensures cause { HasCauseOf (LogError.Folder FolderError.Failed) F.IsFaithful
-        (F.faults folder.old) (F.faults folder.new) result }
+    ensures cause { HasLogCause F.IsFaithful (F.faults folder.old) (F.faults folder.new) result }
 {
     'tiles: for tile in tiles {
         fetch_one(alloc, folder, fetched, tile_at(tile, log_length))?;
@@ -61,8 +60,7 @@ fn fetch_one<F: Folder>(
         → IsTileIn log tile → IfErr result (IsNoFault ⊥) }
     ensures seen { F.IsFaithful → F.seen folder.new ≡ F.seen folder.old }
     ensures crash { F.IsFaithful → Within (F.may_leave folder.old) (F.may_leave folder.new) }
-    ensures cause { HasCauseOf (LogError.Folder FolderError.Failed) F.IsFaithful
-        (F.faults folder.old) (F.faults folder.new) result }
+    ensures cause { HasLogCause F.IsFaithful (F.faults folder.old) (F.faults folder.new) result }
 {
     if fetched.has_tile(&tile) {
         return Ok(());
@@ -92,8 +90,7 @@ pub(crate) fn fetch_leaf<F: Folder>(
         → length log.entries ≡ log_length → index < log_length → IfErr result (IsNoFault ⊥) }
     ensures seen { F.IsFaithful → F.seen folder.new ≡ F.seen folder.old }
     ensures crash { F.IsFaithful → Within (F.may_leave folder.old) (F.may_leave folder.new) }
-    ensures cause { HasCauseOf (LogError.Folder FolderError.Failed) F.IsFaithful
-        (F.faults folder.old) (F.faults folder.new) result }
+    ensures cause { HasLogCause F.IsFaithful (F.faults folder.old) (F.faults folder.new) result }
 {
     let leaf = Node::leaf(index);
     if let Some(digest) = fetched.hash_for(leaf) {

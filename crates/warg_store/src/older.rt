@@ -8,8 +8,8 @@ ghost use Rattle.warg_store.specs.Audited.{HasOlder};
 ghost use Rattle.warg_store.specs.Log.{LogOf, AreShort, tile_bytes, bundle_bytes};
 ghost use Rattle.warg_store.specs.Private.Compared.{IsOwnTile, IsPartOf, IsBeginning, tile_of, path_beside};
 ghost use Rattle.warg_store.specs.Reading.{bundle_in};
-ghost use Rattle.warg_store.specs.Refusals.{IsNoFault};
-ghost use Rattle.warg_folder.specs.Moments.{IsRead, HasCause, HasCauseOf};
+ghost use Rattle.warg_store.specs.Refusals.{IsNoFault, HasLogCause};
+ghost use Rattle.warg_folder.specs.Moments.{IsRead, HasCause};
 
 use crate::edge::{damaged_bundle, read_bundle, read_tile};
 use crate::error::LogError;
@@ -55,8 +55,7 @@ pub(crate) fn compare_older<F: Folder>(
     ensures whole { F.IsFaithful → (log : LogOf) → AreShort log.entries → IsPartOf log newer.now
         → HasOlder log (F.seen folder.old) → IfErr result (IsNoFault ⊥) }
     ensures read { F.IsFaithful → IsRead F.seen F.may_leave F.moment F.left_since folder.old folder.new }
-    ensures cause { HasCauseOf (LogError.Folder FolderError.Failed) F.IsFaithful
-        (F.faults folder.old) (F.faults folder.new) result }
+    ensures cause { HasLogCause F.IsFaithful (F.faults folder.old) (F.faults folder.new) result }
 {
     let names = partial_names(alloc, folder, newer.full_path(alloc)?)?;
     'names: for name in names.as_slice() {
@@ -77,8 +76,7 @@ fn compare_named<F: Folder>(
     ensures whole { F.IsFaithful → (log : LogOf) → AreShort log.entries → IsPartOf log newer.now
         → HasOlder log (F.seen folder.old) → IsSome (F.seen folder.old name.now) → IfErr result (IsNoFault ⊥) }
     ensures read { F.IsFaithful → IsRead F.seen F.may_leave F.moment F.left_since folder.old folder.new }
-    ensures cause { HasCauseOf (LogError.Folder FolderError.Failed) F.IsFaithful
-        (F.faults folder.old) (F.faults folder.new) result }
+    ensures cause { HasLogCause F.IsFaithful (F.faults folder.old) (F.faults folder.new) result }
 {
     match newer {
         Newer::Tile(newer) => match Tile::from_path(name) {
@@ -118,8 +116,7 @@ fn compare_older_tile<F: Folder>(
         → tile.level ≡ newer.now.tile.level → tile.number ≡ newer.now.tile.number → tile.width < newer.now.tile.width
         → F.seen folder.old (tile_path tile) ≡ Some (tile_bytes log tile) → IfErr result (IsNoFault ⊥) }
     ensures read { F.IsFaithful → IsRead F.seen F.may_leave F.moment F.left_since folder.old folder.new }
-    ensures cause { HasCauseOf (LogError.Folder FolderError.Failed) F.IsFaithful
-        (F.faults folder.old) (F.faults folder.new) result }
+    ensures cause { HasLogCause F.IsFaithful (F.faults folder.old) (F.faults folder.new) result }
 {
     let older = read_tile(alloc, folder, tile)?.digests;
     if newer.digests.as_slice().starts_with(older.as_slice()) {
@@ -146,8 +143,7 @@ fn compare_older_bundle<F: Folder>(
         → F.seen folder.old (entries_path tile.now) ≡ Some (bundle_bytes log tile.now)
         → IfErr result (IsNoFault ⊥) }
     ensures read { F.IsFaithful → IsRead F.seen F.may_leave F.moment F.left_since folder.old folder.new }
-    ensures cause { HasCauseOf (LogError.Folder FolderError.Failed) F.IsFaithful
-        (F.faults folder.old) (F.faults folder.new) result }
+    ensures cause { HasLogCause F.IsFaithful (F.faults folder.old) (F.faults folder.new) result }
 {
     let found = read_bundle(alloc, folder, tile)?;
     if is_bundle(alloc, found.as_slice(), &entries[..tile.width()])? {

@@ -11,7 +11,7 @@ ghost use Rattle.warg_folder.specs.Names.{checkpoint, state, mark, is_of_log};
 ghost use Rattle.warg_folder.specs.Commits.{is_signed, IsStaging, NothingStaged, committed, opened};
 ghost use Rattle.warg_store.specs.Opening.{CanBeServed, AgreesWith, IsAtRest, IsTakenOver, IsOpening, HasNoLogFile, HasLogFile};
 ghost use Rattle.warg_store.specs.Rebuilt.{IsStated};
-ghost use Rattle.warg_store.specs.Refusals.{IsNoFault, IsNoFailure};
+ghost use Rattle.warg_store.specs.Refusals.{IsNoFault, IsNoFailure, HasLogCause};
 
 use crate::edge::{open_edge, read_edge, read_last_bundle};
 use crate::error::LogError;
@@ -185,8 +185,7 @@ fn kept_text<F: Folder>(alloc: Global, folder: &mut F) -> Result<CheckpointText<
         (λ c. (c ≡ F.seen folder.old) ⊎ IsTakenOver (F.seen folder.old) c)) }
     ensures ready { F.IsFaithful → IsStaging (F.seen folder.old) (F.may_leave folder.old)
         → OnOk result (IsStaging (F.seen folder.new) (F.may_leave folder.new)) }
-    ensures cause { HasCauseOf (LogError.Folder FolderError.Failed) F.IsFaithful
-        (F.faults folder.old) (F.faults folder.new) result }
+    ensures cause { HasLogCause F.IsFaithful (F.faults folder.old) (F.faults folder.new) result }
 {
     let Some(state) = read_text(alloc, folder, STATE)? else {
         return take_over(alloc, folder);
@@ -210,8 +209,7 @@ fn take_over<F: Folder>(alloc: Global, folder: &mut F) -> Result<CheckpointText<
         (λ c. (c ≡ F.seen folder.old) ⊎ IsTakenOver (F.seen folder.old) c)) }
     ensures ready { F.IsFaithful → IsStaging (F.seen folder.old) (F.may_leave folder.old)
         → OnOk result (IsStaging (F.seen folder.new) (F.may_leave folder.new)) }
-    ensures cause { HasCauseOf (LogError.Folder FolderError.Failed) F.IsFaithful
-        (F.faults folder.old) (F.faults folder.new) result }
+    ensures cause { HasLogCause F.IsFaithful (F.faults folder.old) (F.faults folder.new) result }
 {
     let Some(served) = read_text(alloc, folder, CHECKPOINT)? else {
         return Err(LogError::NoLog);
@@ -288,8 +286,7 @@ pub(crate) fn read_state<F: Folder>(
     ensures whole { F.IsFaithful → (said : Said) (behind : Option (List ℕ)) → CanBeServed said
         → F.seen folder.old state ≡ Some (text_before said behind) → IfErr result (IsNoFault ⊥) }
     ensures read { F.IsFaithful → IsRead F.seen F.may_leave F.moment F.left_since folder.old folder.new }
-    ensures cause { HasCauseOf (LogError.Folder FolderError.Failed) F.IsFaithful
-        (F.faults folder.old) (F.faults folder.new) result }
+    ensures cause { HasLogCause F.IsFaithful (F.faults folder.old) (F.faults folder.new) result }
 {
     read_text(alloc, folder, STATE)?.ok_or(LogError::NoLog)
 }
@@ -314,8 +311,7 @@ pub(crate) fn read_text<F: Folder>(
     ensures time { F.IsFaithful → Elapses F.moment F.left_since F.may_leave folder.old folder.new }
     ensures ready { F.IsFaithful → IsStaging (F.seen folder.old) (F.may_leave folder.old)
         → OnOk result (IsStaging (F.seen folder.new) (F.may_leave folder.new)) }
-    ensures cause { HasCauseOf (LogError.Folder FolderError.Failed) F.IsFaithful
-        (F.faults folder.old) (F.faults folder.new) result }
+    ensures cause { HasLogCause F.IsFaithful (F.faults folder.old) (F.faults folder.new) result }
 {
     match folder.read(alloc, name, MOST_TEXT)? {
         Some(bytes) => Ok(Some(text_in(alloc, name, bytes.as_slice())?)),
@@ -338,8 +334,7 @@ pub(crate) fn read_newest<F: Folder>(
     ensures newest { F.IsFaithful → (kept : Said) → IsAtRest kept (F.seen folder.old)
         → IfOk result (λ text. kept.length ≤ text.length) }
     ensures seen { F.IsFaithful → F.seen folder.new ≡ F.seen folder.old }
-    ensures cause { HasCauseOf (LogError.Folder FolderError.Failed) F.IsFaithful
-        (F.faults folder.old) (F.faults folder.new) result }
+    ensures cause { HasLogCause F.IsFaithful (F.faults folder.old) (F.faults folder.new) result }
 {
     let state = read_text(alloc, folder, STATE)?;
     let Some(served) = read_text(alloc, folder, CHECKPOINT)? else {
@@ -369,8 +364,7 @@ fn newest_of<F: Folder>(
     ensures newest { F.IsFaithful → F.seen folder.old mark ≡ None → is_signed (F.seen folder.old checkpoint) ≡ false
         → IfOk result (λ text. state.now.length ≤ text.length) }
     ensures seen { F.IsFaithful → F.seen folder.new ≡ F.seen folder.old }
-    ensures cause { HasCauseOf (LogError.Folder FolderError.Failed) F.IsFaithful
-        (F.faults folder.old) (F.faults folder.new) result }
+    ensures cause { HasLogCause F.IsFaithful (F.faults folder.old) (F.faults folder.new) result }
 {
     let newest = state.checkpoint().length();
     if served.checkpoint().length() >= newest || is_committing(alloc, folder)? {
@@ -401,8 +395,7 @@ fn read_again<F: Folder>(
     ensures newest { F.IsFaithful → is_signed (F.seen folder.old checkpoint) ≡ false
         → IfOk result (λ text. state.now.length ≤ text.length) }
     ensures seen { F.IsFaithful → F.seen folder.new ≡ F.seen folder.old }
-    ensures cause { HasCauseOf (LogError.Folder FolderError.Failed) F.IsFaithful
-        (F.faults folder.old) (F.faults folder.new) result }
+    ensures cause { HasLogCause F.IsFaithful (F.faults folder.old) (F.faults folder.new) result }
 {
     let served = read_served(alloc, folder)?;
     if served.checkpoint().length() < state.checkpoint().length() {
@@ -457,8 +450,7 @@ pub(crate) fn read_served<F: Folder>(
     ensures time { F.IsFaithful → Elapses F.moment F.left_since F.may_leave folder.old folder.new }
     ensures ready { F.IsFaithful → IsStaging (F.seen folder.old) (F.may_leave folder.old)
         → OnOk result (IsStaging (F.seen folder.new) (F.may_leave folder.new)) }
-    ensures cause { HasCauseOf (LogError.Folder FolderError.Failed) F.IsFaithful
-        (F.faults folder.old) (F.faults folder.new) result }
+    ensures cause { HasLogCause F.IsFaithful (F.faults folder.old) (F.faults folder.new) result }
 {
     match read_text(alloc, folder, CHECKPOINT)? {
         Some(text) => Ok(text),
@@ -484,8 +476,7 @@ fn compare<F: Folder>(
         → OnOk result (LeavesOnly F.moment F.left_since folder.old folder.new (F.may_leave folder.old)) }
     ensures ready { F.IsFaithful → IsStaging (F.seen folder.old) (F.may_leave folder.old)
         → OnOk result (IsStaging (F.seen folder.new) (F.may_leave folder.new)) }
-    ensures cause { HasCauseOf (LogError.Folder FolderError.Failed) F.IsFaithful
-        (F.faults folder.old) (F.faults folder.new) result }
+    ensures cause { HasLogCause F.IsFaithful (F.faults folder.old) (F.faults folder.new) result }
 {
     if served.origin() != state.origin() {
         let fault = "has another origin than the log's state";

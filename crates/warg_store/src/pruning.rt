@@ -3,12 +3,12 @@
 ghost use Rattle.std.specs.Prelude.{◌≡◌, ◌≢◌, ◌≤◌, ◌<◌, ◌^◌, ◌↔◌, ℕ, true, List, length, if◌then◌else◌, All, AllPairs, IsSome, IsTrue, IfOk, IfErr, IfSome, OnOk, string_bytes};
 ghost use Rattle.warg_tiles.specs.Between.{IsTileOf};
 ghost use Rattle.warg_folder.specs.Files.{Files, without};
-ghost use Rattle.warg_folder.specs.Moments.{Only, LeavesOnly, HasCause, HasCauseOf};
+ghost use Rattle.warg_folder.specs.Moments.{Only, LeavesOnly, HasCause};
 ghost use Rattle.warg_folder.specs.Names.{is_staged};
 ghost use Rattle.warg_folder.specs.Commits.{IsStaging};
 ghost use Rattle.warg_store.specs.Log.{LogOf, Serves, Keeps, IsOneOf};
 ghost use Rattle.warg_store.specs.Growing.{Has};
-ghost use Rattle.warg_store.specs.Refusals.{IsNoFault};
+ghost use Rattle.warg_store.specs.Refusals.{IsNoFault, HasLogCause};
 ghost use Rattle.warg_store.specs.Pruned.{full_of, HasFull, IsPruned, AreGone};
 ghost use Rattle.warg_store.specs.Private.Steps.{IsPruning};
 
@@ -47,8 +47,7 @@ impl<F: Folder + Drop> LogFolder<F> {
         ensures gone { F.IsFaithful → IfOk result (λ n.
             AreGone n (F.seen self.old.folder) (F.seen self.new.folder)) }
         ensures few { IfOk result (λ n. n < 2 ^ 63) }
-        ensures cause { HasCauseOf (LogError.Folder FolderError.Failed) F.IsFaithful
-            (F.faults self.old.folder) (F.faults self.new.folder) result }
+        ensures cause { HasLogCause F.IsFaithful (F.faults self.old.folder) (F.faults self.new.folder) result }
     {
         let kept = self.checkpoint().length();
         prune_all(self.alloc, &mut self.folder, kept)
@@ -67,8 +66,7 @@ fn prune_all<F: Folder>(alloc: Global, folder: &mut F, kept: usize) -> Result<us
     ensures whole { F.IsFaithful → (log : LogOf) → Serves log (F.seen folder.old) → IfErr result (IsNoFault ⊥) }
     ensures gone { F.IsFaithful → IfOk result (λ n. AreGone n (F.seen folder.old) (F.seen folder.new)) }
     ensures few { IfOk result (λ n. n < 2 ^ 63) }
-    ensures cause { HasCauseOf (LogError.Folder FolderError.Failed) F.IsFaithful
-        (F.faults folder.old) (F.faults folder.new) result }
+    ensures cause { HasLogCause F.IsFaithful (F.faults folder.old) (F.faults folder.new) result }
 {
     let served = read_served(alloc, folder)?.checkpoint().length();
     let names = folder.list(alloc, "tile/")?;

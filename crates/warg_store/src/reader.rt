@@ -4,11 +4,11 @@ ghost use Rattle.std.specs.Prelude.{◌≡◌, ◌⊎◌, ◌+◌, ◌-◌, ◌*
 ghost use Rattle.warg_tiles.specs.CheckpointText.{Said, text_of};
 ghost use Rattle.warg_store.specs.Audited.{HasOlder, IsOfEntries, ShowsLogAndOlder};
 ghost use Rattle.warg_store.specs.Log.{LogOf, HasLog, Serves, IsOneOf};
-ghost use Rattle.warg_folder.specs.Moments.{IsRead, HasCause, HasCauseOf, HasLostCause};
+ghost use Rattle.warg_folder.specs.Moments.{IsRead, HasCause, HasLostCause};
 ghost use Rattle.warg_folder.specs.Names.{checkpoint, page_name};
 ghost use Rattle.warg_store.specs.Opening.{IsAtRest};
 ghost use Rattle.warg_store.specs.Reading.{Reads, checkpoint_said, bundle_in, inclusion_in, consistency_in, IsShown, IncludesBy, GrowsBy};
-ghost use Rattle.warg_store.specs.Refusals.{IsNoFault};
+ghost use Rattle.warg_store.specs.Refusals.{IsNoFault, HasLogCause};
 
 use crate::auditing::{Progress, audited};
 use crate::edge::{open_edge, read_edge};
@@ -138,8 +138,7 @@ impl<F: Folder + Drop> LogReader<F> {
         ensures text { IfOk result (λ text. text.items ≡ text_of self.old.text) }
         ensures whole { F.IsFaithful → (log : LogOf) → Reads F.seen log self.old → IfErr result (IsNoFault ⊥) }
         ensures reads { F.IsFaithful → (log : LogOf) → Reads F.seen log self.old → Reads F.seen log self.new }
-        ensures cause { HasCauseOf (LogError.Folder FolderError.Failed) F.IsFaithful
-            (F.faults self.old.folder) (F.faults self.new.folder) result }
+        ensures cause { HasLogCause F.IsFaithful (F.faults self.old.folder) (F.faults self.new.folder) result }
     {
         let checkpoint = self.text.checkpoint();
         let edge = read_edge(self.alloc, &mut self.folder, checkpoint.length())?;
@@ -155,8 +154,7 @@ impl<F: Folder + Drop> LogReader<F> {
         ensures whole { F.IsFaithful → (log : LogOf) → Reads F.seen log self.old
             → IfErr result (IsNoFault (length log.entries ≤ index)) }
         ensures reads { F.IsFaithful → (log : LogOf) → Reads F.seen log self.old → Reads F.seen log self.new }
-        ensures cause { HasCauseOf (LogError.Folder FolderError.Failed) F.IsFaithful
-            (F.faults self.old.folder) (F.faults self.new.folder) result }
+        ensures cause { HasLogCause F.IsFaithful (F.faults self.old.folder) (F.faults self.new.folder) result }
     {
         let checkpoint = self.text.checkpoint();
         entry(self.alloc, &mut self.folder, index, &checkpoint)
@@ -175,8 +173,7 @@ impl<F: Folder + Drop> LogReader<F> {
         ensures same { self.new ≡ record self.old { folder = self.new.folder } }
         ensures read { F.IsFaithful
             → IsRead F.seen F.may_leave F.moment F.left_since self.old.folder self.new.folder }
-        ensures cause { HasCauseOf (LogError.Folder FolderError.Failed) F.IsFaithful
-            (F.faults self.old.folder) (F.faults self.new.folder) result }
+        ensures cause { HasLogCause F.IsFaithful (F.faults self.old.folder) (F.faults self.new.folder) result }
     {
         let length = self.text.checkpoint().length();
         let bundles = length.div_ceil(256);
@@ -198,8 +195,7 @@ impl<F: Folder + Drop> LogReader<F> {
         ensures same { self.new ≡ record self.old { folder = self.new.folder } }
         ensures read { F.IsFaithful
             → IsRead F.seen F.may_leave F.moment F.left_since self.old.folder self.new.folder }
-        ensures cause { HasCauseOf (LogError.Folder FolderError.Failed) F.IsFaithful
-            (F.faults self.old.folder) (F.faults self.new.folder) result }
+        ensures cause { HasLogCause F.IsFaithful (F.faults self.old.folder) (F.faults self.new.folder) result }
     {
         let length = self.text.checkpoint().length();
         if index >= length {
@@ -216,8 +212,7 @@ impl<F: Folder + Drop> LogReader<F> {
         ensures whole { F.IsFaithful → (log : LogOf) → Reads F.seen log self.old
             → IfErr result (IsNoFault ((self.old.text.length < length) ⊎ (length ≤ index))) }
         ensures reads { F.IsFaithful → (log : LogOf) → Reads F.seen log self.old → Reads F.seen log self.new }
-        ensures cause { HasCauseOf (LogError.Folder FolderError.Failed) F.IsFaithful
-            (F.faults self.old.folder) (F.faults self.new.folder) result }
+        ensures cause { HasLogCause F.IsFaithful (F.faults self.old.folder) (F.faults self.new.folder) result }
     {
         let checkpoint = self.text.checkpoint();
         inclusion(self.alloc, &mut self.folder, index, length, &checkpoint)
@@ -231,8 +226,7 @@ impl<F: Folder + Drop> LogReader<F> {
         ensures whole { F.IsFaithful → (log : LogOf) → Reads F.seen log self.old
             → IfErr result (IsNoFault ((self.old.text.length < new) ⊎ (old ≡ 0) ⊎ (new < old))) }
         ensures reads { F.IsFaithful → (log : LogOf) → Reads F.seen log self.old → Reads F.seen log self.new }
-        ensures cause { HasCauseOf (LogError.Folder FolderError.Failed) F.IsFaithful
-            (F.faults self.old.folder) (F.faults self.new.folder) result }
+        ensures cause { HasLogCause F.IsFaithful (F.faults self.old.folder) (F.faults self.new.folder) result }
     {
         let checkpoint = self.text.checkpoint();
         growth(self.alloc, &mut self.folder, old, new, &checkpoint)
@@ -248,8 +242,7 @@ impl<F: Folder + Drop> LogReader<F> {
         ensures same { self.new ≡ record self.old { folder = self.new.folder } }
         ensures read { F.IsFaithful
             → IsRead F.seen F.may_leave F.moment F.left_since self.old.folder self.new.folder }
-        ensures cause { HasCauseOf (LogError.Folder FolderError.Failed) F.IsFaithful
-            (F.faults self.old.folder) (F.faults self.new.folder) result }
+        ensures cause { HasLogCause F.IsFaithful (F.faults self.old.folder) (F.faults self.new.folder) result }
     {
         let checkpoint = self.text.checkpoint();
         audited(self.alloc, &mut self.folder, &checkpoint, progress)

@@ -14,11 +14,11 @@ ghost use Rattle.warg_tiles.specs.TilePaths.{entries_path};
 ghost use Rattle.warg_store.specs.Audited.{HasOlder, IsOfEntries, ShowsLogAndOlder};
 ghost use Rattle.warg_store.specs.Growing.{Has};
 ghost use Rattle.warg_store.specs.Log.{LogOf, AreShort, HasFiles};
-ghost use Rattle.warg_folder.specs.Moments.{Within, IsRead, HasCauseOf};
+ghost use Rattle.warg_folder.specs.Moments.{Within, IsRead};
 ghost use Rattle.warg_store.specs.Private.Fetched.{AreOwn};
 ghost use Rattle.warg_store.specs.Reading.{checkpoint_said, AreOfLog, bundle_in, inclusion_in, consistency_in, LeadsTo, IsShown, IncludesBy, GrowsBy};
 ghost use Rattle.warg_store.specs.Rebuilt.{HasBundlesOf};
-ghost use Rattle.warg_store.specs.Refusals.{IsNoFault, IsNoFailure};
+ghost use Rattle.warg_store.specs.Refusals.{IsNoFault, IsNoFailure, HasLogCause};
 
 use crate::auditing::{Progress, audited};
 use crate::edge::{damaged_bundle, entries_of, read_bundle};
@@ -50,8 +50,7 @@ impl<F: Folder + Drop> LogFolder<F> {
             → IfErr result (IsNoFault (length old.entries ≤ index)) }
         ensures has { F.IsFaithful → (served old next : LogOf) → Has F.seen F.may_leave served old next self.old
             → Has F.seen F.may_leave served old next self.new }
-        ensures cause { HasCauseOf (LogError.Folder FolderError.Failed) F.IsFaithful
-            (F.faults self.old.folder) (F.faults self.new.folder) result }
+        ensures cause { HasLogCause F.IsFaithful (F.faults self.old.folder) (F.faults self.new.folder) result }
     {
         let checkpoint = self.checkpoint();
         entry(self.alloc, &mut self.folder, index, &checkpoint)
@@ -69,8 +68,7 @@ impl<F: Folder + Drop> LogFolder<F> {
             → IfErr result (IsNoFault ((self.old.text.length < length) ⊎ (length ≤ index))) }
         ensures has { F.IsFaithful → (served old next : LogOf) → Has F.seen F.may_leave served old next self.old
             → Has F.seen F.may_leave served old next self.new }
-        ensures cause { HasCauseOf (LogError.Folder FolderError.Failed) F.IsFaithful
-            (F.faults self.old.folder) (F.faults self.new.folder) result }
+        ensures cause { HasLogCause F.IsFaithful (F.faults self.old.folder) (F.faults self.new.folder) result }
     {
         let checkpoint = self.checkpoint();
         inclusion(self.alloc, &mut self.folder, index, length, &checkpoint)
@@ -89,8 +87,7 @@ impl<F: Folder + Drop> LogFolder<F> {
             → IfErr result (IsNoFault ((self.old.text.length < new) ⊎ (old ≡ 0) ⊎ (new < old))) }
         ensures has { F.IsFaithful → (served old next : LogOf) → Has F.seen F.may_leave served old next self.old
             → Has F.seen F.may_leave served old next self.new }
-        ensures cause { HasCauseOf (LogError.Folder FolderError.Failed) F.IsFaithful
-            (F.faults self.old.folder) (F.faults self.new.folder) result }
+        ensures cause { HasLogCause F.IsFaithful (F.faults self.old.folder) (F.faults self.new.folder) result }
     {
         let checkpoint = self.checkpoint();
         growth(self.alloc, &mut self.folder, old, new, &checkpoint)
@@ -109,8 +106,7 @@ impl<F: Folder + Drop> LogFolder<F> {
         ensures same { self.new ≡ record self.old { folder = self.new.folder } }
         ensures read { F.IsFaithful
             → IsRead F.seen F.may_leave F.moment F.left_since self.old.folder self.new.folder }
-        ensures cause { HasCauseOf (LogError.Folder FolderError.Failed) F.IsFaithful
-            (F.faults self.old.folder) (F.faults self.new.folder) result }
+        ensures cause { HasLogCause F.IsFaithful (F.faults self.old.folder) (F.faults self.new.folder) result }
     {
         let checkpoint = self.checkpoint();
         audited(self.alloc, &mut self.folder, &checkpoint, progress)
@@ -132,8 +128,7 @@ pub(crate) fn entry<F: Folder>(
         → IfErr result (IsNoFault (checkpoint.now.length ≤ index)) }
     ensures seen { F.IsFaithful → F.seen folder.new ≡ F.seen folder.old }
     ensures crash { F.IsFaithful → Within (F.may_leave folder.old) (F.may_leave folder.new) }
-    ensures cause { HasCauseOf (LogError.Folder FolderError.Failed) F.IsFaithful
-        (F.faults folder.old) (F.faults folder.new) result }
+    ensures cause { HasLogCause F.IsFaithful (F.faults folder.old) (F.faults folder.new) result }
 {
     let length = checkpoint.length();
     let path = inclusion(alloc, folder, index, length, checkpoint)?;
@@ -162,8 +157,7 @@ pub(crate) fn read_entry<F: Folder>(
     ensures whole { F.IsFaithful → (log : LogOf) → HasFiles log (F.seen folder.old)
         → AreShort log.entries → length log.entries ≡ log_length → IfErr result (IsNoFault ⊥) }
     ensures read { F.IsFaithful → IsRead F.seen F.may_leave F.moment F.left_since folder.old folder.new }
-    ensures cause { HasCauseOf (LogError.Folder FolderError.Failed) F.IsFaithful
-        (F.faults folder.old) (F.faults folder.new) result }
+    ensures cause { HasLogCause F.IsFaithful (F.faults folder.old) (F.faults folder.new) result }
 {
     let number = index / 256;
     let tile = Tile::new(0, number, (log_length - 256 * number).min(256));
@@ -193,8 +187,7 @@ pub(crate) fn read_entries<F: Folder>(
     ensures whole { F.IsFaithful → (log : LogOf) → HasBundlesOf log (F.seen folder.old)
         → AreShort log.entries → length log.entries ≡ log_length → IfErr result (IsNoFault ⊥) }
     ensures read { F.IsFaithful → IsRead F.seen F.may_leave F.moment F.left_since folder.old folder.new }
-    ensures cause { HasCauseOf (LogError.Folder FolderError.Failed) F.IsFaithful
-        (F.faults folder.old) (F.faults folder.new) result }
+    ensures cause { HasLogCause F.IsFaithful (F.faults folder.old) (F.faults folder.new) result }
 {
     let tile = Tile::new(0, bundle, (log_length - 256 * bundle).min(256));
     let bytes = read_bundle(alloc, folder, &tile)?;
@@ -240,8 +233,7 @@ pub(crate) fn inclusion<F: Folder>(
         → IfErr result (IsNoFault ((checkpoint.now.length < log_length) ⊎ (log_length ≤ index))) }
     ensures seen { F.IsFaithful → F.seen folder.new ≡ F.seen folder.old }
     ensures crash { F.IsFaithful → Within (F.may_leave folder.old) (F.may_leave folder.new) }
-    ensures cause { HasCauseOf (LogError.Folder FolderError.Failed) F.IsFaithful
-        (F.faults folder.old) (F.faults folder.new) result }
+    ensures cause { HasLogCause F.IsFaithful (F.faults folder.old) (F.faults folder.new) result }
 {
     let length = checkpoint.length();
     if log_length > length || log_length > GREATEST_LENGTH {
@@ -280,8 +272,7 @@ fn fetch_inclusion<F: Folder>(
         → length log.entries ≡ kept → log_length ≤ kept → IfErr result (IsNoFault ⊥) }
     ensures seen { F.IsFaithful → F.seen folder.new ≡ F.seen folder.old }
     ensures crash { F.IsFaithful → Within (F.may_leave folder.old) (F.may_leave folder.new) }
-    ensures cause { HasCauseOf (LogError.Folder FolderError.Failed) F.IsFaithful
-        (F.faults folder.old) (F.faults folder.new) result }
+    ensures cause { HasLogCause F.IsFaithful (F.faults folder.old) (F.faults folder.new) result }
 {
     let named = tiles_for_inclusion(alloc, index, log_length)?;
     fetch(alloc, folder, tiles, named.as_slice(), kept)?;
@@ -304,8 +295,7 @@ pub(crate) fn growth<F: Folder>(
         → IfErr result (IsNoFault ((checkpoint.now.length < new) ⊎ (old ≡ 0) ⊎ (new < old))) }
     ensures seen { F.IsFaithful → F.seen folder.new ≡ F.seen folder.old }
     ensures crash { F.IsFaithful → Within (F.may_leave folder.old) (F.may_leave folder.new) }
-    ensures cause { HasCauseOf (LogError.Folder FolderError.Failed) F.IsFaithful
-        (F.faults folder.old) (F.faults folder.new) result }
+    ensures cause { HasLogCause F.IsFaithful (F.faults folder.old) (F.faults folder.new) result }
 {
     if new > checkpoint.length() || new > GREATEST_LENGTH {
         return Err(LogError::OutOfRange {
@@ -345,8 +335,7 @@ fn fetched_growth<F: Folder>(
         → IfErr result (IsNoFault ⊥) }
     ensures seen { F.IsFaithful → F.seen folder.new ≡ F.seen folder.old }
     ensures crash { F.IsFaithful → Within (F.may_leave folder.old) (F.may_leave folder.new) }
-    ensures cause { HasCauseOf (LogError.Folder FolderError.Failed) F.IsFaithful
-        (F.faults folder.old) (F.faults folder.new) result }
+    ensures cause { HasLogCause F.IsFaithful (F.faults folder.old) (F.faults folder.new) result }
 {
     let named = tiles_for_consistency(alloc, old, new)?;
     fetch(alloc, folder, tiles, named.as_slice(), log_length)?;
@@ -401,8 +390,7 @@ fn check_root<F: Folder>(
         → IfErr result (IsNoFault ⊥) }
     ensures seen { F.IsFaithful → F.seen folder.new ≡ F.seen folder.old }
     ensures crash { F.IsFaithful → Within (F.may_leave folder.old) (F.may_leave folder.new) }
-    ensures cause { HasCauseOf (LogError.Folder FolderError.Failed) F.IsFaithful
-        (F.faults folder.old) (F.faults folder.new) result }
+    ensures cause { HasLogCause F.IsFaithful (F.faults folder.old) (F.faults folder.new) result }
 {
     let Some(root) = root else {
         return Err(LogError::no_root(alloc));
@@ -436,8 +424,7 @@ fn is_beginning<F: Folder>(
         → 0 < old.now.length → IfErr result (IsNoFault ⊥) }
     ensures seen { F.IsFaithful → F.seen folder.new ≡ F.seen folder.old }
     ensures crash { F.IsFaithful → Within (F.may_leave folder.old) (F.may_leave folder.new) }
-    ensures cause { HasCauseOf (LogError.Folder FolderError.Failed) F.IsFaithful
-        (F.faults folder.old) (F.faults folder.new) result }
+    ensures cause { HasLogCause F.IsFaithful (F.faults folder.old) (F.faults folder.new) result }
 {
     let (old_length, length) = (old.length(), checkpoint.length());
     if old_length >= length || length > GREATEST_LENGTH {

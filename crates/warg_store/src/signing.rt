@@ -7,7 +7,7 @@ ghost use Rattle.warg_folder.specs.Moments.{IsRead, LeavesOnly, HasCauseOf};
 ghost use Rattle.warg_folder.specs.Names.{checkpoint};
 ghost use Rattle.warg_store.specs.Log.{LogOf, Serves, IsOneOf, IsNoteOf, said_of};
 ghost use Rattle.warg_store.specs.Growing.{IsReady, Has};
-ghost use Rattle.warg_store.specs.Refusals.{IsNoFault};
+ghost use Rattle.warg_store.specs.Refusals.{IsNoFault, HasLogCause};
 
 use crate::error::LogError;
 use crate::log_folder::LogFolder;
@@ -96,8 +96,7 @@ impl<F: Folder + Drop> LogFolder<F> {
         ensures same { self.new ≡ record self.old { folder = self.new.folder } }
         ensures read { F.IsFaithful
             → IsRead F.seen F.may_leave F.moment F.left_since self.old.folder self.new.folder }
-        ensures cause { HasCauseOf (LogError.Folder FolderError.Failed) F.IsFaithful
-            (F.faults self.old.folder) (F.faults self.new.folder) result }
+        ensures cause { HasLogCause F.IsFaithful (F.faults self.old.folder) (F.faults self.new.folder) result }
     {
         read_served(self.alloc, &mut self.folder)
     }

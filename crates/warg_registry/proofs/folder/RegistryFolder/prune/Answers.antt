@@ -1,11 +1,15 @@
-use Rattle.std.proofs.Common.{◌≡◌, true, None, List, sym, subst, string_bytes}
+use Rattle.std.proofs.Common.{◌≡◌, true, None, IsSome, List, length, sym, subst, string_bytes, arith}
 use Rattle.std.specs.List.{All}
 use Rattle.std.specs.declared.alloc.Global.{Global}
 use Rattle.std.specs.declared.string.String.{String}
 use Rattle.warg_folder.specs.Names.{is_page}
-use Rattle.warg_store.specs.Pruned.{ArePagesNotOf, IsWithoutPages}
-use Rattle.warg_registry.specs.Folder.{registry_of}
-use Rattle.warg_registry.specs.Pruning.{bytes_of}
+use Rattle.warg_folder.specs.Files.{Files}
+use Rattle.warg_store.specs.Pruned.{AreGone, ArePagesNotOf, IsWithoutPages}
+use Rattle.warg_store.proofs.ForCallers.{gone_then}
+use Rattle.warg_registry.specs.Folder.{registry_of, RegistryIn}
+use Rattle.warg_registry.specs.Pruning.{bytes_of, AreApart}
+use Rattle.warg_registry.proofs.LeftPages.{page_stays}
+use Rattle.warg_registry.proofs.Sources.{log_is_read}
 use Rattle.warg_registry.proofs.Refused.{told_as}
 use Rattle.warg_registry.proofs.WhilePruned.{looked_at, of_registry}
 use Rattle.warg_registry.proofs.folder.RegistryFolder.prune.Goals as goal
@@ -57,6 +61,37 @@ returns-clause-any_moment g c = λ faithful origin served kept has.
     run.removing c.prune.new.self c.remove_pages.new.self
     (c.prune.ensures.any_moment faithful S K K run.at)
     (c.remove_pages.ensures.any_moment faithful S K K (c.in_ok-pruned.ensures.pruned faithful S K K run.at) these)
+
+pub returns-clause-gone : goal.returns-clause-gone
+returns-clause-gone g c = λ faithful origin served kept has.
+    let dev = g.F.Folder in
+    let run = looked_at dev origin served kept c.self.view_is has
+    (g.met.F.Folder.only_now c.args.self.now.log.folder) (c.spare.ensures.read faithful) in
+    let S = registry_of origin served in
+    let K = registry_of origin kept in
+    let first = dev.seen c.self.inside.pages.log.folder in
+    let pruned = dev.seen c.prune.new.self.folder in
+    let last = dev.seen c.remove_pages.new.self.folder in
+    let here = c.spare.ensures.read faithful c.self.inside.pages.log (log_is_read dev c.self.inside.pages.log) in
+    let stay = c.in_ok-pruned.ensures.only faithful S K K run.at in
+    let there : All (λ name. IsSome (pruned (string_bytes name)) × (is_page (string_bytes name) ≡ true))
+    c.as_slice.result.now = subst (λ l. All (λ name. IsSome (pruned (string_bytes name))
+    × (is_page (string_bytes name) ≡ true)) l) (sym c.as_slice.ensures.value)
+    (λ k d inside. let is = c.in_ok-spare.ensures.there faithful k d inside in
+    (page_stays _ pruned _ _ stay _ is.1 is.0, is.1)) in
+    let apart = subst AreApart (sym c.as_slice.ensures.value) (c.in_ok-spare.ensures.apart faithful) in
+    let both = gone_then c.in_ok-pruned.pruned (length c.as_slice.result.now) first pruned last
+    (subst (λ (f : Files). AreGone c.in_ok-pruned.pruned f pruned) here.read.found
+    (c.in_ok-pruned.ensures.gone faithful)) (c.in_ok-remove_pages.ensures.gone faithful apart there) in
+    subst (λ (r : RegistryIn g.row.F.Denot). AreGone c.saturating_add.result (dev.seen r.log.folder) last)
+    c.self.view_is (subst (λ n. AreGone n first last) (omega (
+      arith,
+      c.saturating_add.ensures,
+      c.len.ensures,
+      c.in_ok-pruned.ensures.few,
+      c.as_slice.ensures.len,
+      c.as_slice.type_inv.0,
+    )) both)
 
 pub returns-clause-all : goal.returns-clause-all
 returns-clause-all g c = λ faithful origin served kept has.

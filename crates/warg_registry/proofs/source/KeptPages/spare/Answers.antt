@@ -1,4 +1,6 @@
-use Rattle.std.proofs.Common.{⊎_elim, inl, inr}
+use Rattle.std.proofs.Common.{◌≡◌, true, IsSome, ⊎_elim, inl, inr}
+use Rattle.warg_folder.specs.Names.{is_page}
+use Rattle.warg_registry.proofs.SomeNames.{some_each}
 use Rattle.warg_registry.specs.Pruning.{bytes_of}
 use Rattle.warg_registry.proofs.Pruned.{none_of}
 use Rattle.warg_registry.proofs.Refused.{told_as}
@@ -11,6 +13,14 @@ returns-clause-spare g c = λ faithful known origin served kept read serves own.
       none_of names _ served c.in_ok-others.ensures.none needed.all_served,
       none_of names _ kept c.in_ok-others.ensures.none needed.all_kept,
     )
+
+pub returns-clause-apart : goal.returns-clause-apart
+returns-clause-apart g c = λ faithful. c.in_ok-others.ensures.some.apart (c.in_ok-names.ensures.apart faithful)
+
+pub returns-clause-there : goal.returns-clause-there
+returns-clause-there g c = λ faithful.
+    some_each (λ n. IsSome (g.F.Folder.seen c.names.new.self.log.folder n) × (is_page n ≡ true)) _ _
+    c.in_ok-others.ensures.some (c.in_ok-names.ensures.there faithful)
 
 pub returns-clause-all : goal.returns-clause-all
 returns-clause-all g c = λ faithful known origin served kept read serves own n page there.
