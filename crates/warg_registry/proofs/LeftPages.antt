@@ -7,7 +7,7 @@ use Rattle.std.specs.declared.string.String.{String}
 use Rattle.warg_folder.specs.Files.{Files}
 use Rattle.warg_folder.specs.Names.{is_tile, is_page}
 use Rattle.warg_tiles.specs.TilePaths.{tile_path}
-use Rattle.warg_store.specs.Pruned.{full_of, IsPruned, IsWithoutPages}
+use Rattle.warg_store.specs.Pruned.{full_of, IsSpare, IsPruned, IsWithoutPages}
 use Rattle.warg_registry.specs.Pruning.{bytes_of}
 use Rattle.warg_registry.proofs.Listed.{of_mapped}
 
@@ -37,6 +37,11 @@ page_stays old new kept served prunes n page there = ⊎_elim
   where
     other : false ≡ is_page n → ⊥
     other e = let no : false ≡ true = e ∙ page in cc
+
+-- what is spare is so in files that are the same
+pub spare_in : (k m a b : ℕ) (s t : Files) (n : List ℕ) → k ≡ m → a ≡ b → t ≡ s → IsSpare k a s n → IsSpare m b t n
+spare_in k m a b s t n kept served same spare = subst (λ (f : Files). IsSpare m b f n) (sym same)
+    (subst (λ i. IsSpare m i s n) served (subst (λ i. IsSpare i a s n) kept spare))
 
 -- of a folder in which files are pruned and pages are removed, each page that is left was there, and wasn't to go
 pub left : (before mid pruned new : Files) (names : List (String Global)) (kept served : ℕ) (P : List ℕ → Type 0)

@@ -1,6 +1,6 @@
 //! A registry in a folder, as whoever adds to it holds it.
 
-ghost use Rattle.std.specs.Prelude.{◌≡◌, ◌≢◌, ◌⊎◌, ◌+◌, ◌++◌, ◌^◌, ◌<◌, ◌≤◌, ℕ, List, [], ◌∷◌, length, map, true, false, Err, IfOk, IfErr, OnOk, OnErr, IsSome};
+ghost use Rattle.std.specs.Prelude.{◌≡◌, ◌≢◌, ◌⊎◌, ◌+◌, ◌++◌, ◌^◌, ◌<◌, ◌≤◌, ℕ, List, [], ◌∷◌, length, map, true, false, Err, IfOk, IfErr, OnOk, OnErr, IsSome, None};
 ghost use Rattle.std.specs.List.{AllByRecursion};
 ghost use Rattle.warg_crypto.specs.Digests.{sha256, IsDigest};
 ghost use Rattle.warg_map.specs.Sparse.{map_of, sparse_root, pair_bytes};
@@ -14,7 +14,7 @@ ghost use Rattle.warg_folder.specs.Names.{is_page};
 ghost use Rattle.warg_folder.specs.Commits.{IsBeside, opened};
 ghost use Rattle.warg_store.specs.Opening.{IsOpening, HasNoLogFile, HasLogFile};
 ghost use Rattle.warg_store.specs.Refusals.{IsNoFault as IsNoLogFault, HasLogCause};
-ghost use Rattle.warg_store.specs.Pruned.{AreGone};
+ghost use Rattle.warg_store.specs.Pruned.{AreGone, IsSpare};
 ghost use Rattle.warg_registry.specs.Insertions.{entries_of, entry_of};
 ghost use Rattle.warg_registry.specs.Publishing.{IsRefusedFor, of_push};
 ghost use Rattle.warg_registry.specs.Pruning.{IsPageOf};
@@ -217,6 +217,10 @@ impl<F: Folder + Drop> RegistryFolder<F> {
         ensures all { F.IsFaithful → OnOk result ((origin : List ℕ) (served kept : List (List ℕ × List ℕ))
             → HasRegistry F.seen F.may_leave origin served kept self.old → (n : List ℕ) → is_page n ≡ true
             → IsSome (F.seen self.new.log.folder n) → IsPageOf served n ⊎ IsPageOf kept n) }
+        ensures spare { F.IsFaithful → OnOk result ((origin : List ℕ) (served kept : List (List ℕ × List ℕ))
+            → HasRegistry F.seen F.may_leave origin served kept self.old → (n : List ℕ)
+            → IsSpare (length kept) (length served) (F.seen self.old.log.folder) n
+            → F.seen self.new.log.folder n ≡ None) }
         ensures gone { F.IsFaithful → IfOk result (λ n. (origin : List ℕ) (served kept : List (List ℕ × List ℕ))
             → HasRegistry F.seen F.may_leave origin served kept self.old
             → AreGone n (F.seen self.old.log.folder) (F.seen self.new.log.folder)) }

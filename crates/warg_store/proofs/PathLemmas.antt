@@ -218,9 +218,15 @@ pub no_page_a_bundle : (t : TileAt) (path : List ℕ) → entries_path t ≡ pag
 no_page_a_bundle t path e = apart (sym (ap is_page e))
 
 -- no tile has a bundle's path
-pub no_tile_a_bundle : (t u : TileAt) → t.level < 8 → tile_path t ≡ entries_path u → ⊥
-no_tile_a_bundle t u tl e =
+tile_no_bundle : (t u : TileAt) → t.level ≤ 63 → tile_path t ≡ entries_path u → ⊥
+tile_no_bundle t u tl e =
     begins_otherwise (decimal t.level) (place_path t.number t.width) _
     (decimal_without t.level 101 (omega arith) (λ a b. omega arith))
     (append_cancel_left (codes "tile/") (decimal t.level ++ (47 ∷ place_path t.number t.width))
     (codes "entries/" ++ place_path u.number u.width) e)
+
+pub no_tile_a_bundle : (t u : TileAt) → t.level < 8 → tile_path t ≡ entries_path u → ⊥
+no_tile_a_bundle t u tl e = tile_no_bundle t u (omega (arith, tl)) e
+
+pub other_kind : (t u : TileAt) → IsTile t → tile_path t ≡ entries_path u → ⊥
+other_kind t u is e = tile_no_bundle t u is.level e

@@ -1,7 +1,11 @@
 -- A folder whose spare files go.
-use Rattle.std.proofs.Common.{◌≡◌, ◌⊎◌, inl, inr, ⊎_elim, ℕ, ◌<◌, ◌≤◌, List, length, take, true, false, Option, Some, None, IsSome, refl, sym, ap, subst, ◌∙◌, arith}
+use Rattle.std.proofs.Common.{◌≡◌, ◌⊎◌, inl, inr, ⊎_elim, ℕ, ◌<◌, ◌≤◌, List, [], ◌∷◌, length, map, get_or, take, codes, nat_eq, string_bytes, true, false, Option, Some, None, IsSome, refl, sym, ap, subst, ◌∙◌, arith}
 use Rattle.std.specs.Prelude.{option_map}
-use Rattle.warg_tiles.specs.Tiles.{TileAt}
+use Rattle.std.specs.List.{All, Contains, starts_with}
+use Rattle.std.specs.declared.string.String.{String}
+use Rattle.std.specs.declared.alloc.Global.{Global}
+use Rattle.std.proofs.lemmas.List.{get_or-map, length-map}
+use Rattle.warg_tiles.specs.Tiles.{TileAt, IsTile}
 use Rattle.warg_tiles.specs.TilePaths.{tile_path, entries_path}
 use Rattle.warg_tiles.specs.Between.{IsTileOf}
 use Rattle.warg_folder.specs.Files.{Files, without, Either}
@@ -13,7 +17,7 @@ use Rattle.warg_store.specs.Growing.{LogIn, Has}
 use Rattle.warg_store.specs.Pruned.{HasFull, full_of, IsSpare, IsPruned}
 use Rattle.warg_store.specs.Private.Steps.{IsPruning}
 use Rattle.warg_folder.proofs.ForCallers.{one_name, apart, served_not_staged, without_here, without_apart, either}
-use Rattle.warg_store.proofs.PathLemmas.{tile_path_once, entries_path_once, no_tile_a_bundle, no_page_a_tile, no_page_a_bundle}
+use Rattle.warg_store.proofs.PathLemmas.{tile_path_once, one_tile, entries_path_once, no_tile_a_bundle, other_kind, no_page_a_tile, no_page_a_bundle}
 use Rattle.warg_store.proofs.ServeLemmas.{opened_idle}
 use Rattle.warg_store.proofs.LeadLemmas.{width_at_most, file_served, same_served, same_kept, pages_stay}
 use Rattle.warg_tiles.proofs.ForCallers.{low_level}
@@ -25,7 +29,78 @@ pub path_served : (n full : List ℕ) (t : TileAt) → HasFull n t full → (is_
 path_served n full t (inl is) = (ap is_served (sym is.0), ap is_served (sym is.1))
 path_served n full t (inr is) = (ap is_served (sym is.1), ap is_served (sym is.2))
 
+-- a file is there, or not
+none_or_some : (o : Option (List ℕ)) → (o ≡ None) ⊎ IsSome o
+none_or_some None = inl refl
+none_or_some (Some bytes) = inr refl
+
+-- an element of a list that has one
+get_or_any : (names : List (String Global)) (i : ℕ) → i < length names → String Global
+get_or_any [] i below = absurd (omega arith)
+get_or_any (x ∷ xs) i below = x
+
+-- two tiles of one name are one, with one full file in their place
+pub one_full : (n : List ℕ) (t u : TileAt) (f g : List ℕ) → IsTile t → IsTile u → HasFull n t f → HasFull n u g
+    → (t ≡ u) × (f ≡ g)
+one_full n t u f g it iu (inl a) (inl b) =
+    let same = one_tile t u it iu (a.0 ∙ sym b.0) in
+    (same, sym a.1 ∙ ap (λ (x : TileAt). tile_path (full_of x)) same ∙ b.1)
+one_full n t u f g it iu (inl a) (inr b) = absurd (other_kind t u it (a.0 ∙ sym b.1))
+one_full n t u f g it iu (inr a) (inl b) = absurd (other_kind u t iu (b.0 ∙ sym a.1))
+one_full n t u f g it iu (inr a) (inr b) =
+    let same = entries_path_once t u a.0 b.0 it.most iu.most (a.1 ∙ sym b.1) in
+    (same, sym a.2 ∙ ap (λ (x : TileAt). entries_path (full_of x)) same ∙ b.2)
+
 module _ (kept served : ℕ) (s : Files) where
+  -- the full file in the place of a partial one isn't spare
+  pub full_stays : (n full : List ℕ) (t : TileAt) → IsTile t → HasFull n t full → IsSpare kept served s full → ⊥
+  full_stays n full t it paths spare =
+      let is : IsTile (full_of t) = record {
+        level = it.level;
+        number = it.number;
+        some = omega arith;
+        most = omega arith;
+      } in
+      let of_full : HasFull full (full_of t) full = ⊎_elim (λ a. inl (a.1, a.1)) (λ b. inr (b.0, b.2, b.2)) paths in
+      let same = (one_full full (full_of t) spare.tile full spare.full is spare.is of_full spare.paths).0 in
+      omega (arith, ap (λ (x : TileAt). x.width) same, spare.partial)
+
+  -- what is spare at first is so while others go
+  pub spare_still : (now : Files) (n : List ℕ) → IsPruning kept served s now → IsSpare kept served s n
+      → IsSpare kept served now n
+  spare_still now n was spare = record {
+    tile = spare.tile;
+    full = spare.full;
+    is = spare.is;
+    paths = spare.paths;
+    partial = spare.partial;
+    exists = spare.exists;
+    unserved = spare.unserved;
+    there = ⊎_elim (λ same. subst IsSome (sym same) spare.there)
+        (λ gone. absurd (full_stays n spare.full spare.tile spare.is spare.paths gone.1))
+        (was.outside spare.full (served_not_staged spare.full (path_served n spare.full spare.tile spare.paths).1));
+  }
+
+  -- a spare file goes where each name that has a file was looked at
+  pub spare_gone : (now : Files) (n : List ℕ) (names : List (String Global)) → IsPruning kept served s now
+      → IsSpare kept served s n
+      → (IsSome (s n) → Contains (map (λ name. string_bytes name) names) n)
+      → All (λ name. IsSpare kept served s (string_bytes name) → now (string_bytes name) ≡ None) names → now n ≡ None
+  spare_gone now n names was spare listed each = ⊎_elim
+      (λ same. elim (none_or_some (s n)) [
+        | inl none ↦ same ∙ none
+        | inr some ↦
+            let at = listed some in
+            let low : at.0 < length names = omega (arith, at.1, length-map names (λ (x : String Global). string_bytes x)) in
+            let d = get_or_any names at.0 low in
+            let is : string_bytes (get_or names at.0 d) ≡ n = sym (get_or-map (λ (x : String Global). string_bytes x) names
+            at.0 d n low) ∙ at.2 in
+            subst (λ (m : List ℕ). now m ≡ None) is
+            (each at.0 d low (subst (IsSpare kept served s) (sym is) spare))
+      ])
+      (λ gone. gone.0)
+      (was.outside n (served_not_staged n (path_served n spare.full spare.tile spare.paths).0))
+
   -- before any file goes
   pub begun : (c : Files) → IsBeside s c → IsPruning kept served s c
   begun c beside = record { outside = λ n isnt. inl (beside.outside n isnt); no_mark = beside.no_mark }
@@ -57,14 +132,15 @@ module _ (kept served : ℕ) (s : Files) where
   ]
 
   -- a spare file that was removed, or wasn't yet
-  pub gone_one : (now from c : Files) (name full : List ℕ) (tile : TileAt) → HasFull name tile full → (tile.width < 256)
+  pub gone_one : (now from c : Files) (name full : List ℕ) (tile : TileAt) → IsTile tile → HasFull name tile full → (tile.width < 256)
       × IsTileOf kept (full_of tile) × (IsTileOf served tile → ⊥) → IsSome (now full)
       → IsPruning kept served s now → IsPruning kept served s from → Either (without name) from c
       → IsPruning kept served s c
-  gone_one now from c name full tile paths spare there seen before removed =
+  gone_one now from c name full tile tile_is paths spare there seen before removed =
       let is : IsSpare kept served s name = record {
         tile = tile;
         full = full;
+        is = tile_is;
         paths = paths;
         partial = spare.0;
         exists = spare.1;
@@ -221,3 +297,9 @@ prune_has seen may_leave served old next l folder has was same only =
 pub some_read : (o : Option (List ℕ)) (bytes : List ℕ) (n : ℕ) → Some bytes ≡ option_map (take n) o → IsSome o
 some_read None bytes n e = cc
 some_read (Some b) bytes n e = refl
+
+-- a spare name begins as a tile's
+pub spare_name : {kept served : ℕ} {s : Files} (n : List ℕ) (spare : IsSpare kept served s n)
+    → ((m : List ℕ) × (starts_with nat_eq m (codes "tile/") ≡ true) × (m ≡ n))
+spare_name n spare = ⊎_elim (λ a. (tile_path spare.tile, refl, a.0)) (λ b. (entries_path spare.tile, refl, b.1))
+    spare.paths

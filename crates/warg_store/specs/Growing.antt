@@ -1,5 +1,5 @@
 -- A log that grows in a folder.
-use Rattle.std.specs.Prelude.{◌≡◌, ◌⊎◌, ℕ, ◌+◌, ◌*◌, ◌/◌, ◌<◌, ◌≤◌, Bool, true, List, [], ◌∷◌, ◌++◌, length, map, drop, Some, IsSome}
+use Rattle.std.specs.Prelude.{◌≡◌, ◌⊎◌, ℕ, ◌+◌, ◌*◌, ◌/◌, ◌<◌, ◌≤◌, Bool, true, false, List, [], ◌∷◌, ◌++◌, length, map, drop, Some, IsSome}
 use Rattle.warg_crypto.specs.Digests.{sha256}
 use Rattle.warg_log.specs.Tree.{leaves_of}
 use Rattle.warg_tiles.specs.Tiles.{TileAt}
@@ -11,6 +11,8 @@ use Rattle.warg_tiles.specs.declared.stored.StoredTile.{StoredTile}
 use Rattle.warg_tiles.specs.TileLog.{RightEdge, StandsFor, AreTilesOf, partial_tiles}
 use Rattle.warg_tiles.specs.EntryBundles.{bundle_of}
 use Rattle.warg_tiles.specs.CheckpointText.{Said}
+use Rattle.warg_store.specs.declared.log_folder.CommitError.{CommitError}
+use Rattle.warg_store.specs.declared.log_folder.CommitError.TheVariants.{Closed, TooLong, Memory, Folder}
 use Rattle.warg_folder.specs.Files.{File, Files}
 use Rattle.warg_folder.specs.Names.{staged, is_tile}
 use Rattle.warg_folder.specs.Commits.{IsStaging}
@@ -118,3 +120,10 @@ HasNext seen may_leave served next l =
 -- The same, where the next checkpoint's text is still to be noted.
 abbrev pub IsPut : {F : Type 0} → (F → Files) → (F → Files → Type 0) → LogOf → LogOf → LogIn F → Type 0
 IsPut seen may_leave served next l = HasNext seen may_leave served next (record l { text = said_of next })
+
+-- What a refused commit leaves: the log as it was, unless the folder refused a call, and else a log that takes no more.
+abbrev pub IsRefusedBy : {F : Type 0} → CommitError → LogIn F → LogIn F → Type 0
+IsRefusedBy Closed old new = new ≡ old
+IsRefusedBy TooLong old new = new ≡ old
+IsRefusedBy Memory old new = new ≡ old
+IsRefusedBy (Folder cause) old new = new.is_open ≡ false

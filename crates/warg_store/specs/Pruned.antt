@@ -1,7 +1,7 @@
 -- What is removed: by pruning, partial tiles and bundles whose full one is there; by their names, pages.
 use Rattle.std.specs.Prelude.{◌≡◌, ◌≢◌, ◌⊎◌, ℕ, zero, suc, ◌<◌, true, List, None, IsSome}
 use Rattle.std.specs.List.{Contains}
-use Rattle.warg_tiles.specs.Tiles.{TileAt}
+use Rattle.warg_tiles.specs.Tiles.{TileAt, IsTile}
 use Rattle.warg_tiles.specs.TilePaths.{tile_path, entries_path}
 use Rattle.warg_tiles.specs.Between.{IsTileOf}
 use Rattle.warg_folder.specs.Files.{File, Files, without}
@@ -21,6 +21,7 @@ HasFull n t full = ((tile_path t ≡ n) × (tile_path (full_of t) ≡ full)) ⊎
 pub record IsSpare (kept served : ℕ) (files : Files) (n : List ℕ) : Type 0 where
   pub tile : TileAt
   pub full : List ℕ
+  pub is : IsTile tile
   pub paths : HasFull n tile full
   pub partial : tile.width < 256
   pub exists : IsTileOf kept (full_of tile)

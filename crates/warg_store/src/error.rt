@@ -27,7 +27,7 @@ pub enum LogError {
     /// The checkpoint is an older one than that of the log's state: how many entries each has.
     #[error("the checkpoint has {found} entries, and the log {newest}")]
     RolledBack { found: usize, newest: usize },
-    /// The log keeps no such entry, bundle or length: the bound.
+    /// The log keeps no such entry, bundle or length. `bound` is the number that was passed.
     #[error("out of range: the bound is {bound}")]
     OutOfRange { bound: usize },
     /// A call on the folder was refused.

@@ -8,7 +8,7 @@ ghost use Rattle.warg_tiles.specs.CheckpointText.{IsLine, text_of};
 ghost use Rattle.warg_tiles.specs.TileLog.{StandsFor};
 ghost use Rattle.warg_folder.specs.Moments.{LeavesOnly, HasCause, HasCauseOf};
 ghost use Rattle.warg_folder.specs.Commits.{IsBeside, IsStaging};
-ghost use Rattle.warg_store.specs.Growing.{IsReady, IsSameBut, Has, HasAll, HasNext, IsEndOf, IsPut, ArePartsOf, with_entry, IsFresh, with_page};
+ghost use Rattle.warg_store.specs.Growing.{IsReady, IsSameBut, Has, HasAll, HasNext, IsEndOf, IsPut, ArePartsOf, with_entry, IsFresh, with_page, IsRefusedBy};
 ghost use Rattle.warg_store.specs.Log.{LogOf, CanBeKept, IsCommitting, said_of, checkpoint_of};
 
 use crate::log::{commit_log, stage_bundle, stage_tiles};
@@ -223,7 +223,7 @@ impl<F: Folder + Drop> LogFolder<F> {
     }
 
     /// Adds an entry behind the others. Nothing that is served changes before a commit. `TooLong` exactly if the entry has more
-    /// than 65,535 bytes, else `Full` exactly if the log has 2^63, else `Closed` exactly if a commit has failed: each leaves the
+    /// than 65,535 bytes, else `Full` exactly if the log has 2^63 entries, else `Closed` exactly if a commit has failed: each leaves the
     /// log as it was. Else it fails only if memory is refused or the device fails, and no entry is added.
     pub fn push(&mut self, entry: &[u8]) -> Result<(), PushError>
         requires { F.IsFaithful → IsReady F.seen F.may_leave self.old }
@@ -306,6 +306,7 @@ impl<F: Folder + Drop> LogFolder<F> {
             → Has F.seen F.may_leave served old next self.old → next.lines ≡ old.lines
             → HasNext F.seen F.may_leave served next self.new) }
         ensures closed { (result ≡ Err CommitError.Closed) ↔ (self.old.is_open ≡ false) }
+        ensures refused { IfErr result (λ error. IsRefusedBy error self.old self.new) }
         ensures too_long { result ≡ Err CommitError.TooLong → (served old next : LogOf)
             → Has F.seen F.may_leave served old next self.old → next.lines
             ≡ old.lines
@@ -332,6 +333,7 @@ impl<F: Folder + Drop> LogFolder<F> {
             ≡ map (λ l. l.items) lines.now
             → HasNext F.seen F.may_leave served next self.new) }
         ensures closed { (result ≡ Err CommitError.Closed) ↔ (self.old.is_open ≡ false) }
+        ensures refused { IfErr result (λ error. IsRefusedBy error self.old self.new) }
         ensures too_long { result ≡ Err CommitError.TooLong → (served old next : LogOf)
             → Has F.seen F.may_leave served old next self.old → next.lines
             ≡ map (λ l. l.items) lines.now
@@ -357,6 +359,7 @@ impl<F: Folder + Drop> LogFolder<F> {
             ≡ unwrap_or (option_map (λ ls. map (λ l. l.items) ls.now) lines.entry) old.lines
             → HasNext F.seen F.may_leave served next self.new) }
         ensures closed { (result ≡ Err CommitError.Closed) ↔ (self.old.is_open ≡ false) }
+        ensures refused { IfErr result (λ error. IsRefusedBy error self.old self.new) }
         ensures too_long { result ≡ Err CommitError.TooLong → (served old next : LogOf)
             → Has F.seen F.may_leave served old next self.old → next.lines
             ≡ unwrap_or (option_map (λ ls. map (λ l. l.items) ls.now) lines.entry) old.lines

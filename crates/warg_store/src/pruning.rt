@@ -1,7 +1,8 @@
 //! Files that the log needs no more.
 
-ghost use Rattle.std.specs.Prelude.{◌≡◌, ◌≢◌, ◌≤◌, ◌<◌, ◌^◌, ◌↔◌, ℕ, true, List, length, if◌then◌else◌, All, AllPairs, IsSome, IsTrue, IfOk, IfErr, IfSome, OnOk, string_bytes};
+ghost use Rattle.std.specs.Prelude.{None, ◌≡◌, ◌≢◌, ◌≤◌, ◌<◌, ◌^◌, ◌↔◌, ℕ, true, List, length, if◌then◌else◌, All, AllPairs, IsSome, IsTrue, IfOk, IfErr, IfSome, OnOk, string_bytes};
 ghost use Rattle.warg_tiles.specs.Between.{IsTileOf};
+ghost use Rattle.warg_tiles.specs.Tiles.{TileAt, IsTile};
 ghost use Rattle.warg_folder.specs.Files.{Files, without};
 ghost use Rattle.warg_folder.specs.Moments.{Only, LeavesOnly, HasCause};
 ghost use Rattle.warg_folder.specs.Names.{is_staged};
@@ -9,7 +10,7 @@ ghost use Rattle.warg_folder.specs.Commits.{IsStaging};
 ghost use Rattle.warg_store.specs.Log.{LogOf, Serves, Keeps, IsOneOf};
 ghost use Rattle.warg_store.specs.Growing.{Has};
 ghost use Rattle.warg_store.specs.Refusals.{IsNoFault, HasLogCause};
-ghost use Rattle.warg_store.specs.Pruned.{full_of, HasFull, IsPruned, AreGone};
+ghost use Rattle.warg_store.specs.Pruned.{full_of, HasFull, IsSpare, IsPruned, AreGone};
 ghost use Rattle.warg_store.specs.Private.Steps.{IsPruning};
 
 use crate::error::LogError;
@@ -28,7 +29,7 @@ struct Named {
 }
 
 impl<F: Folder + Drop> LogFolder<F> {
-    /// Removes the partial tiles and bundles whose full one is there, and no other; a reader at an older length then reads the
+    /// Removes each partial tile and bundle whose full one is there, and no other; a reader at an older length then reads the
     /// full one. What the served checkpoint needs stays. Returns how many files were removed. After an error, open the folder
     /// again.
     pub fn prune(&mut self) -> Result<usize, LogError>
@@ -42,6 +43,10 @@ impl<F: Folder + Drop> LogFolder<F> {
             → Has F.seen F.may_leave served old next self.old
             → IsPruned (length old.entries) (length served.entries)
             (F.seen self.old.folder) (F.seen self.new.folder) }
+        ensures all { F.IsFaithful → OnOk result ((served old next : LogOf)
+            → Has F.seen F.may_leave served old next self.old → (n : List ℕ)
+            → IsSpare (length old.entries) (length served.entries) (F.seen self.old.folder) n
+            → F.seen self.new.folder n ≡ None) }
         ensures whole { F.IsFaithful → (served old next : LogOf)
             → Has F.seen F.may_leave served old next self.old → IfErr result (IsNoFault ⊥) }
         ensures gone { F.IsFaithful → IfOk result (λ n.
@@ -63,6 +68,9 @@ fn prune_all<F: Folder>(alloc: Global, folder: &mut F, kept: usize) -> Result<us
         (IsPruning kept (length served.entries) (F.seen folder.old)) }
     ensures done { F.IsFaithful → OnOk result (Only (F.seen folder.new) (F.may_leave folder.new)
         × ((n : List ℕ) → is_staged n ≡ true → F.seen folder.new n ≡ F.seen folder.old n)) }
+    ensures all { F.IsFaithful → OnOk result ((served log : LogOf) → Keeps served log (F.seen folder.old)
+        → IsStaging (F.seen folder.old) (F.may_leave folder.old) → (n : List ℕ)
+        → IsSpare kept (length served.entries) (F.seen folder.old) n → F.seen folder.new n ≡ None) }
     ensures whole { F.IsFaithful → (log : LogOf) → Serves log (F.seen folder.old) → IfErr result (IsNoFault ⊥) }
     ensures gone { F.IsFaithful → IfOk result (λ n. AreGone n (F.seen folder.old) (F.seen folder.new)) }
     ensures few { IfOk result (λ n. n < 2 ^ 63) }
@@ -91,6 +99,10 @@ fn prune_each<F: Folder>(
         → F.may_leave folder.new c → IsPruning kept served s c }
     ensures staged { F.IsFaithful → OnOk result ((n : List ℕ) → is_staged n ≡ true
         → F.seen folder.new n ≡ F.seen folder.old n) }
+    ensures all { F.IsFaithful → OnOk result ((s : Files)
+        → ((d : Files) → F.may_leave folder.old d → IsPruning kept served s d)
+        → All (λ name. IsSpare kept served s (string_bytes name)
+        → F.seen folder.new (string_bytes name) ≡ None) names.now) }
     ensures gone { F.IsFaithful → AllPairs (λ a b. string_bytes a ≢ string_bytes b) names.now
         → All (λ name. IsSome (F.seen folder.old (string_bytes name))) names.now
         → IfOk result (λ n. AreGone n (F.seen folder.old) (F.seen folder.new)) }
@@ -122,6 +134,8 @@ fn prune_one<F: Folder>(
         → F.may_leave folder.new c → IsPruning kept served s c }
     ensures staged { F.IsFaithful → OnOk result ((n : List ℕ) → is_staged n ≡ true
         → F.seen folder.new n ≡ F.seen folder.old n) }
+    ensures all { F.IsFaithful → OnOk result (IsSpare kept served (F.seen folder.old) name.now
+        → F.seen folder.new name.now ≡ None) }
     ensures gone { F.IsFaithful → IfOk result (λ is. F.seen folder.new
         ≡ (if is then without name.now (F.seen folder.old) else F.seen folder.old)) }
     ensures cause { HasCause F.IsFaithful (F.faults folder.old) (F.faults folder.new) result }
@@ -143,8 +157,8 @@ fn prune_one<F: Folder>(
 fn is_spare(tile: &Tile, kept: usize, served: usize) -> bool
     requires kept { kept ≤ GREATEST_LENGTH }
     requires served { served ≤ GREATEST_LENGTH }
-    ensures { result ≡ true → (tile.now.width < 256) × IsTileOf kept (full_of tile.now)
-        × (IsTileOf served tile.now → ⊥) }
+    ensures { IsTrue result ↔ ((tile.now.width < 256) × IsTileOf kept (full_of tile.now)
+        × (IsTileOf served tile.now → ⊥)) }
 {
     if tile.width() == 256 || is_tile_of(tile, served) {
         return false;
@@ -167,8 +181,11 @@ fn is_tile_of(tile: &Tile, length: usize) -> bool
 
 // The tile, or the one over the bundle, whose path a name is.
 fn tile_named(alloc: Global, name: &str) -> Result<Option<Named>, AllocError>
-    ensures { IfOk result (λ found. IfSome found (λ named.
+    ensures tile { IfOk result (λ found. IfSome found (λ named. IsTile named.tile)) }
+    ensures paths { IfOk result (λ found. IfSome found (λ named.
         HasFull name.now named.tile (string_bytes named.full))) }
+    ensures none { IfOk result (λ found. found ≡ None → (t : TileAt) (full : List ℕ) → IsTile t
+        → HasFull name.now t full → ⊥) }
 {
     if let Ok(tile) = Tile::from_entries_path(name) {
         let full = Tile::new(0, tile.number(), 256).entries_path(alloc)?;

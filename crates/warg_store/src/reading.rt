@@ -94,9 +94,9 @@ impl<F: Folder + Drop> LogFolder<F> {
     }
 
     /// Reads every entry that the log keeps, makes each tile again, and compares, also with the partial tiles and bundles of older
-    /// lengths that are still there. `Damaged` names the first file that differs. A checkpoint that passes is that of entries:
-    /// those that were read, and the folder has each tile and bundle of them, and of older lengths none with other bytes. Where
-    /// no file differs, it fails only if memory is refused or the device fails. It changes nothing.
+    /// lengths that are still there. `Damaged` names the first file that differs. A checkpoint that passes is that of the
+    /// entries that were read, and the folder has each tile and bundle of a log with it, and of older lengths none with other
+    /// bytes. Where no file differs, it fails only if memory is refused or the device fails. It changes nothing.
     pub fn audit<P: Progress>(&mut self, progress: &mut P) -> Result<Checkpoint<Sha256>, LogError>
         ensures entries { IfOk result IsOfEntries }
         ensures kept { IfOk result (λ found. found ≡ checkpoint_said self.old.text) }

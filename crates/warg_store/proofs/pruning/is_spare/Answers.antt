@@ -6,11 +6,13 @@ use Rattle.warg_store.proofs.GrowingLemmas.{same_tile}
 use Rattle.warg_store.proofs.pruning.is_spare.Goals as goal
 
 pub returns : goal.returns
-returns c = λ yes. (
-  omega arith,
-  subst (IsTileOf c.args.kept)
-      (same_tile c.new.result (full_of c.args.tile.now) (c.new.ensures.level ∙ c.level.ensures.value)
-      (c.new.ensures.number ∙ c.number.ensures.value) c.new.ensures.width)
-      (c.is_tile_of-2.ensures.0 yes),
-  (λ is. apart (sym (c.is_tile_of.ensures.1 is) ∙ c.if-is_tile_of.false)),
-)
+returns c =
+    let same = same_tile c.new.result (full_of c.args.tile.now) (c.new.ensures.level ∙ c.level.ensures.value)
+    (c.new.ensures.number ∙ c.number.ensures.value) c.new.ensures.width in (
+      λ yes. (
+        omega arith,
+        subst (IsTileOf c.args.kept) same (c.is_tile_of-2.ensures.0 yes),
+        λ is. apart (sym (c.is_tile_of.ensures.1 is) ∙ c.if-is_tile_of.false),
+      ),
+      λ all. c.is_tile_of-2.ensures.1 (subst (IsTileOf c.args.kept) (sym same) all.1),
+    )

@@ -1,11 +1,29 @@
-use Rattle.std.proofs.Common.{◌≡◌, ◌+◌, refl, sym, subst, ◌∙◌, arith}
+use Rattle.std.proofs.Common.{◌≡◌, ◌+◌, ℕ, List, Bool, true, false, None, get_or, ⊎_elim, string_bytes, refl, sym, ap, subst, ◌∙◌, arith}
+use Rattle.std.specs.Bool.{if◌then◌else◌}
+use Rattle.std.specs.List.{All}
+use Rattle.std.specs.declared.string.String.{String}
+use Rattle.std.specs.declared.alloc.Global.{Global}
+use Rattle.std.proofs.lemmas.List.{take_all}
+use Rattle.std.proofs.lemmas.List.Elements.{All-more, All-weaker}
 use Rattle.warg_folder.specs.Files.{Files, without}
-use Rattle.warg_store.specs.Pruned.{AreGone}
+use Rattle.warg_store.specs.Pruned.{AreGone, IsSpare}
+use Rattle.warg_store.proofs.PruneLemmas.{spare_still}
 use Rattle.warg_store.proofs.GoneLemmas.{AreLeft, gone_more, left_behind, left_after, first_left}
 use Rattle.warg_store.proofs.pruning.prune_each.Goals.{then-branch, else-branch}
 use Rattle.warg_store.specs.Private.Steps.{IsPruning}
-use Rattle.warg_folder.proofs.ForCallers.{leaves_none, leaves_then}
+use Rattle.warg_folder.proofs.ForCallers.{leaves_none, leaves_then, without_either}
 use Rattle.warg_store.proofs.pruning.prune_each.Goals as goal
+
+-- where a file was spare, it is gone
+abbrev IsGone : ℕ → ℕ → Files → Files → String Global → Type 0
+IsGone kept served s now x = IsSpare kept served s (string_bytes x) → now (string_bytes x) ≡ None
+
+-- what is gone stays so
+still_none : (name n : List ℕ) (is : Bool) (old new : Files) → new ≡ (if is then without name old else old)
+    → old n ≡ None → new n ≡ None
+still_none name n true old new e none = ⊎_elim (λ same. ap (λ (f : Files). f n) e ∙ same ∙ none)
+    (λ gone. ap (λ (f : Files). f n) e ∙ gone) (without_either name old n)
+still_none name n false old new e none = ap (λ (f : Files). f n) e ∙ none
 
 pub names-init : goal.names-init
 names-init g c = record {
@@ -16,6 +34,7 @@ names-init g c = record {
   staged = λ faithful n is. refl;
   gone = λ faithful apart there. (refl, λ k d behind inside. there k d inside);
   few = omega arith;
+  all = λ faithful s before k d inside. absurd (omega arith);
 }
 
 pub names-preserved : goal.names-preserved
@@ -65,6 +84,20 @@ names-preserved g c = record {
     | then-branch w ↦ omega (arith, w.removed-is, w.saturating_add-removed.ensures, c.names.invariant.few)
     | else-branch w ↦ omega (arith, w.removed-is, c.names.invariant.few)
   ];
+  all = λ faithful s before.
+      let old = g.F.Folder.seen c.names.folder in
+      let new = g.F.Folder.seen c.prune_one.new.folder in
+      let here = c.names.invariant.crash faithful s old before (g.met.F.Folder.seen_may_stay c.names.folder) in
+      let text : c.as_str.result.now ≡ string_bytes (get_or c.args.names.now c.names.name-index c.name-item.result) =
+      c.as_str.ensures.value ∙ ap (λ (x : String Global). string_bytes x) c.name-item.is in
+      All-more (IsGone c.args.kept c.args.served s new) c.args.names.now c.names.name-index c.name-item.result
+      (omega arith)
+      (All-weaker (IsGone c.args.kept c.args.served s old) (IsGone c.args.kept c.args.served s new)
+      (λ x gone spare. still_none c.as_str.result.now (string_bytes x) c.in_ok-prune_one.field-0 old new
+      (c.in_ok-prune_one.ensures.gone faithful) (gone spare)) _ (c.names.invariant.all faithful s before))
+      (λ spare. subst (λ (n : List ℕ). new n ≡ None) text (c.in_ok-prune_one.ensures.all faithful
+      (spare_still c.args.kept c.args.served s old c.as_str.result.now here
+      (subst (IsSpare c.args.kept c.args.served s) (sym text) spare))));
 }
 
 pub returns-in_err-prune_one-clause-any_moment : goal.returns-in_err-prune_one-clause-any_moment
@@ -78,3 +111,9 @@ returns-in_err-prune_one-clause-any_moment g c = λ faithful s all.
 pub returns-in_err-prune_one-clause-crash : goal.returns-in_err-prune_one-clause-crash
 returns-in_err-prune_one-clause-crash g c = λ faithful s e all left. c.prune_one.ensures.crash faithful s e
     (λ d was. c.names.invariant.crash faithful s d all was) left
+
+pub returns-clause-all : goal.returns-clause-all
+returns-clause-all g c = λ faithful s before.
+    subst (All (IsGone c.args.kept c.args.served s (g.F.Folder.seen c.names.folder)))
+    (take_all c.names.name-index c.args.names.now (omega (arith, c.names-test.false)))
+    (c.names.invariant.all faithful s before)

@@ -1,10 +1,10 @@
-use Rattle.std.proofs.Common.{◌≡◌, ◌≢◌, ◌≤◌, ℕ, List, true, IsSome, string_bytes}
+use Rattle.std.proofs.Common.{◌≡◌, ◌≢◌, ◌≤◌, ℕ, List, true, None, IsSome, take, string_bytes}
 use Rattle.std.specs.List.{All, AllPairs}
 use Rattle.warg_folder.specs.Files.{Files}
 use Rattle.warg_folder.specs.Moments.{LeavesOnly}
 use Rattle.warg_folder.specs.Names.{is_staged}
 use Rattle.warg_store.specs.Private.Steps.{IsPruning}
-use Rattle.warg_store.specs.Pruned.{AreGone}
+use Rattle.warg_store.specs.Pruned.{AreGone, IsSpare}
 use Rattle.warg_store.proofs.GoneLemmas.{AreLeft}
 use Rattle.warg_store.proofs.pruning.prune_each.Given as goal
 
@@ -24,4 +24,8 @@ invariant-names g l = record {
       → AreGone l.removed (g.F.Folder.seen l.fn.folder) (g.F.Folder.seen l.folder)
       × AreLeft l.name-index l.names (g.F.Folder.seen l.folder);
   few : l.removed ≤ l.name-index;
+  all : g.F.Folder.IsFaithful → (s : Files)
+      → ((d : Files) → g.F.Folder.may_leave l.fn.folder d → IsPruning l.kept l.served s d)
+      → All (λ name. IsSpare l.kept l.served s (string_bytes name)
+      → g.F.Folder.seen l.folder (string_bytes name) ≡ None) (take l.name-index l.names);
 }

@@ -1,14 +1,16 @@
-use Rattle.std.proofs.Common.{◌≡◌, true, None, IsSome, List, length, sym, subst, string_bytes, arith}
+use Rattle.std.proofs.Common.{◌≡◌, ⊎_elim, true, None, IsSome, List, length, sym, subst, ◌∙◌, string_bytes, arith}
 use Rattle.std.specs.List.{All}
+use Rattle.std.proofs.lemmas.List.{length-map}
 use Rattle.std.specs.declared.alloc.Global.{Global}
 use Rattle.std.specs.declared.string.String.{String}
 use Rattle.warg_folder.specs.Names.{is_page}
 use Rattle.warg_folder.specs.Files.{Files}
-use Rattle.warg_store.specs.Pruned.{AreGone, ArePagesNotOf, IsWithoutPages}
+use Rattle.warg_store.specs.Pruned.{AreGone, ArePagesNotOf, IsSpare, IsWithoutPages}
 use Rattle.warg_store.proofs.ForCallers.{gone_then}
 use Rattle.warg_registry.specs.Folder.{registry_of, RegistryIn}
+use Rattle.warg_registry.specs.Insertions.{entry_of}
 use Rattle.warg_registry.specs.Pruning.{bytes_of, AreApart}
-use Rattle.warg_registry.proofs.LeftPages.{page_stays}
+use Rattle.warg_registry.proofs.LeftPages.{page_stays, spare_in}
 use Rattle.warg_registry.proofs.Sources.{log_is_read}
 use Rattle.warg_registry.proofs.Refused.{told_as}
 use Rattle.warg_registry.proofs.WhilePruned.{looked_at, of_registry}
@@ -92,6 +94,23 @@ returns-clause-gone g c = λ faithful origin served kept has.
       c.as_slice.ensures.len,
       c.as_slice.type_inv.0,
     )) both)
+
+pub returns-clause-spare : goal.returns-clause-spare
+returns-clause-spare g c = λ faithful origin served kept has n spare.
+    let dev = g.F.Folder in
+    let run = looked_at dev origin served kept c.self.view_is has
+    (g.met.F.Folder.only_now c.args.self.now.log.folder) (c.spare.ensures.read faithful) in
+    let S = registry_of origin served in
+    let K = registry_of origin kept in
+    let first = dev.seen c.self.inside.pages.log.folder in
+    let here = c.spare.ensures.read faithful c.self.inside.pages.log (log_is_read dev c.self.inside.pages.log) in
+    let at : IsSpare (length kept) (length served) first n = subst (λ (r : RegistryIn g.row.F.Denot).
+    IsSpare (length kept) (length served) (dev.seen r.log.folder) n) (sym c.self.view_is) spare in
+    let is : IsSpare (length K.entries) (length S.entries) (dev.seen c.spare.new.self.log.folder) n =
+    spare_in (length kept) (length K.entries) (length served) (length S.entries) first _ n
+    (sym (length-map kept entry_of)) (sym (length-map served entry_of)) here.read.found at in
+    let pruned = c.in_ok-pruned.ensures.all faithful S K K run.at n is in
+    ⊎_elim (λ same. same ∙ pruned) (λ gone. gone.0) (c.in_ok-remove_pages.ensures.only faithful n)
 
 pub returns-clause-all : goal.returns-clause-all
 returns-clause-all g c = λ faithful origin served kept has.
