@@ -112,7 +112,7 @@ pub keys_agreed : {D : Type 0} (H : Digest) (key : List ℕ) (P : List (Option (
     → P' ≡ P → Q' ≡ Q
     → x ≡ H (0 ∷ v) → y ≡ H (0 ∷ u) → (met : Option (Divergence D))
     → MatchOption met (proof_value H P' x (last_bits digest 256) ≡ proof_value H Q' y (last_bits digest 256) → ⊥)
-    (MeetsOnPath H P' x Q' y (last_bits digest 256)) → IsAgreed H (IsKeyAgreement H key P v Q u)
+    (MeetsOnPath H (P', x) (Q', y) (last_bits digest 256)) → IsAgreed H (IsKeyAgreement H key P v Q u)
     (IsKeyAgreementPlaced H key (P, v) (Q, u)) v u met
 keys_agreed H key P v Q u digest peers other_peers first second None none =
     record { is = rw (digest, peers, other_peers, first, second) at none }

@@ -29,14 +29,14 @@ use Rattle.warg_witness.proofs.InsertionLemmas.{last_with-is, last_of_digest}
 
 module _ (H : List ℕ → List ℕ) (P : List (Option (List ℕ))) (x : List ℕ) (Q : List (Option (List ℕ))) (y : List ℕ) where
   -- both evaluations at the leaf, one bit up, and where both come to one value, they meet
-  pub bits_start : {D : Type 0} {climb : Climb D} → climb ≡ at_bottom x y → IsBitClimb H P x Q y [] climb
+  pub bits_start : {D : Type 0} {climb : Climb D} → climb ≡ at_bottom x y → IsBitClimb H (P, x) (Q, y) [] climb
   unfolding proof_value
   bits_start bottom = rw bottom
       (record { first_is = refl; second_is = refl; diverges = λ same. (same, λ leaf. refl) })
 
   pub bit_up : {D : Type 0} {b : Bool} (bits : List Bool) {u v : List ℕ} {before after : Climb D}
       → peer_of H P (length bits) ≡ u → peer_of H Q (length bits) ≡ v
-      → IsBitClimb H P x Q y bits before → IsUp H b before u v after → IsBitClimb H P x Q y (b ∷ bits) after
+      → IsBitClimb H (P, x) (Q, y) bits before → IsUp H b before u v after → IsBitClimb H (P, x) (Q, y) (b ∷ bits) after
   unfolding proof_value
   bit_up {b = b} bits {before = before} at other_at climb step =
       let up = rw (← at, ← other_at) at step in
@@ -44,7 +44,7 @@ module _ (H : List ℕ → List ℕ) (P : List (Option (List ℕ))) (x : List �
       let second = ap (λ d. input_beside b (peer_of H Q (length bits)) d) climb.second_is in record {
         first_is = up.first_is ∙ ap H first;
         second_is = up.second_is ∙ ap H second;
-        diverges = up_parts (OnBits H P x Q y (b ∷ bits))
+        diverges = up_parts (OnBits H (P, x) (Q, y) (b ∷ bits))
             ((x ≡ y) × ((leaf : List ℕ) → proof_value H P leaf (b ∷ bits) ≡ proof_value H Q leaf (b ∷ bits))) up
             (λ same beside. parts_placed H before.divergence
             (λ _ _ on. record {
@@ -64,7 +64,7 @@ module _ (H : List ℕ → List ℕ) (P : List (Option (List ℕ))) (x : List �
       }
 
   pub bits_climbed : {D : Type 0} → HasSize H → length x ≡ length y → (bits : List Bool)
-      → (climb : Climb D) × IsBitClimb H P x Q y bits climb × (length climb.first ≡ length climb.second)
+      → (climb : Climb D) × IsBitClimb H (P, x) (Q, y) bits climb × (length climb.first ≡ length climb.second)
   bits_climbed gives size [] = (at_bottom x y, bits_start refl, size)
   bits_climbed gives size (b ∷ bits) =
       let below = bits_climbed gives size bits in
@@ -72,9 +72,9 @@ module _ (H : List ℕ → List ℕ) (P : List (Option (List ℕ))) (x : List �
       (step.0, bit_up bits refl refl below.1 step.1, up_sizes gives step.1)
 
   pub keys_met : {D : Type 0} (bits : List Bool) {top : Climb D}
-      → IsBitClimb H P x Q y bits top → (met : Option (Divergence D))
+      → IsBitClimb H (P, x) (Q, y) bits top → (met : Option (Divergence D))
       → MatchOption met (¬ (top.first ≡ top.second)) (λ q. (top.first ≡ top.second) × (q ≡ top.divergence))
-      → MatchOption met (proof_value H P x bits ≡ proof_value H Q y bits → ⊥) (MeetsOnPath H P x Q y bits)
+      → MatchOption met (proof_value H P x bits ≡ proof_value H Q y bits → ⊥) (MeetsOnPath H (P, x) (Q, y) bits)
   keys_met bits climb None apart = λ same. apart (climb.first_is ∙ same ∙ sym climb.second_is)
   keys_met bits climb (Some q) is = rw is.1
       (record { met = sym climb.first_is ∙ is.0 ∙ climb.second_is; diverges = climb.diverges is.0 })
@@ -114,8 +114,8 @@ module _ (H : List ℕ → List ℕ) (insertions : List (List ℕ × List ℕ)) 
     own_root = rw (← last_is, plain_leaf_is H insertions (key_bits H key))
         (beside_root H (map_of H insertions) (key_bits H key) own (all_bits H key) beside)
 
-    placed_on : (peers : List (Option (List ℕ))) (value l r : List ℕ) → OnBits H peers (leaf_digest H value) own
-        (leaf_digest H (value_in last)) (key_bits H key) l r → IsPlacedAtPrefix H peers value key insertions l r
+    placed_on : (peers : List (Option (List ℕ))) (value l r : List ℕ) → OnBits H (peers, leaf_digest H value)
+        (own, leaf_digest H (value_in last)) (key_bits H key) l r → IsPlacedAtPrefix H peers value key insertions l r
     placed_on peers value l r on = record {
       prefix = on.above;
       rest = on.bit ∷ on.below;
@@ -127,7 +127,7 @@ module _ (H : List ℕ → List ℕ) (insertions : List (List ℕ × List ℕ)) 
 
     -- and where an evaluation meets it, it meets the plain tree
     pub own_met : {D : Type 0} (peers : List (Option (List ℕ))) (value : List ℕ) (p : Divergence D)
-        → MeetsOnPath H peers (leaf_digest H value) own (leaf_digest H (value_in last)) (key_bits H key) p
+        → MeetsOnPath H (peers, leaf_digest H value) (own, leaf_digest H (value_in last)) (key_bits H key) p
         → IsKeyMeeting H peers key value insertions p own
     own_met peers value p meets = record {
       met = meets.met ∙ own_root;
@@ -143,7 +143,7 @@ module _ (H : List ℕ → List ℕ) (insertions : List (List ℕ × List ℕ)) 
 module _ (H : List ℕ → List ℕ) (key : List ℕ) (P : List (Option (List ℕ))) (v : List ℕ) (Q : List (Option (List ℕ)))
     (u : List ℕ) where
   pub key_agreement_shown : {D : Type 0} (p : Divergence D)
-      → IsBitDivergence H P (H (0 ∷ v)) Q (H (0 ∷ u)) (key_bits H key) p
+      → IsBitDivergence H (P, H (0 ∷ v)) (Q, H (0 ∷ u)) (key_bits H key) p
       → (v ≡ u → ⊥) → Shows H (IsKeyAgreementPlaced H key (P, v) (Q, u)) (inputs_of p (0 ∷ v) (0 ∷ u))
   key_agreement_shown p diverges other = shown p
       (λ first second on. record {

@@ -7,14 +7,14 @@ use Rattle.warg_crypto.specs.Collisions.{GivesHashes, AreHashes, SomeCollision}
 use Rattle.warg_crypto.specs.Tree.{leaf_digest, branch_input, where_both}
 use Rattle.warg_crypto.proofs.ForCallers.{sizes, branch_parts, same_or_not}
 use Rattle.warg_log.specs.Tree.{leaves_of, root_over, front_of, root_of}
-use Rattle.warg_paths.specs.Paths.{inclusion_root, roots_down, subproof_roots, grown, both_over}
+use Rattle.warg_paths.specs.Paths.{inclusion_root, roots_down, subproof_roots}
 use Rattle.warg_paths.specs.Ways.{ArePathInputs, IsOnGrowth, old_turn_input, new_turn_input, old_of}
 use Rattle.warg_witness.specs.PathClaims.{IsRecord, IsRecordMet, IsRecordAgreement, IsTreeMet}
 use Rattle.warg_witness.specs.PathPlaced.{IsRecordPlaced, IsRecordAgreementPlaced}
 use Rattle.warg_witness.specs.Inputs.{plain_input}
 use Rattle.warg_witness.proofs.CutLemmas.{plain_digest_is, leaves_count, have_range}
 use Rattle.warg_witness.proofs.RecordLemmas.{leads_inside, paths_climbed, whole_parts, inputs_placed, leaf_placed, record_agreement_shown, own_exists, own_met, record_placed, plain_root}
-use Rattle.std.proofs.lemmas.Bool.{lt-leb, cases_lt, le-leb, ne_eqb}
+use Rattle.std.proofs.lemmas.Bool.{lt-leb, cases_lt}
 use Rattle.warg_log.specs.Ranges.{leaves_from}
 use Rattle.warg_witness.specs.Ranges.{IsPart, IsAround}
 use Rattle.warg_witness.specs.Placed.{IsPlacedInBoth}
@@ -27,7 +27,7 @@ use Rattle.warg_witness.specs.Claims.{Begins}
 use Rattle.warg_paths.specs.Ways.IsOnGrowth.{whole, front, rest}
 use Rattle.warg_witness.specs.TreePlaced.{IsTreePlaced}
 use Rattle.std.proofs.lemmas.Bool.Decides.{nat_tests}
-use Rattle.warg_witness.proofs.GrowthLemmas.{pair_parts, same_front, all_old, front_turn as roots_front, rest_turn as roots_rest, turning}
+use Rattle.warg_witness.proofs.GrowthLemmas.{same_front, all_old, no_roots, grown_is, over_is, front_turn as roots_front, rest_turn as roots_rest, front_takes, rest_takes, turning}
 
 -- two branches that are one, of which the digests on the right have one length
 pub left_parts : (l r p q : List ℕ) → length r ≡ length q → branch_input l r ≡ branch_input p q → (l ≡ p) × (r ≡ q)
@@ -140,25 +140,6 @@ module _ (H : List ℕ → List ℕ) where
         let pair = both_shown H old new place (leaves_from a n) old_part new_part p diverges differ in
         shown_collides _ (record { collides = pair.collides; placed = placed _ _ pair.placed })
 
--- where some aren't, no roots are there without digests, and else those of a part
-no_roots : (H : List ℕ → List ℕ) (known : Option (List ℕ)) (m n : ℕ) (roots : List ℕ × List ℕ) → m < n
-    → roots_down H known m n [] ≡ Some roots → ⊥
-unfolding roots_down
-no_roots H known m n roots more is = let none = rw (ne_eqb m n (λ e. omega arith)) at is in absurd cc
-
-grown_is : (H : List ℕ → List ℕ) (below : Option (List ℕ × List ℕ)) (top o w : List ℕ) → grown H below top ≡ Some (o, w)
-    → (x : List ℕ) × (below ≡ Some (o, x)) × (H (branch_input x top) ≡ w)
-grown_is H None top o w is = absurd cc
-grown_is H (Some (p, x)) top o w is =
-    let both = pair_parts (p, H (branch_input x top)) (o, w) is in (x, ap (λ z. Some (z, x)) both.0, both.1)
-
-over_is : (H : List ℕ → List ℕ) (below : Option (List ℕ × List ℕ)) (top o w : List ℕ) → both_over H top below
-    ≡ Some (o, w)
-    → (y : List ℕ) × (x : List ℕ) × (below ≡ Some (y, x)) × (H (branch_input top y) ≡ o) × (H (branch_input top x) ≡ w)
-over_is H None top o w is = absurd cc
-over_is H (Some (y, x)) top o w is =
-    let both = pair_parts (H (branch_input top y), H (branch_input top x)) (o, w) is in (y, x, refl, both.0, both.1)
-
 -- the new root that is reckoned has 32 bytes, where not all leaves are old
 new_size : (H : List ℕ → List ℕ) → GivesHashes H → (known : Option (List ℕ)) (m n : ℕ) (digests : List (List ℕ))
     (o w : List ℕ) → m < n → roots_down H known m n digests ≡ Some (o, w) → length w ≡ 32
@@ -169,17 +150,6 @@ new_size H gives known m n (top ∷ below) o w less is = elim (cases_lt (front_o
   | inl lt ↦ let (y, x, _, _, root) = over_is H (roots_down H None (m - front_of n) (n - front_of n) below) top o w
       (sym (roots_rest H known m n top below less lt) ∙ is) in sym (ap length root) ∙ sizes gives _
 ]
-
--- what is taken at a range for the new root
-front_turn : (H : List ℕ → List ℕ) (known : Option (List ℕ)) (m n : ℕ) (top : List ℕ) (below : List (List ℕ))
-    (o x : List ℕ) → m ≤ front_of n → roots_down H known m (front_of n) below ≡ Some (o, x)
-    → new_turn_input H known m n top below ≡ Some (branch_input x top)
-front_turn H known m n top below o x le is = rw (le-leb m (front_of n) le, is) refl
-
-rest_turn : (H : List ℕ → List ℕ) (known : Option (List ℕ)) (m n : ℕ) (top : List ℕ) (below : List (List ℕ))
-    (o x : List ℕ) → front_of n < m → roots_down H None (m - front_of n) (n - front_of n) below ≡ Some (o, x)
-    → new_turn_input H known m n top below ≡ Some (branch_input top x)
-rest_turn H known m n top below o x lt is = rw (lt-leb m (front_of n) lt, is) refl
 
 -- roots that are there
 leads_both : (H : List ℕ → List ℕ) (known : Option (List ℕ)) (m n : ℕ) (path : List (List ℕ)) (roots : List ℕ × List ℕ)
@@ -254,7 +224,7 @@ module _ (H : List ℕ → List ℕ) (gives : GivesHashes H) (path old new : Lis
                 let (x, below_is, root) = grown_is H (roots_down H known m (front_of n) below) top _ _
                 (sym (roots_front H known m n top below less le) ∙ leads) in
                 elim (new_fork known m a n top below x top less more in_new way
-                (front_turn H known m n top below _ x le below_is) root) [
+                (front_takes H known m n top below _ x le below_is) root) [
                   | inr collision ↦ collision
                   | inl same ↦
                       let parts = branch_parts x top _ _
@@ -273,7 +243,7 @@ module _ (H : List ℕ → List ℕ) (gives : GivesHashes H) (path old new : Lis
                 (ap (where_both branch_input (Some top)) (ap old_of below_is)) old_root) [
                   | inr collision ↦ collision
                   | inl old_same ↦ elim (new_fork known m a n top below top x less more in_new way
-                      (rest_turn H known m n top below y x lt below_is) new_root) [
+                      (rest_takes H known m n top below y x lt below_is) new_root) [
                         | inr collision ↦ collision
                         | inl new_same ↦
                             let right = new_size H gives None (m - front_of n) (n - front_of n) below y x

@@ -1,12 +1,12 @@
 -- Ranges of the tree's recursion, as the private functions speak of them, and where two evaluations that have one digest at a
 -- range diverge, on the way down to a target in both.
-use Rattle.std.specs.Prelude.{◌≡◌, ℕ, ◌*◌, ◌^◌, ◌<◌, Bool, List, Some, if◌then◌else◌}
+use Rattle.std.specs.Prelude.{◌≡◌, ℕ, ◌*◌, ◌^◌, ◌<◌, Bool, false, List, Some, if◌then◌else◌}
 use Rattle.warg_log.specs.Ranges.{Range, front_part, rest_part}
 use Rattle.warg_log.specs.Cut.{Evaluation, cut_over}
 use Rattle.warg_log.specs.Tree.{root_over}
 use Rattle.warg_witness.specs.Ranges.{IsPart, IsAround}
 use Rattle.warg_crypto.specs.Collisions.{Collides}
-use Rattle.warg_crypto.specs.Tree.{input_beside}
+use Rattle.warg_crypto.specs.Tree.{input_beside, branch_input}
 use Rattle.warg_witness.specs.Inputs.{cut_input}
 use Rattle.warg_witness.specs.declared.divergence.Branches.{Branches}
 use Rattle.warg_witness.specs.declared.divergence.Climb.{Climb}
@@ -36,6 +36,11 @@ side_of right range = if right then rest_part range else front_part range
 -- The two byte lists that the digest function takes at two branches.
 abbrev pub inputs : {D : _} → Branches D → List ℕ × List ℕ
 inputs b = (input_beside b.right b.first_beside b.first, input_beside b.right b.second_beside b.second)
+
+-- The branch of an evaluation over the first two digests isn't a tree's over the other two, and these are both.
+pub record AreApart {D : _} (left right tree_left tree_right : List ℕ) (b : Branches D) : Type 0 where
+  pub differ : branch_input left right ≡ branch_input tree_left tree_right → ⊥
+  pub are : b ≡ record { right = false; first = left; first_beside = right; second = tree_left; second_beside = tree_right }
 
 -- The two byte lists that a divergence shows: those of the branches, or at the target those that are given.
 abbrev pub inputs_of : {D : _} → Divergence D → List ℕ → List ℕ → List ℕ × List ℕ

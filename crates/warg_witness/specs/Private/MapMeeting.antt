@@ -49,26 +49,27 @@ abbrev pub IsPlacedInStep : {D : _} → (List ℕ → List ℕ) → Divergence D
 IsPlacedInStep H (Branch branches) xs ys first second = ((first, second) ≡ inputs branches) ⊎ IsPlacedInMaps H xs ys first second
 IsPlacedInStep H Target xs ys first second = IsPlacedInMaps H xs ys first second
 
--- The inputs of the evaluations by the peers P from the leaf digest x and by Q from y at one of these bits.
-pub record OnBits (H : List ℕ → List ℕ) (P : List (Option (List ℕ))) (x : List ℕ) (Q : List (Option (List ℕ))) (y : List ℕ) (bits : List Bool) (first second : List ℕ) : Type 0 where
+-- The inputs of two evaluations at one of these bits, each by its peers from its leaf digest.
+pub record OnBits (H : List ℕ → List ℕ) (one other : List (Option (List ℕ)) × List ℕ) (bits : List Bool) (first second : List ℕ) : Type 0 where
   pub above : List Bool
   pub bit : Bool
   pub below : List Bool
   pub split : bits ≡ above ++ bit ∷ below
-  pub first_is : first ≡ fork_input H P x bit below
-  pub second_is : second ≡ fork_input H Q y bit below
+  pub first_is : first ≡ fork_input H one.0 one.1 bit below
+  pub second_is : second ≡ fork_input H other.0 other.1 bit below
 
 -- They diverge nowhere, and lead to one root from each leaf, or they diverge at one of the bits.
-abbrev pub IsBitDivergence : {D : _} → (List ℕ → List ℕ) → List (Option (List ℕ)) → List ℕ → List (Option (List ℕ)) → List ℕ → List Bool → Divergence D → Type 0
-IsBitDivergence H P x Q y bits p = Parts H (OnBits H P x Q y bits) ((x ≡ y) × ((leaf : List ℕ) → proof_value H P leaf bits ≡ proof_value H Q leaf bits)) p
+abbrev pub IsBitDivergence : {D : _} → (List ℕ → List ℕ) → List (Option (List ℕ)) × List ℕ → List (Option (List ℕ)) × List ℕ → List Bool → Divergence D → Type 0
+IsBitDivergence H one other bits p =
+    Parts H (OnBits H one other bits) ((one.1 ≡ other.1) × ((leaf : List ℕ) → proof_value H one.0 leaf bits ≡ proof_value H other.0 leaf bits)) p
 
 -- They lead to the climb's digests, and diverge as it says if the two are one.
-pub record IsBitClimb {D : _} (H : List ℕ → List ℕ) (P : List (Option (List ℕ))) (x : List ℕ) (Q : List (Option (List ℕ))) (y : List ℕ) (bits : List Bool) (climb : Climb D) : Type 0 where
-  pub first_is : climb.first ≡ proof_value H P x bits
-  pub second_is : climb.second ≡ proof_value H Q y bits
-  pub diverges : climb.first ≡ climb.second → IsBitDivergence H P x Q y bits climb.divergence
+pub record IsBitClimb {D : _} (H : List ℕ → List ℕ) (one other : List (Option (List ℕ)) × List ℕ) (bits : List Bool) (climb : Climb D) : Type 0 where
+  pub first_is : climb.first ≡ proof_value H one.0 one.1 bits
+  pub second_is : climb.second ≡ proof_value H other.0 other.1 bits
+  pub diverges : climb.first ≡ climb.second → IsBitDivergence H one other bits climb.divergence
 
 -- They lead to one root, and diverge as said on the way down from it.
-pub record MeetsOnPath {D : _} (H : List ℕ → List ℕ) (P : List (Option (List ℕ))) (x : List ℕ) (Q : List (Option (List ℕ))) (y : List ℕ) (bits : List Bool) (divergence : Divergence D) : Type 0 where
-  pub met : proof_value H P x bits ≡ proof_value H Q y bits
-  pub diverges : IsBitDivergence H P x Q y bits divergence
+pub record MeetsOnPath {D : _} (H : List ℕ → List ℕ) (one other : List (Option (List ℕ)) × List ℕ) (bits : List Bool) (divergence : Divergence D) : Type 0 where
+  pub met : proof_value H one.0 one.1 bits ≡ proof_value H other.0 other.1 bits
+  pub diverges : IsBitDivergence H one other bits divergence

@@ -5,16 +5,14 @@ use Rattle.warg_log.specs.Tree.{leaves_of, root_of, root_over}
 use Rattle.warg_log.specs.Cut.{with_target, with_own}
 use Rattle.warg_log.specs.Claims.{InclusionClaim}
 use Rattle.warg_log.specs.Ranges.{Range, leaves_from, range_of, IsAligned}
-use Rattle.warg_witness.specs.Private.Divergence.{IsDivergence, Shows, inputs_of, at_bottom, Parts, root_at}
+use Rattle.warg_witness.specs.Private.Divergence.{IsDivergence, Shows, inputs_of, root_at}
 use Rattle.warg_witness.specs.Claims.{IsMet}
 use Rattle.warg_witness.specs.declared.divergence.Divergence.{Divergence}
 use Rattle.warg_paths.specs.Paths.{roots_down}
 use Rattle.warg_paths.specs.Ways.{IsOnGrowth}
 use Rattle.warg_witness.specs.PathClaims.{IsTreeMet}
-use Rattle.warg_witness.specs.Ranges.{IsPart, IsAround}
+use Rattle.warg_witness.specs.Ranges.{IsPart}
 use Rattle.warg_witness.specs.TreePlaced.{IsTreePlaced}
-use Rattle.warg_witness.specs.declared.divergence.Climb.{Climb}
-use Rattle.warg_witness.specs.declared.paths.growth.Growth.{Growth}
 use Rattle.warg_witness.specs.declared.trees.Trees.{Trees}
 
 -- The target is a node's range, within the tree, which has this digest there.
@@ -30,12 +28,6 @@ pub record IsMeeting {D : _} (H : List ℕ → List ℕ) (F : ℕ → Option (Li
   pub met : IsMet H F proof digest entries
   pub tree_is : tree ≡ leaves_of H entries
   pub diverges : IsDivergence H (with_target F (range_of proof.leaf.0) digest) (with_own H tree (range_of proof.leaf.0)) (leaves_from 0 (length tree)) divergence
-
--- A climb's second digest is that of a tree over the range; where an evaluation comes to it there, both diverge nowhere,
--- and meet at the bottom as said, or they diverge at branches that collide and stand where P says.
-pub record IsBesideTree {D : _} (H : List ℕ → List ℕ) (tree : List (List ℕ)) (P : List ℕ → List ℕ → Type 0) (meet : Type 0) (range : Range) (climb : Climb D) : Type 0 where
-  pub is : climb.second ≡ root_at H tree range
-  pub parts : climb.first ≡ climb.second → Parts H P meet climb.divergence
 
 -- The path leads from the root of the tree over the old entries to the roots of both trees, which can be numbered.
 pub record IsTreeMeeting {D V A : _} (H : List ℕ → List ℕ) (path old new : List (List ℕ)) (trees : Trees D V A) : Type 0 where
@@ -79,27 +71,3 @@ pub record IsOnWayOver {D V A : _} (H : List ℕ → List ℕ) (path old new : L
 abbrev pub IsTreeDivergence : {D V A : _} → (List ℕ → List ℕ) → Trees D V A → ℕ → Descent → Divergence D → Type 0
 IsTreeDivergence H trees place d p = (path old new : List (List ℕ)) → IsOnWayOver H path old new trees place d
     → Shows H (IsTreePlaced H path old new) (inputs_of p (0 ∷ slice_index_or old place []) (0 ∷ slice_index_or new place []))
-
--- Of all entries and all paths for which it is such a range, two byte lists stand where a collision may.
-abbrev pub PlacedOnGrowth : {D V A : _} → (List ℕ → List ℕ) → Trees D V A → ℕ → Descent → List ℕ → List ℕ → Type 0
-PlacedOnGrowth H trees place d first second =
-    (path old new : List (List ℕ)) → IsOnWayOver H path old new trees place d → IsTreePlaced H path old new first second
-
--- Both evaluations, from one digest at a range, and both trees there.
-abbrev pub growth_from : {D V A : _} → (List ℕ → List ℕ) → Trees D V A → Range → List ℕ → Growth D
-growth_from H trees range digest = record {
-  shared = range;
-  old = at_bottom digest (root_at H trees.old range);
-  new = at_bottom digest (root_at H trees.new range);
-}
-
--- What is left of a path leads to the growth's first digests, beside those of the trees. The shared range, with the place,
--- is one of both, and the evaluations of both roots go up from one digest there.
-pub record IsGrowth {D V A : _} (H : List ℕ → List ℕ) (trees : Trees D V A) (place : ℕ) (d : Descent) (growth : Growth D) : Type 0 where
-  pub roots : roots_down H d.known d.old_count d.range.count d.digests ≡ Some (growth.old.first, growth.new.first)
-  pub around : IsAround (leaves_from place 1) growth.shared
-  pub in_old : IsPart d.range.start d.old_count growth.shared.start growth.shared.count
-  pub in_new : IsPart d.range.start d.range.count growth.shared.start growth.shared.count
-  pub digest : List ℕ
-  pub old : IsBesideTree H trees.old (PlacedOnGrowth H trees place d) (digest ≡ root_at H trees.old growth.shared) (leaves_from d.range.start d.old_count) growth.old
-  pub new : IsBesideTree H trees.new (PlacedOnGrowth H trees place d) (digest ≡ root_at H trees.new growth.shared) d.range growth.new

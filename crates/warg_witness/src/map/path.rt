@@ -59,7 +59,8 @@ pub(crate) fn meet_on_path<D: SupportedDigest>(
         (proof_value D.digest first.entry.peers.now first.entry.leaf (last_bits key.now 256)
         ≡ proof_value D.digest second.entry.peers.now second.entry.leaf (last_bits key.now 256) → ⊥)
         (λ p.
-        MeetsOnPath D.digest first.entry.peers.now first.entry.leaf second.entry.peers.now second.entry.leaf (last_bits key.now 256) p) }
+        MeetsOnPath D.digest (first.entry.peers.now, first.entry.leaf) (second.entry.peers.now, second.entry.leaf)
+        (last_bits key.now 256) p) }
 {
     let mut climb = Climb::new(first.leaf, second.leaf);
     let mut empty = D::empty_tree(0);

@@ -1,129 +1,168 @@
-//! The evaluation of a consistency path and the trees over the old and the new entries, side by side.
+//! Where the evaluation of a consistency path diverges from the trees over the old and the new entries.
 
-ghost use Rattle.std.specs.Prelude.{◌≡◌, ◌+◌, ◌<◌, ◌≤◌, length, reverse, None, MatchOption};
-ghost use Rattle.warg_log.specs.Ranges.{leaves_from, IsAligned};
-ghost use Rattle.warg_paths.specs.Paths.{roots_down};
+ghost use Rattle.std.specs.Prelude.{◌≡◌, ℕ, ◌+◌, ◌-◌, ◌<◌, ◌≤◌, List, ◌∷◌, length, reverse, Option, None, MatchOption};
+ghost use Rattle.warg_log.specs.Tree.{front_of};
+ghost use Rattle.warg_log.specs.Ranges.{leaves_from, front_part, rest_part, IsAligned};
 ghost use Rattle.warg_witness.specs.Ranges.{IsAround};
-ghost use Rattle.warg_witness.specs.Private.Divergence.{root_at};
-ghost use Rattle.warg_witness.specs.Private.Turns.{IsUp};
-ghost use Rattle.warg_witness.specs.Private.Meeting.{descent, whole_descent, growth_from, LeadsOver, IsGrowth, IsTreeDivergence};
+ghost use Rattle.warg_witness.specs.Private.Divergence.{root_at, AreApart};
+ghost use Rattle.warg_witness.specs.Private.Meeting.{descent, whole_descent, LeadsOver, IsTreeDivergence};
 
-use crate::divergence::{Climb, Divergence};
+use crate::divergence::{Branches, Divergence};
 use crate::plain::plain_digest;
 use crate::trees::{Trees, divergence_below};
 use std::alloc::Allocator;
 use warg_crypto::{Hash, SupportedDigest, VisitBytes};
-use warg_log::{GREATEST_LENGTH, LeafRange, LogBuilder};
+use warg_log::{GREATEST_LENGTH, LeafRange, LogBuilder, VecLog};
 use warg_paths::roots_of_subproof;
 
-// The evaluation of a path beside both trees, as far as it has come up from a range for which the path has one digest.
-#[derive(Drop)]
-struct Growth<D> {
-    shared: LeafRange,
-    // The old root and the old tree's, and the new root and the new tree's.
-    old: Climb<D>,
-    new: Climb<D>,
-}
-
-impl<D: SupportedDigest> Growth<D> {
-    // One branch up in both: on the right of the digests beside them and of the trees' over ranges, or on the left.
-    fn up<V: VisitBytes, A: Allocator>(
-        self,
-        trees: &Trees<D, V, A>,
-        right: bool,
-        old_beside: &Hash<D>,
-        old_range: &LeafRange,
-        new_beside: &Hash<D>,
-        new_range: &LeafRange,
-    ) -> Growth<D>
-        requires old_aligned { IsAligned old_range.now.start old_range.now.count }
-        requires old_within { old_range.now.start + old_range.now.count ≤ length trees.now.old }
-        requires new_aligned { IsAligned new_range.now.start new_range.now.count }
-        requires new_within { new_range.now.start + new_range.now.count ≤ length trees.now.new }
-        ensures shared { result.shared ≡ self.shared }
-        ensures old { IsUp D.digest right self.old old_beside.now
-            (root_at D.digest trees.now.old old_range.now) result.old }
-        ensures new { IsUp D.digest right self.new new_beside.now
-            (root_at D.digest trees.now.new new_range.now) result.new }
-    {
-        let old_plain = plain_digest(&trees.old, old_range);
-        let new_plain = plain_digest(&trees.new, new_range);
-        Growth {
-            shared: self.shared,
-            old: self.old.up(right, old_beside, &old_plain),
-            new: self.new.up(right, new_beside, &new_plain),
-        }
-    }
-}
-
-// Both evaluations at the shared range, from its digest in the path.
-fn growth_at<D: SupportedDigest, V: VisitBytes, A: Allocator>(
-    trees: &Trees<D, V, A>,
-    shared: &LeafRange,
-    digest: &Hash<D>,
-) -> Growth<D>
-    requires aligned { IsAligned shared.now.start shared.now.count }
-    requires in_old { shared.now.start + shared.now.count ≤ length trees.now.old }
-    requires in_new { shared.now.start + shared.now.count ≤ length trees.now.new }
-    ensures { result ≡ growth_from D.digest trees.now shared.now digest.now }
+// The branch of an evaluation over the digests of two parts of a range, and that of a tree, where these are two.
+fn branches_apart<D: SupportedDigest, V: VisitBytes, A: Allocator>(
+    tree: &VecLog<D, V, A>,
+    left: &Hash<D>,
+    right: &Hash<D>,
+    front: &LeafRange,
+    rest: &LeafRange,
+) -> Option<Branches<D>>
+    requires front_aligned { IsAligned front.now.start front.now.count }
+    requires front_within { front.now.start + front.now.count ≤ length tree.now }
+    requires rest_aligned { IsAligned rest.now.start rest.now.count }
+    requires rest_within { rest.now.start + rest.now.count ≤ length tree.now }
+    ensures { MatchOption result ((left.now ≡ root_at D.digest tree.now front.now)
+        × (right.now ≡ root_at D.digest tree.now rest.now))
+        (AreApart left.now right.now (root_at D.digest tree.now front.now) (root_at D.digest tree.now rest.now)) }
 {
-    Growth {
-        shared: *shared,
-        old: Climb::new(digest.copied(), plain_digest(&trees.old, shared)),
-        new: Climb::new(digest.copied(), plain_digest(&trees.new, shared)),
+    let first = plain_digest(tree, front);
+    let second = plain_digest(tree, rest);
+    prove_eq!(left.len(), first.len());
+    if (left, right) == (&first, &second) {
+        return None;
+    }
+    Some(Branches {
+        right: false,
+        first: left.copied(),
+        first_beside: right.copied(),
+        second: first,
+        second_beside: second,
+    })
+}
+
+fn copy_of<D>(root: &Option<Hash<D>>) -> Option<Hash<D>>
+    ensures { result ≡ root.now }
+{
+    match root {
+        Some(root) => Some(root.copied()),
+        None => None,
     }
 }
 
-// The evaluation and both trees up to a range, from the part that has the leaf at `place` and one digest in the path.
-// None where the path leads to no roots over the range.
-#[tactic(auto, using(crate::proofs::RangeLemmas::parts, crate::proofs::GrowthLemmas::lacking))]
-fn climb_growth<D: SupportedDigest, V: VisitBytes, A: Allocator>(
+// Where the old leaves end in the first part of a range: the branches over it, of the evaluation and of the new tree, if they
+// differ. Else the evaluation goes on to the roots of both trees over that part.
+#[tactic(auto, using(crate::proofs::RangeLemmas::parts))]
+fn apart_in_front<D: SupportedDigest, V: VisitBytes, A: Allocator>(
+    trees: &Trees<D, V, A>,
+    old_root: &Option<Hash<D>>,
+    old_count: usize,
+    range: &LeafRange,
+    top: &Hash<D>,
+    below: &[Hash<D>],
+) -> Option<Branches<D>>
+    requires some { 0 < old_count }
+    requires in_front { old_count ≤ front_of range.now.count }
+    requires more { 1 < range.now.count }
+    requires aligned { IsAligned range.now.start range.now.count }
+    requires in_new { range.now.start + range.now.count ≤ length trees.now.new }
+    requires leads { LeadsOver D.digest trees.now
+        (descent old_root.now old_count range.now (top.now ∷ reverse below.now)) }
+    ensures { MatchOption result
+        (LeadsOver D.digest trees.now (descent old_root.now old_count (front_part range.now) (reverse below.now)))
+        (λ b. (place : ℕ) → IsTreeDivergence D.digest trees.now place
+        (descent old_root.now old_count range.now (top.now ∷ reverse below.now)) (Divergence.Branch b)) }
+{
+    let (front, rest) = range.split();
+    let led = roots_of_subproof(copy_of(old_root), old_count, front.count, below);
+    let Some((_, new)) = led else { unreachable!() };
+    branches_apart(&trees.new, &new, top, &front, &rest)
+}
+
+// Where the old leaves end in the rest of a range: the branches over it, of the evaluation and of one of the trees, if they
+// differ. Else both trees have one root over the first part, and the evaluation goes on to their roots over the rest.
+#[tactic(auto, using(crate::proofs::RangeLemmas::parts))]
+fn apart_in_rest<D: SupportedDigest, V: VisitBytes, A: Allocator>(
+    trees: &Trees<D, V, A>,
+    old_count: usize,
+    range: &LeafRange,
+    top: &Hash<D>,
+    below: &[Hash<D>],
+) -> Option<Branches<D>>
+    requires in_rest { front_of range.now.count < old_count }
+    requires order { old_count < range.now.count }
+    requires more { 1 < range.now.count }
+    requires aligned { IsAligned range.now.start range.now.count }
+    requires in_old { range.now.start + old_count ≤ length trees.now.old }
+    requires in_new { range.now.start + range.now.count ≤ length trees.now.new }
+    requires leads { LeadsOver D.digest trees.now (descent None old_count range.now (top.now ∷ reverse below.now)) }
+    ensures { MatchOption result ((root_at D.digest trees.now.old (front_part range.now)
+        ≡ root_at D.digest trees.now.new (front_part range.now)) × LeadsOver D.digest trees.now
+        (descent None (old_count - front_of range.now.count) (rest_part range.now) (reverse below.now)))
+        (λ b. (known : Option (List ℕ)) (place : ℕ) → IsTreeDivergence D.digest trees.now place
+        (descent known old_count range.now (top.now ∷ reverse below.now)) (Divergence.Branch b)) }
+{
+    let (front, rest) = range.split();
+    let old_rest = LeafRange::new(rest.start, old_count - front.count);
+    let Some((old, new)) = roots_of_subproof(None, old_rest.count, rest.count, below) else {
+        unreachable!()
+    };
+    if let Some(apart) = branches_apart(&trees.old, top, &old, &front, &old_rest) {
+        return Some(apart);
+    }
+    branches_apart(&trees.new, top, &new, &front, &rest)
+}
+
+// Where the evaluation of what is left of a path, which leads to the roots of both trees over a range, diverges from one of
+// them on the way down, or else both trees diverge on the way to the leaf at `place`.
+#[tactic(auto, using(crate::proofs::RangeLemmas::parts, crate::proofs::GrowthLemmas::downs))]
+fn divergence_over<D: SupportedDigest, V: VisitBytes, A: Allocator>(
     trees: &Trees<D, V, A>,
     place: usize,
-    old_root: Option<Hash<D>>,
-    old_length: usize,
+    old_root: &Option<Hash<D>>,
+    old_count: usize,
     range: &LeafRange,
     path: &[Hash<D>],
-) -> Option<Growth<D>>
-    requires order { old_length ≤ range.now.count }
-    requires around { IsAround (leaves_from place 1) (leaves_from range.now.start old_length) }
+) -> Divergence<D>
+    requires order { old_count ≤ range.now.count }
+    requires around { IsAround (leaves_from place 1) (leaves_from range.now.start old_count) }
     requires aligned { IsAligned range.now.start range.now.count }
-    requires in_old { range.now.start + old_length ≤ length trees.now.old }
+    requires in_old { range.now.start + old_count ≤ length trees.now.old }
     requires in_new { range.now.start + range.now.count ≤ length trees.now.new }
-    ensures { let d = descent old_root old_length range.now (reverse path.now) in
-        MatchOption result
-        (roots_down D.digest old_root old_length range.now.count (reverse path.now) ≡ None)
-        (IsGrowth D.digest trees.now place d) }
+    requires leads { LeadsOver D.digest trees.now (descent old_root.now old_count range.now (reverse path.now)) }
+    ensures { IsTreeDivergence D.digest trees.now place
+        (descent old_root.now old_count range.now (reverse path.now)) result }
 {
-    if old_length == range.count {
-        let (root, _) = roots_of_subproof(old_root, range.count, range.count, path)?;
-        return Some(growth_at(trees, range, &root));
+    if old_count == range.count {
+        return divergence_below(trees, range, place);
     }
-    let (top, below) = path.split_last()?;
+    let Some((top, below)) = path.split_last() else {
+        unreachable!()
+    };
     let (front, rest) = range.split();
-    if old_length <= front.count {
-        let growth = climb_growth(trees, place, old_root, old_length, &front, below)?;
-        let new_rest = plain_digest(&trees.new, &rest);
-        return Some(Growth {
-            shared: growth.shared,
-            old: growth.old,
-            new: growth.new.up(false, top, &new_rest),
-        });
+    if old_count <= front.count {
+        if let Some(apart) = apart_in_front(trees, old_root, old_count, range, top, below) {
+            return Divergence::Branch(apart);
+        }
+        return divergence_over(trees, place, old_root, old_count, &front, below);
     }
-    let old_count = old_length - front.count;
-    let old_rest = LeafRange::new(rest.start, old_count);
+    if let Some(apart) = apart_in_rest(trees, old_count, range, top, below) {
+        return Divergence::Branch(apart);
+    }
     if place < rest.start {
-        let (old, new) = roots_of_subproof(None, old_count, rest.count, below)?;
-        let growth = growth_at(trees, &front, top);
-        return Some(growth.up(trees, false, &old, &old_rest, &new, &rest));
+        return divergence_below(trees, &front, place);
     }
-    let growth = climb_growth(trees, place, None, old_count, &rest, below)?;
-    Some(growth.up(trees, true, top, &front, top, &front))
+    divergence_over(trees, place, &None, old_count - front.count, &rest, below)
 }
 
 /// Where the evaluation of a path that leads to the roots of both trees diverges from one of them, or else both trees
-/// diverge on the way to the leaf at `place`. It hashes each branch of the evaluation once, and each of the trees' beside
-/// it.
+/// diverge on the way to the leaf at `place`. Down to there it hashes the evaluation's branches once more for each of its
+/// digests, and each of the trees' beside it.
 #[tactic(auto, using(crate::proofs::RangeLemmas::wholes))]
 pub(super) fn growth_divergence<D: SupportedDigest, V: VisitBytes, A: Allocator>(
     trees: &Trees<D, V, A>,
@@ -137,17 +176,7 @@ pub(super) fn growth_divergence<D: SupportedDigest, V: VisitBytes, A: Allocator>
     ensures { IsTreeDivergence D.digest trees.now place (whole_descent D.digest trees.now path.now)
         result }
 {
-    let (old_root, old_length) = (trees.old.root(), trees.old.length());
+    let old_root = Some(trees.old.root());
     let whole = LeafRange::new(0, trees.new.length());
-    let growth = climb_growth(trees, place, Some(old_root), old_length, &whole, path);
-    let Some(Growth { shared, old, new }) = growth else {
-        unreachable!()
-    };
-    if let Divergence::Branch(_) = &old.divergence {
-        return old.divergence;
-    }
-    if let Divergence::Branch(_) = &new.divergence {
-        return new.divergence;
-    }
-    divergence_below(trees, &shared, place)
+    divergence_over(trees, place, &old_root, trees.old.length(), &whole, path)
 }

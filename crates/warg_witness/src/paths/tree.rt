@@ -39,10 +39,10 @@ fn leads<D: SupportedDigest>(path: &[Hash<D>], old_length: usize, new_length: us
 /// tree over the new entries, at one range on the way to the old length's end; what it takes in the old tree (first)
 /// and in the new one (second) at one range of both.
 ///
-/// It hashes each leaf and branch of both trees once; besides, at most three times each branch of the path's
-/// evaluation, and at most twice more each branch of both trees on the way from the first entry that differs up to the
-/// roots, or beside that way. It fails only if allocation fails. An entry of more than `usize::MAX` bytes counts as
-/// that, and so do more than 2^63 entries.
+/// It hashes each leaf and branch of both trees once; besides, twice each branch of the path's evaluation, and where the
+/// claim is false at most as many branches more as the square of the path's length, and at most twice more each branch of
+/// both trees on the way from the first entry that differs up to the roots, or beside that way. It fails only if
+/// allocation fails. An entry of more than `usize::MAX` bytes counts as that, and so do more than 2^63 entries.
 pub fn witness_tree<D: SupportedDigest, V: VisitBytes, A: Allocator + Copy>(
     alloc: A,
     path: &[Hash<D>],
