@@ -27,10 +27,6 @@ ROOM = 1 << 32
 TOOLCHAIN = ["--toolchain", f"{kit.KIT}/toolchain"]
 
 
-class Failed(Exception):
-    """Why a crate did not come out."""
-
-
 def sum_of(name, listed):
     """Returns a sum of all that a crate's proof reads: the kit, and the files of the crate and of those below it."""
     read = [(kit.KIT / "KIT-ID").read_bytes()]
@@ -64,7 +60,7 @@ class Crate:
         self.seconds += seconds
         self.said.append(said)
         if status:
-            raise Failed(f"status {status} of {pathlib.Path(words[0]).name} {words[1]}")
+            raise RuntimeError(f"status {status} of {pathlib.Path(words[0]).name} {words[1]}")
         return said
 
     def build(self, *more):
@@ -72,10 +68,10 @@ class Crate:
         words = [kit.RATTLE, "build", *kit.words(self.name, self.libraries), "--jobs", "1", "--links", f"{self.name}="]
         said = self.done([*words, "--empty-contracts", *self.cpu, *more])
         if kit.EMPTY.search(said):
-            raise Failed("a contract that no call can meet")
+            raise RuntimeError("a contract that no call can meet")
         verdicts = re.findall("^logic=.*", said, re.M)
         if len(verdicts) != 1 or not VERDICT.fullmatch(verdicts[0]):
-            raise Failed(f"a verdict that may rest on more: {verdicts}")
+            raise RuntimeError(f"a verdict that may rest on more: {verdicts}")
 
     def prove(self):
         """Proves the crate, and builds what it has."""
@@ -101,7 +97,7 @@ def prove_all(crates, jobs, notes):
             try:
                 if not lacks:
                     crate.prove()
-            except Failed as failed:
+            except RuntimeError as failed:
                 why = str(failed)
         with printing:
             ended.append(crate)

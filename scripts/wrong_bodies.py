@@ -2,14 +2,14 @@
 """Shows that the prover refuses each crate's wrong bodies, crates/NAME/wrong-bodies/*.edit and must-fail/*.edit.
 
 An edit is a line 'file: src/lib.rt' and then pairs of lines 'old: TEXT' and 'new: TEXT', each old text standing there once; 'old
-line: TEXT' stands for a whole line, and after a line 'behind: TEXT' the first one behind that text is meant. One check of a copy of
-the crate carries a round of edits, one a proof at most, and proves the functions that they change alone: a function's proof rests
-on its callees' contracts and not on their proofs, so a hole stands for that of each other function. An edit is refused exactly if
-the check names an open goal, or an error in the proof files, of the function that it changes, or of one in a cycle of calls with
-it, as these have one proof. What waits for a callee, lacks a name or was cut off goes to the next round, and what no round has
-judged goes alone, over the whole crate. What is let through fails, and so does an edit that changes no one function. The libraries
-below are those that rt ci or rt check has left. Edits in wrong-bodies/planted change no meaning, and show that this script can
-fail: each must come out as let through, and waits_* wait first for the broken function that it calls.
+line: TEXT' stands for a whole line, and after a line 'behind: TEXT' the first one behind that text is meant. One check of a copy
+of the crate carries a round of edits, one a proof at most, and proves the functions that they change alone: a function's proof
+rests on its callees' contracts and on the statements of lemmas, not on their proofs, so one hole stands for all of these. An edit
+is refused exactly if the check names an open goal, or an error in the proof files, of the function that it changes, or of one in
+a cycle of calls with it, as these have one proof. What waits for a callee, lacks a name or was cut off goes to the next round,
+and what no round has judged goes alone, over the whole crate. What is let through fails, and so does an edit that changes no one
+function. The libraries below are those that rt ci or rt check has left. Edits in wrong-bodies/planted change no meaning, and show
+that this script can fail: each must come out as let through, and waits_* wait first for the broken function that it calls.
 
 Usage: wrong_bodies.py [--crate NAME] [--only WORD]
 """
@@ -33,7 +33,10 @@ RENAMED = "its goals have other names"
 WAITS = re.compile(r"which (is|are) not proved")
 # What a check says of a function whose own proof has no open goal; the second and the third, of one beside holes.
 PROVED = ("proved", "no holes", "depends on a hole in")
-HOLE = "use {0}.Statement.{{statement}}\n\npub {1}_spec : {{M : Type 1}} → statement M\n{1}_spec = ?\n"
+# A function's proof that isn't looked at, by the hole that stands for all of them, and a lemma in a file, with its own.
+PROOF = "use {0}.Statement.{{statement}}\n\npub {1}_spec : {{M : Type 1}} → statement M\n{1}_spec = absurd let_through\n"
+LEMMA = re.compile(r"""^(?P<said>(?P<room>\ *)(?:pub\ )?(?P<name>[^\s:(){}=]+)(?:\ \{[^}]*\})?\ :.*\n(?:(?P=room)(?:\ +\S|[)}\]]).*\n)*)
+(?:(?P=room)unfolding\ .*\n(?:(?P=room)\ +\S.*\n)*)?(?:(?P=room)(?P=name)\ .*\n(?:(?P=room)(?:\ +\S|[)}\]]).*\n|\n+(?=(?P=room)\ +\S))*)+""", re.M | re.X)
 CYCLE = re.compile(r"#\[cycle\((\w+)\)\]\s*(?:#\[[^\n]*\]\s*|//[^\n]*\n\s*)*(?:pub(?:\(\w+\))? )?\Z")
 LACKS_A_GOAL = re.compile(r"^(?:\./)?proofs/(\S+)/\w+\.antt:\d+:\d+: error: `[^`]+`: `goal\.([^`]+)`: module", re.M)
 ASKS = re.compile(r"^help: `Goals` has no `([^`]+)`; rattle asks for ([^;]*)", re.M)
@@ -181,12 +184,9 @@ class Crate:
         self.found = sorted((it for it in found if only in it.path.stem), key=lambda it: not it.is_planted)
         for edit in (it for it in self.found if applied(it, self.texts)):
             own = self.function_of(edit)
-            edit.functions = [own, *self.beside(own)] if own else []
+            beside = (it for cycle in self.cycles.values() if own in cycle for it in cycle if it != own)
+            edit.functions = [own, *beside] if own else []
         self.edits = [it for it in self.found if it.functions]
-
-    def beside(self, name):
-        """Returns the functions in a cycle of calls with one, besides itself."""
-        return [it for cycle in self.cycles.values() if name in cycle for it in cycle if it != name]
 
     def name_of(self, file, function):
         """Returns the name by which a check knows a function of a file: a type's own stand where the type does."""
@@ -210,9 +210,16 @@ class Crate:
         return found.pop() if len(found) == 1 else ""
 
     def leave_out(self, proofs, edits):
-        """Puts a hole in place of each proof, in a copy's folder of them, but those of recursive functions and of those that the
+        """Puts the hole in place of each proof, in a copy's folder of them, but those of recursive functions and of those that the
         edits change."""
         changed = {it for edit in edits for it in edit.functions}
+        hole = f"use Rattle.{self.name}.proofs.LetThrough.{{let_through}}\n"
+        for file in [it for it in proofs.rglob("*.antt") if it.stem not in ("Answers", "Invariants", "Proof", "Lib")]:
+            file.write_text(hole + LEMMA.sub(r"\g<said>\g<room>\g<name> = absurd let_through\n", file.read_text()))
+        proofs.mkdir(exist_ok=True)
+        proofs.joinpath("LetThrough.antt").write_text("pub let_through : ⊥\nlet_through = ?\n")
+        with proofs.joinpath("Lib.antt").open("a") as declared:
+            declared.write("pub mod LetThrough\n")
         for it, name in (it for found in self.functions.values() for it in found):
             parts = name.split("::")[1:]
             folder = proofs.joinpath(*parts)
@@ -220,7 +227,7 @@ class Crate:
             if not is_recursive and not it.is_of_trait and name not in changed:
                 shutil.rmtree(folder, ignore_errors=True)
                 folder.mkdir(parents=True)
-                folder.joinpath("Proof.antt").write_text(HOLE.format(".".join(("Rattle", self.name, "proofs", *parts)), it.name))
+                folder.joinpath("Proof.antt").write_text(hole + PROOF.format(".".join(("Rattle", self.name, "proofs", *parts)), it.name))
 
     def check(self, edits, is_whole=False):
         """Checks a copy of the crate with these edits: the whole crate, or the functions that they change alone."""
@@ -285,13 +292,10 @@ class Crate:
         faults = [f"{it.path.stem}: {lost}" for it in self.found if it not in self.edits]
         faults += [f"{it.path.stem}: {it.fault()}" for it in self.edits if it.fault()]
         wrong = [it for it in self.edits if not it.is_planted]
-        print(f"{self.name}: {self.refused()} of {len(wrong)} wrong bodies refused, {len(self.edits) - len(wrong)} planted,"
+        self.refused = sum(it.told[-1] == "refused" for it in self.edits)
+        print(f"{self.name}: {self.refused} of {len(wrong)} wrong bodies refused, {len(self.edits) - len(wrong)} planted,"
               f" {self.checks} checks, {self.seconds / 60:.1f} min", *(f"FAILED {self.name}: {it}" for it in faults), sep="\n", flush=True)
         return faults
-
-    def refused(self):
-        """Returns how many of the edits are refused."""
-        return sum(it.told[-1] == "refused" for it in self.edits)
 
 
 def main():
@@ -305,7 +309,7 @@ def main():
     with tempfile.TemporaryDirectory(prefix="wrong-bodies-kept-") as room:
         with concurrent.futures.ThreadPoolExecutor(len(os.sched_getaffinity(0))) as pool:
             failed = sum(map(len, pool.map(lambda it: it.try_all(room), crates)))
-    refused, seconds = sum(it.refused() for it in crates), time.monotonic() - began
+    refused, seconds = sum(it.refused for it in crates), time.monotonic() - began
     print(f"wrong bodies: {refused} refused, {failed} failed, {seconds:.0f} seconds")
     sys.exit(bool(failed))
 
