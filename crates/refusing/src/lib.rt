@@ -1,4 +1,4 @@
-//! An allocator for tests, which grants its first growths and refuses each later one.
+//! An allocator for tests: it grants its first allocations and growths, and refuses each later one.
 #![tactic(auto)]
 
 use std::alloc::{AllocError, Allocator};
@@ -23,7 +23,7 @@ pub struct Refusing<B: Allocator> {
 }
 
 impl<B: Allocator> Refusing<B> {
-    /// An allocator that grants `growths` growths out of `inner`.
+    /// Returns an allocator that passes `growths` allocations and growths on to `inner`, and no more.
     pub fn after(inner: B, growths: u64) -> Refusing<B> {
         let growths = Growths {
             left: growths,
@@ -35,7 +35,7 @@ impl<B: Allocator> Refusing<B> {
         }
     }
 
-    /// The growths that it still grants.
+    /// Returns how many growths it still grants.
     pub fn left(&self) -> u64 {
         self.growths.get().left
     }

@@ -1,5 +1,5 @@
 -- The steps of a verdict.
-use Rattle.std.proofs.Common.{◌≡◌, ◌≢◌, ℕ, ◌&&◌, Bool, true, false, nat_eq, List, Option, Some, None, Result, Ok, Err, length, get_or, refl, sym, ap, ◌∙◌, ⊎_elim, ◌<◌, ◌≤◌}
+use Rattle.std.proofs.Common.{◌≡◌, ◌≢◌, ℕ, ◌&&◌, Bool, true, nat_eq, List, Option, Some, None, Result, Ok, Err, length, get_or, refl, sym, ap, ◌∙◌, ⊎_elim, ◌<◌, ◌≤◌}
 use Rattle.std.specs.Prelude.{slice_get}
 use Rattle.std.specs.Cmp.Lexicographic.{pointwise, same_text}
 use Rattle.std.proofs.lemmas.Option.{slice_get_read, slice_get_past}
@@ -33,14 +33,6 @@ not_refused holds e is = absurd cc
 
 pub not_decoding : (e : DecodeError) → ◌≢◌ {A = Result Bool CheckError} (Err fault.NoSuchProof) (Err (fault.Decode e))
 not_decoding e is = absurd cc
-
--- an evaluation that went well
-pub evaluated : (root found : List ℕ) (holds : Bool) → holds ≡ (pointwise nat_eq found root && true)
-    → holds ≡ is_root root (Ok found)
-evaluated root found holds same = rw same (⊎_elim
-    (λ (t : pointwise nat_eq found root ≡ true). rw t refl)
-    (λ (t : pointwise nat_eq found root ≡ false). rw t refl)
-    (cases_Bool (pointwise nat_eq found root)))
 
 -- the proof at a place
 pub at_place : {P : Type 0} (all taken : List P) (at : ℕ) (proof : P) → taken ≡ all → at < length taken

@@ -1,5 +1,5 @@
-//! Convictions: out of evidence with a true verdict for an untrue claim, the two byte strings of one digest that show whoever
-//! gave it to have lied.
+//! Convictions: from evidence whose verdict is true although its claim is false, two byte strings of one digest, which prove
+//! that whoever gave it lied.
 
 ghost use Rattle.std.specs.Prelude.{◌≡◌, ◌↔◌, Bool, true, Ok, Result, IsTrue, IfOk, map};
 ghost use Rattle.warg_protobuf.specs.Reading.{Answers};

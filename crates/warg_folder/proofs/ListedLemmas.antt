@@ -1,6 +1,6 @@
 -- The names that a folder in memory lists.
 use Rattle.std.proofs.Common.{◌≡◌, ◌≢◌, inl, inr, ℕ, ◌+◌, ◌<◌, List, [], ◌∷◌, ◌++◌, length, get_or, map, true, Some, IsSome, nat_eq, sym, ◌∙◌, ap, subst, arith, string_bytes}
-use Rattle.std.specs.List.{All, AllPairs, Contains, starts_with}
+use Rattle.std.specs.List.{All, Contains, starts_with}
 use Rattle.std.proofs.lemmas.List.Quantifiers.{all_pairs_push}
 use Rattle.std.proofs.lemmas.Bool.{cases_lt}
 use Rattle.std.proofs.lemmas.List.{get_or-map, get_or_default, length-map, map-append}
@@ -8,13 +8,11 @@ use Rattle.std.proofs.lemmas.List.Elements.{All-push, Contains-append_left, Cont
 use Rattle.std.specs.declared.string.String.{String}
 use Rattle.std.specs.declared.alloc.Global.{Global}
 use Rattle.warg_folder.specs.declared.memory.Call.{Call}
+use Rattle.warg_folder.specs.Files.{AreApart}
 use Rattle.warg_folder.specs.Memory.{seen_after, name_put}
 use Rattle.warg_folder.proofs.MemoryLemmas.{was_put}
 
--- no two of the names are one
-abbrev pub AreApart : List (String Global) → Type 0
-AreApart names = AllPairs (λ (a b : String Global). string_bytes a ≢ string_bytes b) names
-
+-- one name more
 pub apart_more : (names new : List (String Global)) (x : String Global) → new ≡ names ++ x ∷ [] → AreApart names
     → (Contains (map (λ name. string_bytes name) names) (string_bytes x) → ⊥) → AreApart new
 apart_more names new x is apart other =

@@ -4,10 +4,7 @@ use Rattle.std.specs.Prelude.{OnOk, Ok, Err}
 use Rattle.warg_folder.specs.Files.{Files}
 use Rattle.warg_folder.specs.Moments.{Only}
 use Rattle.warg_folder.specs.Names.{mark, is_staged}
-use Rattle.warg_folder.specs.Commits.{without_staged, opened_by, opened, IsStaging, NothingStaged}
-
-pub without_mark : (s : Files) → without_staged s mark ≡ None
-without_mark s = refl
+use Rattle.warg_folder.specs.Commits.{opened_by, opened, IsStaging, NothingStaged}
 
 opened_mark_by : (s : Files) (o : Option (List ℕ)) → opened_by o s mark ≡ None
 opened_mark_by s None = refl
@@ -36,9 +33,6 @@ opened_by_none s (Some text) n is = rw is refl
 -- nothing is staged once a folder has been opened, or what was staged is dropped
 pub opened_empty : (s : Files) → NothingStaged (opened s)
 opened_empty s n is = opened_by_none s (s mark) n is
-
-pub without_empty : (s : Files) → NothingStaged (without_staged s)
-without_empty s n is = rw is refl
 
 pub empty_by : {T E : Type 0} (r : Result T E) (s t : Files) → NothingStaged s → OnOk r (t ≡ s)
     → OnOk r (NothingStaged t)

@@ -7,7 +7,7 @@ use Rattle.std.proofs.lemmas.Bool.{cases_Bool}
 use Rattle.std.proofs.lemmas.List.Elements.{All-contains, All-map}
 use Rattle.std.specs.declared.string.String.{String}
 use Rattle.std.specs.declared.alloc.Global.{Global}
-use Rattle.warg_folder.specs.Files.{Files, put, without, moved, SameBut, Either}
+use Rattle.warg_folder.specs.Files.{Files, put, without, moved, Either}
 use Rattle.warg_folder.specs.Names.{checkpoint, state, mark, staged, is_staged, is_own, is_served}
 use Rattle.warg_folder.specs.Commits.{without_staged, is_signed, checkpoint_after, told, published, finished, opened_by, opened, committed, IsBeside, IsBetween}
 use Rattle.warg_folder.specs.Private.Steps.{IsRemoving, IsMoving, IsPut}
@@ -27,19 +27,6 @@ other_than_served : (m n : List ℕ) → is_served m ≡ true → is_served n �
 other_than_served m n is isnt e = apart (sym is ∙ ap is_served e ∙ isnt)
 
 -- Staging.
-
-pub rebased : (s c d : Files) → IsBeside s c → IsBeside s d → IsBeside c d
-rebased s c d one two = record {
-  outside = λ n isnt. two.outside n isnt ∙ sym (one.outside n isnt);
-  no_mark = two.no_mark;
-}
-
-pub beside_written : (s d c : Files) (name : List ℕ) → is_served name ≡ true → IsBeside s d → SameBut (staged name) d c
-    → IsBeside s c
-beside_written s d c name is was same = record {
-  outside = λ n isnt. same n (other_than (staged name) n refl isnt) ∙ was.outside n isnt;
-  no_mark = same mark (mark_not_staged_file name is) ∙ was.no_mark;
-}
 
 pub beside_opened : (s c : Files) → s mark ≡ None → IsBeside s c → opened c ≡ opened s
 beside_opened s c none was = ap (λ (o : Option (List ℕ)). opened_by o c) was.no_mark ∙ without_same c s was.outside
@@ -286,9 +273,6 @@ removing_idle s c none was = record {
   outside = was.outside;
   no_mark = ⊎_elim (λ e. e) (λ (same, gone). same ∙ none) was.mark;
 }
-
-pub beside_removing : (s c : Files) → IsBeside s c → IsRemoving s c
-beside_removing s c was = record { outside = was.outside; mark = inl was.no_mark }
 
 -- Putting the text.
 

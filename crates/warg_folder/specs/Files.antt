@@ -1,5 +1,7 @@
 -- What stands in a folder, and what a call makes of it.
-use Rattle.std.specs.Prelude.{◌≡◌, ◌⊎◌, ℕ, nat_eq, List, [], ◌∷◌, Option, Some, None, if◌then◌else◌}
+use Rattle.std.specs.Prelude.{◌≡◌, ◌≢◌, ◌⊎◌, ℕ, nat_eq, List, [], ◌∷◌, Option, Some, None, if◌then◌else◌, AllPairs, string_bytes}
+use Rattle.std.specs.declared.alloc.Global.{Global}
+use Rattle.std.specs.declared.string.String.{String}
 use Rattle.std.specs.Cmp.Lexicographic.{pointwise}
 use Rattle.std.specs.Option.{option_or}
 
@@ -35,3 +37,7 @@ Either change old new = (new ≡ old) ⊎ (new ≡ change old)
 abbrev pub IsNameOf : List File → List ℕ → Type 0
 IsNameOf [] n = ⊥
 IsNameOf (f ∷ fs) n = (f.0 ≡ n) ⊎ IsNameOf fs n
+
+-- No two of the names are one.
+abbrev pub AreApart : List (String Global) → Type 0
+AreApart names = AllPairs (λ (a b : String Global). string_bytes a ≢ string_bytes b) names

@@ -1,8 +1,8 @@
 //! A folder of files: what a reader finds in it, and what a crash may leave.
 
-ghost use Rattle.std.specs.Prelude.{◌≡◌, ◌≢◌, ◌≤◌, ◌+◌, List, ℕ, nat_eq, true, take, map, option_map, Err, IfOk, OnOk, IsSome, All, AllPairs, Contains, string_bytes};
+ghost use Rattle.std.specs.Prelude.{◌≡◌, ◌≢◌, ◌≤◌, ◌+◌, List, ℕ, nat_eq, true, take, map, option_map, Err, IfOk, OnOk, IsSome, All, Contains, string_bytes};
 ghost use Rattle.std.specs.List.{starts_with};
-ghost use Rattle.warg_folder.specs.Files.{Files, put, without, moved, SameBut, Either};
+ghost use Rattle.warg_folder.specs.Files.{Files, put, without, moved, SameBut, Either, AreApart};
 ghost use Rattle.warg_folder.specs.Moments.{Only, Within, Follows, Elapses, HasCause};
 
 use std::alloc::{AllocError, AllocFailed, Global};
@@ -87,8 +87,7 @@ pub trait Folder {
         ensures all { IsFaithful → IfOk result (λ names. (n : List ℕ) → IsSome (seen self.old n)
             → starts_with nat_eq n prefix.now ≡ true
             → Contains (map (λ name. string_bytes name) names.items) n) }
-        ensures once { IsFaithful → IfOk result (λ names.
-            AllPairs (λ a b. string_bytes a ≢ string_bytes b) names.items) }
+        ensures once { IsFaithful → IfOk result (λ names. AreApart names.items) }
         ensures seen { IsFaithful → seen self.new ≡ seen self.old }
         ensures crash { IsFaithful → Within (may_leave self.old) (may_leave self.new) }
         ensures time { IsFaithful → Elapses moment left_since may_leave self.old self.new }

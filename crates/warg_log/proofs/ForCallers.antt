@@ -1,5 +1,5 @@
 -- Lemmas for the proofs of the crates above, over public definitions alone.
-use Rattle.std.proofs.Common.{◌≡◌, ℕ, suc, ◌+◌, ◌-◌, ◌*◌, ◌^◌, ◌<◌, ◌≤◌, List, [], ◌∷◌, ◌++◌, length, Option, Some, None, Ok, IsSome, slice_index_or, refl, sym, arith, ◌⊎◌, ◌↔◌, ◌≢◌, get_or}
+use Rattle.std.proofs.Common.{◌≡◌, ℕ, suc, ◌+◌, ◌-◌, ◌*◌, ◌^◌, ◌<◌, ◌≤◌, List, [], ◌∷◌, ◌++◌, length, Option, Some, Ok, IsSome, slice_index_or, refl, sym, arith, ◌⊎◌, ◌↔◌, ◌≢◌, get_or}
 use Rattle.std.specs.List.{AllByRecursion}
 use Rattle.std.specs.Bool.{Decides}
 use Rattle.std.specs.Fmt.{decimal}
@@ -12,7 +12,7 @@ use Rattle.warg_log.specs.Nodes.{IsNode, ExistsAt, height_of, place_of, end_of, 
 use Rattle.warg_crypto.specs.Tree.{branch}
 use Rattle.warg_log.specs.Ranges.{Range, leaves_from, range_of, front_part, rest_part, IsAligned}
 use Rattle.warg_log.specs.Tree.{front_of, root_over, own_digest}
-use Rattle.warg_log.specs.Cut.{Evaluation, with_own, is_target, joined, Way, at_target, at_node, at_parts, top_of, cut_over, cut_root, old_over, IsFull}
+use Rattle.warg_log.specs.Cut.{Evaluation, with_own, is_target, joined, top_of, cut_over, cut_root, old_over, IsFull}
 use Rattle.warg_log.specs.Walks.{IsKnown, needed, needed_between}
 use Rattle.warg_log.specs.Consistency.{consistency, IsConsistent}
 use Rattle.warg_log.specs.Inclusion.{inclusion}
@@ -121,29 +121,6 @@ cut_old H e r target some = ways.ways_from e.target r.start (λ r way. IsBeside 
           rw (p (grind arith), q (grind arith))
           (sym (cuts.old_over-split H e.held r h more most (λ f. apart f ((ways.beside_decides e.target r).1 beside))));
     }) r.count some
-
--- a cut root is one of the digests
-joined_is_branch : (H : List ℕ → List ℕ) (p q : Option (List ℕ)) (r : List ℕ) → joined H p q ≡ Some r → (m : List ℕ)
-    × (H m ≡ r)
-joined_is_branch H (Some l) (Some m) r e = (1 ∷ l ++ m, let f : branch H l m ≡ r = cc in f)
-joined_is_branch H (Some l) None r e = absurd (cc)
-joined_is_branch H None q r e = absurd (cc)
-
-top_of-size : (H : List ℕ → List ℕ) (F : ℕ → Option (List ℕ)) (x : List ℕ) → ((m : List ℕ) → length (H m) ≡ 32)
-    → ((t : ℕ) (d : List ℕ) → F t ≡ Some d → length d ≡ 32) → length x ≡ 32 → (way : Way) (r : List ℕ)
-    → top_of H F x way ≡ Some r → length r ≡ 32
-unfolding top_of
-top_of-size H F x gives holds own at_target r e = let there : Some x ≡ Some r = e in let same : x ≡ r = cc in
-    rw (← same) own
-top_of-size H F x gives holds own (at_node t) r e = holds t r e
-top_of-size H F x gives holds own (at_parts misses left right) r e = let p = joined_is_branch H (top_of H F x left)
-    (top_of H F x right) r e in rw (← p.1) (gives p.0)
-
--- where all digests have 32 bytes, so has each cut root
-pub cut_size : (H : List ℕ → List ℕ) (e : Evaluation) (r : Range) (root : List ℕ) → ((m : List ℕ) → length (H m) ≡ 32)
-    → ((t : ℕ) (d : List ℕ) → e.held t ≡ Some d → length d ≡ 32) → length e.digest ≡ 32 → cut_over H e r ≡ Some root
-    → length root ≡ 32
-cut_size H e r root gives holds own = top_of-size H e.held e.digest gives holds own _ root
 
 -- over a log's own digests the cut root of a range of its recursion is the root over it
 pub cut_own_range : (H : List ℕ → List ℕ) (ds : List (List ℕ)) (t r : Range) → 0 < r.count → IsAligned r.start r.count

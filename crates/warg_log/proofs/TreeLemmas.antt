@@ -15,9 +15,6 @@ use Rattle.warg_log.specs.Images.{vec_message, is_slice_of_length, vec_in}
 use Rattle.warg_log.proofs.SliceLemmas.{slice_of-is, own_leaf}
 use Rattle.warg_log.proofs.ImageLemmas.{IsDigestFault}
 
--- bytes that are told by a test
-pub ruleset bytes_same = (bytes_decides)
-
 -- a tree and a length, and the message of a log, which is read as the log; one that isn't that of its own leaf digests
 -- is no log's
 module _ (H : List ℕ → List ℕ) (n : ℕ) (tree : List (List ℕ)) where

@@ -151,10 +151,10 @@ pub trait LogData<D: SupportedDigest, V: VisitBytes> {
     }
 }
 
-/// Pushes the entries in order, and returns the checkpoint after them.
+/// Pushes the entries in order and returns the checkpoint after them.
 ///
-/// A refusal leaves the log with the entries of before it: those that it had, and a beginning of the
-/// new ones.
+/// It fails only if allocation fails. The log then holds what it held before and the first `k` of the
+/// entries, for some `k` below their count.
 pub fn push_all<D: SupportedDigest, V: VisitBytes, B: LogBuilder<D, V>>(
     log: &mut B,
     entries: &[V],

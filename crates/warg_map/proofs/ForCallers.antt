@@ -1,5 +1,5 @@
 -- Lemmas for the proofs of the crates above, over public definitions alone.
-use Rattle.std.proofs.Common.{◌≡◌, ℕ, ◌+◌, ◌-◌, ◌<◌, ◌≤◌, Bool, true, false, List, [], ◌∷◌, ◌++◌, ◌∙◌, length, length-append, Option, Some, unwrap_or, refl, sym, ap}
+use Rattle.std.proofs.Common.{◌≡◌, ℕ, ◌+◌, ◌-◌, ◌<◌, ◌≤◌, Bool, true, false, List, [], ◌∷◌, ◌++◌, ◌∙◌, length, length-append, Option, Some, unwrap_or, refl, ap}
 use Rattle.std.specs.Option.{option_map}
 use Rattle.std.specs.Bool.{Decides}
 use Rattle.std.specs.FinMap.{get, insert, empty}
@@ -114,12 +114,6 @@ pub beside_replaced : (H : List ℕ → List ℕ) (m : SparseMap) (bits : List B
     → length bits ≡ 256 → IsBeside H peers (get m) bits → proof_value H peers x bits
     ≡ sparse_root H 256 (insert m bits x)
 beside_replaced = honest.honest_replaced
-
--- they stand beside the bits in the map that holds another leaf digest there
-pub beside_kept : (H : List ℕ → List ℕ) (m : SparseMap) (bits : List Bool) (peers : Peers) (x : List ℕ)
-    → IsBeside H peers (get m) bits → IsBeside H peers (get (insert m bits x)) bits
-beside_kept H m bits peers x beside = honest.beside_alike H peers (get m) (get (insert m bits x)) bits
-    (λ q other. sym (tree.get-insert_other m bits q x other)) beside
 
 -- the root of the empty map
 pub empty_map_root : (H : List ℕ → List ℕ) → sparse_root H 256 empty ≡ empty_root H 256

@@ -217,14 +217,14 @@ impl<D: SupportedDigest, K: VisitBytes + Drop, V: VisitBytes + Drop, A: Allocato
         }
     }
 
-    /// The proof of what is held under `key`, or `None` exactly if its digest isn't held, which does not allocate.
+    /// Returns the proof of what is held under `key`, or `None` exactly if its digest isn't held; `None` does not
+    /// allocate. It fails only if allocation fails.
     ///
     /// The proof has one peer more than the most bits that the key's digest shares with another that is held, and one
     /// for a lone key. It leads from the leaf digest that is held to the root ([`own_proof`](crate::laws::own_proof)).
     ///
-    /// It takes the key by value, as the Rust crate does, where [`evaluate`](Proof::evaluate) lends it: whoever
-    /// evaluates the proof keeps a copy, which costs nothing for a reference, and a growth and the key's bytes for an
-    /// owned one.
+    /// It takes the key by value, as the Rust crate does, while [`evaluate`](Proof::evaluate) borrows it. A key to
+    /// evaluate the proof with later has to be cloned, or passed by reference here.
     pub fn prove(&self, key: K) -> Result<Option<Proof<D, K, V, A>>, AllocError>
         ensures answer { let bits = key_bits D.digest (K.bytes key) in
             IfOk result (λ o. MatchOption o (map.contains_key self.now bits ≡ false)
@@ -236,14 +236,15 @@ impl<D: SupportedDigest, K: VisitBytes + Drop, V: VisitBytes + Drop, A: Allocato
         Ok(answer.and(Some(proof)))
     }
 
-    /// The proof that the leaf digest under `key` is that of an empty leaf, or `None` exactly if it isn't, which does
-    /// not allocate.
+    /// Returns the proof that the leaf under `key` is empty, or `None` exactly if it isn't; `None` does not allocate.
+    /// It fails only if allocation fails.
     ///
-    /// For a key whose digest isn't held the proof has one peer more than the most bits that this digest shares with
-    /// one that is held, and none in the empty map; a peer is `None` where its subtree holds no key. For one that is
-    /// held with the digest of an empty leaf, as a value without bytes gives it, it is the proof of
-    /// [`prove`](Map::prove). It leads from an empty leaf to the root ([`own_absence`](crate::laws::own_absence)), and
-    /// takes the key by value, as `prove` does.
+    /// For a key whose digest isn't held, the proof has one peer more than the most bits that this digest shares with
+    /// one that is held, and none in the empty map; a peer is `None` where its subtree holds no key. A value of no bytes
+    /// has the digest of an empty leaf, too: under its key this is the proof of [`prove`](Map::prove). The proof leads
+    /// from an empty leaf to the root ([`own_absence`](crate::laws::own_absence)).
+    ///
+    /// It takes the key by value, as `prove` does.
     pub fn prove_absence(&self, key: K) -> Result<Option<Proof<D, K, V, A>>, AllocError>
         ensures empty { let bits = key_bits D.digest (K.bytes key) in
             IfOk result (λ o. IsSome o ↔ (leaf_at D.digest self.now bits ≡ empty_root D.digest 0)) }

@@ -41,11 +41,6 @@ filled_from-push H at (p ∷ os) o =
     ap (λ t. Some (unwrap_or p (empty_root H (255 - at))) ∷ t) (filled_from-push H (at + 1) os o
     ∙ ap (λ n. filled_from H (at + 1) os ++ Some (unwrap_or o (empty_root H (255 - n))) ∷ []) more)
 
-pub lone_peer-some : (H : List ℕ → List ℕ) (os : List (Option (List ℕ))) → lone_peer H os ++ filled_from H 0 os
-    ≡ presence_peers H os
-lone_peer-some H [] = refl
-lone_peer-some H (o ∷ os) = refl
-
 length-filled_from : (H : List ℕ → List ℕ) (at : ℕ) (os : List (Option (List ℕ))) → length (filled_from H at os)
     ≡ length os
 length-filled_from H at [] = refl

@@ -1,5 +1,5 @@
 -- The page at the empty prefix, before and after more insertions.
-use Rattle.std.proofs.Common.{◌≡◌, ◌≢◌, ℕ, ◌+◌, ◌^◌, ◌<◌, Bool, true, List, [], ◌∷◌, ◌++◌, length, take, Option, Some, refl, sym, ap, ◌∙◌, arith, length-append}
+use Rattle.std.proofs.Common.{◌≡◌, ◌≢◌, ℕ, ◌+◌, ◌^◌, ◌<◌, Bool, true, List, [], ◌∷◌, ◌++◌, length, Option, Some, refl, sym, ap, ◌∙◌, arith, length-append}
 use Rattle.std.proofs.lemmas.List.Elements.{All-nil}
 use Rattle.std.specs.Prelude.{IfSome}
 use Rattle.std.specs.List.{filter}
@@ -20,10 +20,6 @@ use Rattle.warg_pages.proofs.PremiseLemmas.{empty_page}
 use Rattle.warg_pages.proofs.OwnPages.{own_slots, version_within}
 use Rattle.warg_pages.proofs.OwnWays.{own_bytes, own_page_is}
 use Rattle.warg_pages.proofs.FinalPeers.{own_at_root, last_of_all, version_of_all}
-
--- an own source's first page
-no_bytes : (k : List ℕ) → take 0 k ≡ []
-no_bytes k = refl
 
 no_bits : (k : List ℕ) → bits_from k 0 0 ≡ []
 unfolding bits_from

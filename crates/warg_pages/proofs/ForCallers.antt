@@ -1,8 +1,8 @@
 -- What proofs of other crates use.
-use Rattle.std.proofs.Common.{◌≡◌, ℕ, zero, suc, ◌+◌, ◌-◌, ◌*◌, ◌/◌, ◌%◌, ◌^◌, ◌<◌, ◌≤◌, Bool, true, false, cond, eqb, List, [], ◌∷◌, ◌++◌, length, take, Option, Some, None, codes, refl, sym, ap, ◌∙◌, arith, inl, inr, length-append}
+use Rattle.std.proofs.Common.{◌≡◌, ℕ, zero, suc, ◌+◌, ◌-◌, ◌*◌, ◌/◌, ◌%◌, ◌^◌, ◌<◌, ◌≤◌, Bool, true, false, cond, eqb, List, [], ◌∷◌, ◌++◌, length, take, Option, Some, None, refl, sym, ap, ◌∙◌, arith, inl, inr, length-append}
 use Rattle.std.proofs.lemmas.Bool.{cases_lt, lt-ltb, le-ltb}
 use Rattle.std.proofs.lemmas.Fmt.{decimal_injective, decimal_is_IsNumeral}
-use Rattle.std.proofs.lemmas.List.{append_cancel_left, length-take}
+use Rattle.std.proofs.lemmas.List.{length-take}
 use Rattle.std.proofs.lemmas.List.Elements.{All-tail, All-take}
 use Rattle.std.proofs.lemmas.Str.Parse.{digit_from_value}
 use Rattle.std.specs.Bool.{then_some}
@@ -21,17 +21,16 @@ use Rattle.warg_pages.specs.Slots.{SlotAt, is_lone, slot_over, slot_of, numbers,
 use Rattle.warg_pages.specs.ProvedKeys.{IsOwnSource}
 use Rattle.warg_pages.proofs.OwnVisits as visits
 use Rattle.warg_pages.specs.PageBytes.{slot_bytes, lone_bytes, page_bytes}
-use Rattle.warg_pages.specs.PagePaths.{byte_path, page_path}
+use Rattle.warg_pages.specs.PagePaths.{byte_path}
 use Rattle.warg_pages.specs.OwnPages.{stands, stands_over}
 use Rattle.warg_pages.specs.ChangedPages.{ChangedPageAt, page_at}
-use Rattle.warg_pages.specs.Visits.{AreAllPagesWhere, AreAllPages, IsAnyPage, IsAllowed, held_by, lone_slots, lone_keys}
+use Rattle.warg_pages.specs.Visits.{AreAllPagesWhere, AreAllPages, IsAllowed, lone_slots}
 use Rattle.warg_pages.specs.Audits.{IsInPages, AreInPages, count_last}
 use Rattle.warg_pages.proofs.PageFormat.{same_parts}
 use Rattle.warg_pages.proofs.KeyPrefixes as keys
 use Rattle.warg_pages.proofs.BitParts.{key_at}
 use Rattle.warg_pages.proofs.HeldHalves.{begins-rest}
 use Rattle.warg_pages.proofs.LoneSlots.{last_passes}
-use Rattle.warg_pages.proofs.OwnDescent.{own_slot_is}
 use Rattle.warg_pages.proofs.OwnDescent as descent
 use Rattle.warg_pages.proofs.PrefixBytes.{length-bits, same_bytes}
 use Rattle.warg_pages.proofs.MoreInsertions.{quiet_page, quiet_version, quiet_stands}
@@ -95,11 +94,6 @@ one_path_below (x ∷ p) (y ∷ q) v w all other v_fits w_fits e =
     let rest = one_path_below p q v w (All-tail IsByte x p all) (All-tail IsByte y q other) v_fits w_fits parts.1 in
     ((λ i. first i ∷ rest.0 i), rest.1)
 
-pub one_path : (p q : List ℕ) (v w : ℕ) → All IsByte p → All IsByte q → v < 2 ^ 64 → w < 2 ^ 64
-    → page_path p v ≡ page_path q w → (p ≡ q) × (v ≡ w)
-one_path p q v w all other v_fits w_fits e = one_path_below p q v w all other v_fits w_fits
-    (append_cancel_left (codes "map/") _ _ e)
-
 -- Pages are short: they have 256 slots, and each at most 106 bytes.
 short_lone : (H : List ℕ → List ℕ) → GivesHashes H → (b : Bool) (e : List ℕ × List ℕ)
     → length (lone_bytes (then_some b (H e.0, leaf_digest H e.1))) ≤ 64
@@ -143,11 +137,6 @@ pub page_is_short : (H : List ℕ → List ℕ) (insertions : List (List ℕ × 
 unfolding page_of
 page_is_short H insertions prefix gives = short_slots (slot_of H insertions prefix) 0 256
     (λ s. short_slot H gives insertions (prefix ++ byte_bits s) s _)
-
--- A slot's version is that of the prefix one byte further.
-pub slot_version : (H : List ℕ → List ℕ) (insertions : List (List ℕ × List ℕ)) (prefix : List Bool) (s : ℕ) (x : SlotAt)
-    → slot_of H insertions prefix s ≡ Some x → x.version ≡ version H insertions (prefix ++ byte_bits s)
-slot_version H insertions prefix s x e = (own_slot_is H insertions prefix s x e).version
 
 -- A version is no greater than the number of insertions.
 pub version_within : (H : List ℕ → List ℕ) (insertions : List (List ℕ × List ℕ)) (prefix : List Bool)
@@ -206,11 +195,6 @@ unchanged_page H old more prefix there early =
       sym (quiet_page H old more prefix none),
     )
 
--- A visit's pages lead to its root: what the laws of the pages that a root leads to ask for.
-pub any_pages : (H : List ℕ → List ℕ) (IsThere : List ℕ → ℕ → List SlotAt → Type 0) (root : List ℕ) (version : ℕ)
-    (all : List ChangedPageAt) → AreAllPages H IsThere root version all → AreAllPages H IsAnyPage root version all
-any_pages = visited.any_pages
-
 -- A visit of the pages of insertions finds each of them, whatever it shows of lone keys.
 pub own_visit : (H : List ℕ → List ℕ) (IsLone : List ℕ → SlotAt → List ℕ × List ℕ → Type 0)
     (bytes_at : List ℕ → ℕ → Option (List ℕ)) (tells_all : Type 0) (root : List ℕ)
@@ -228,12 +212,6 @@ pub visit_own : (H : List ℕ → List ℕ) (IsLone : List ℕ → SlotAt → Li
     → (p : ChangedPageAt) → Contains pages p → (stands H insertions (bits_of_bytes p.prefix) ≡ true)
     × (p.version ≡ version H insertions (bits_of_bytes p.prefix))
 visit_own = visits.visit_own
-
--- The root of a visit's pages is that of the map that they hold.
-pub root_of_pages : (H : List ℕ → List ℕ) (IsThere : List ℕ → ℕ → List SlotAt → Type 0) (root : List ℕ) (version : ℕ)
-    (all : List ChangedPageAt) → AreAllPages H IsThere root version all
-    → root ≡ root_of_levels H 256 (held_by (lone_keys all))
-root_of_pages = visited.root_of_pages
 
 -- No two slots of a visit's pages have the same lone key.
 pub lone_apart : (H : List ℕ → List ℕ) (IsThere : List ℕ → ℕ → List SlotAt → Type 0) (root : List ℕ) (version : ℕ)

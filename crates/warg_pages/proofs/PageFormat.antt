@@ -2,7 +2,7 @@
 use Rattle.std.proofs.Common.{◌≡◌, ℕ, ◌+◌, ◌^◌, ◌<◌, List, [], ◌∷◌, ◌++◌, length, take, drop, get_or, zero, suc, Option, Some, None, refl, sym, ap, ◌∙◌, arith, ◌≢◌, false, inl, inr, eqb, ◌-◌, ◌≤◌, lit<}
 use Rattle.std.proofs.lemmas.Bool.{eqb-false, cases_lt}
 use Rattle.std.proofs.lemmas.Nat.{from_be_bytes-to_be_bytes_8, be_bytes_8}
-use Rattle.std.proofs.lemmas.List.{append_assoc, append-nil, take_at, drop_at, length-append, length-take, get_or-take, get_or-drop, get_or_past, take-append-drop, take_more}
+use Rattle.std.proofs.lemmas.List.{append_assoc, append-nil, take_at, drop_at, length-append, length-take, get_or-take, get_or-drop, get_or_past, take-append-drop}
 use Rattle.std.proofs.lemmas.List.Elements.{All-head, All-tail, All-push, All-take, All-from_get_or}
 use Rattle.std.proofs.lemmas.List.Quantifiers.{all_pairs_push}
 use Rattle.std.specs.List.{All}
@@ -100,9 +100,6 @@ IsPage-push xs x page is below = record {
   ascend = all_pairs_push (λ (y z : SlotAt). y.byte < z.byte) xs x page.ascend below;
   are_slots = All-push IsSlot xs x page.are_slots is;
 }
-
-pub IsPage-nil : IsPage []
-IsPage-nil = record { ascend = λ i j d lt within. absurd (omega arith); are_slots = λ i d lt. absurd (omega arith) }
 
 -- bytes that begin with no slot are no page's
 pub none_left : (bytes : List ℕ) (xs ys : List SlotAt) (rest : List ℕ) → IsPage xs → IsPage ys
@@ -233,9 +230,3 @@ behind_last xs last byte h some at low = λ k d lt. elim (cases_lt k (length xs 
   | inr end ↦ (let here : k ≡ length xs - 1 = omega arith in let same : last.byte
       ≡ (get_or xs (length xs - 1) d).byte = ap (λ (x : SlotAt). x.byte) (at d) in rw here (omega arith))
 ]
-
--- a slot more is written
-pub written_more : (xs : List SlotAt) (i : ℕ) (x : SlotAt) → i < length xs → x ≡ get_or xs i x
-    → page_bytes (take i xs) ++ slot_bytes x ≡ page_bytes (take (i + 1) xs)
-written_more xs i x lt is = sym (ap page_bytes (take_more xs i x lt ∙ ap (λ y. take i xs ++ y ∷ []) (sym is))
-    ∙ page_bytes-push (take i xs) x)

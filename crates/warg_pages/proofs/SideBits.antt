@@ -1,5 +1,5 @@
 -- What `==` on sides says of their bits.
-use Rattle.std.proofs.Common.{◌≡◌, true, false, not, arith}
+use Rattle.std.proofs.Common.{◌≡◌, false, not, arith}
 use denote.Enum.Bare.{sameb}
 use Rattle.warg_crypto.specs.contracts.tree.Side.{the_type}
 use Rattle.warg_crypto.specs.declared.tree.Side.{Side}
@@ -7,6 +7,3 @@ use Rattle.warg_crypto.specs.Sides.{side_bit}
 
 pub same_bit : (x y : Side) → not (sameb the_type x y) ≡ false → side_bit x ≡ side_bit y
 same_bit x y e = grind arith
-
-pub other_bit : (x y : Side) → not (sameb the_type x y) ≡ true → ¬ (side_bit x ≡ side_bit y)
-other_bit x y e h = grind arith

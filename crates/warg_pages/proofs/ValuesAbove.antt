@@ -1,6 +1,5 @@
 -- Values at the top of bits, and the plain roots there.
-use Rattle.std.proofs.Common.{◌≡◌, ℕ, zero, suc, ◌+◌, Bool, true, false, not, List, [], ◌∷◌, ◌++◌, length, Option, None, refl, sym, ap, ◌∙◌, arith, inl, inr, length-append, unwrap_or}
-use Rattle.std.specs.Prelude.{replicate}
+use Rattle.std.proofs.Common.{◌≡◌, ℕ, suc, ◌+◌, Bool, true, false, not, List, [], ◌∷◌, ◌++◌, length, Option, None, refl, sym, ap, ◌∙◌, arith, inl, inr, length-append, unwrap_or}
 use Rattle.warg_crypto.specs.EmptyTrees.{empty_root}
 use Rattle.warg_crypto.specs.Tree.{input_beside}
 use Rattle.warg_map.specs.Sparse.{root_of_levels}
@@ -29,13 +28,6 @@ unfolding value_above
 value_above-None H n os x [] = refl
 value_above-None H n [] x (b ∷ bits) = refl
 value_above-None H n (o ∷ os) x (b ∷ bits) = rw (value_above-None H n os x bits) refl
-
-pub value_above-Nones : (H : List ℕ → List ℕ) (n : ℕ) (x : List ℕ) (m : ℕ) (bits : List Bool)
-    → value_above H n (replicate m None) x bits ≡ value_above H n [] x bits
-unfolding value_above
-value_above-Nones H n x m [] = refl
-value_above-Nones H n x zero (b ∷ bits) = refl
-value_above-Nones H n x (suc m) (b ∷ bits) = rw (value_above-Nones H n x m bits) refl
 
 -- empty trees above an empty tree
 pub value_above-empty : (H : List ℕ → List ℕ) (n : ℕ) (bits : List Bool) → value_above H n [] (empty_root H n) bits
@@ -86,19 +78,6 @@ root_above H n held (b ∷ bits) (o ∷ os) h =
     (peer_root H (length bits + n) (λ q. held (not b ∷ q)) o h.0)
     (sym (root_above H n (λ q. held (b ∷ q)) bits os h.1))
 
--- peers of bits in two parts
-pub PeersAbove-append : (H : List ℕ → List ℕ) (n : ℕ) (held : List Bool → Option (List ℕ)) (bits rest : List Bool)
-    (os more : List (Option (List ℕ))) → PeersAbove H (length rest + n) held bits os
-    → PeersAbove H n (λ q. held (bits ++ q)) rest more
-    → PeersAbove H n held (bits ++ rest) (os ++ more)
-PeersAbove-append H n held [] rest [] more h g = g
-PeersAbove-append H n held [] rest (o ∷ os) more h g = absurd h
-PeersAbove-append H n held (b ∷ bits) rest [] more h g = absurd h
-PeersAbove-append H n held (b ∷ bits) rest (o ∷ os) more h g =
-    let height : length bits + (length rest + n) ≡ length (bits ++ rest) + n = rw (length-append bits rest)
-    (omega arith) in
-    (rw height at h.0, PeersAbove-append H n (λ q. held (b ∷ q)) bits rest os more h.1 g)
-
 pub IsPeers-append : (H : List ℕ → List ℕ) (held : List Bool → Option (List ℕ)) (bits rest : List Bool)
     (os more : List (Option (List ℕ))) → PeersAbove H (length rest) held bits os
     → IsPeers H (λ k. None) (λ q. held (bits ++ q)) rest more
@@ -130,14 +109,3 @@ alone_root H held (b ∷ bits) h =
 
     tail : {q r : List Bool} → b ∷ q ≡ b ∷ r → q ≡ r
     tail e = cc
-
-pub peers_root : (H : List ℕ → List ℕ) (held : List Bool → Option (List ℕ)) (bits : List Bool)
-    (os : List (Option (List ℕ))) → IsPeers H (λ k. None) held bits os → root_of_levels H (length bits) held
-    ≡ value_above H 0 os (unwrap_or (held bits) (empty_root H 0)) bits
-unfolding value_above IsPeers
-peers_root H held bits [] h = alone_root H held bits h
-peers_root H held [] (o ∷ os) h = absurd h
-peers_root H held (b ∷ bits) (o ∷ os) h =
-    let height : length bits + 0 ≡ length bits = omega arith in
-    level_above H (length bits) held b _ _ (ap (λ k. unwrap_or o (empty_root H k)) height
-    ∙ peer_root H (length bits) (λ q. held (not b ∷ q)) o h.0) (sym (peers_root H (λ q. held (b ∷ q)) bits os h.1))

@@ -19,7 +19,7 @@ use Rattle.warg_pages.specs.Prefixes.{bits_of_bytes, byte_bits}
 use Rattle.warg_pages.specs.Slots.{SlotAt, IsSlot, IsPage, Ascends}
 use Rattle.warg_pages.specs.Pages.{digest_at, slot_height, page_digest}
 use Rattle.warg_pages.specs.ChangedPages.{ChangedPageAt}
-use Rattle.warg_pages.specs.Visits.{held_by, IsLoneBelow, AreOfSlot, AreOfSlots, AreFromWhere, AreFrom, AreAllPages, IsAnyPage, lone_slots, lone_keys}
+use Rattle.warg_pages.specs.Visits.{held_by, IsLoneBelow, AreOfSlot, AreOfSlots, AreFromWhere, AreFrom, AreAllPages, lone_slots, lone_keys}
 use Rattle.warg_pages.proofs.Members.{among, first_among, later_among, only_one}
 use Rattle.warg_pages.proofs.ByteNumbers.{number, number_below, byte_bits-number, number-byte_bits}
 use Rattle.warg_pages.proofs.PageRoots.{root_over-below, root-same, root-nothing}
@@ -425,40 +425,3 @@ lone_apart H IsThere root zero all h = λ x y k l m at other is are. absurd (let
     (lone_slots p)) h.0 in
     let lt = at.1 in omega arith)
 lone_apart H IsThere root (suc last) all h = (pages_held H IsThere 32 [] (suc last) root all refl h).apart
-
--- the pages of a visit lead to their root, whatever a source has
-any_slot : (H : List ℕ → List ℕ) (Given Any : List ℕ → ℕ → List ℕ → List ChangedPageAt → Type 0) (prefix : List ℕ)
-    (x : SlotAt) (o : Option (List ℕ × List ℕ)) (pages : List ChangedPageAt)
-    → ((prefix : List ℕ) (version : ℕ) (digest : List ℕ) (pages : List ChangedPageAt)
-    → Given prefix version digest pages → Any prefix version digest pages) → AreOfSlot (IsLoneBelow H) Given prefix x o pages → AreOfSlot (IsLoneBelow H) Any prefix x o pages
-any_slot H Given Any prefix x None pages any h = any (prefix ++ x.byte ∷ []) x.version x.digest pages h
-any_slot H Given Any prefix x (Some l) pages any h = h
-
-any_slots : (H : List ℕ → List ℕ) (Given Any : List ℕ → ℕ → List ℕ → List ChangedPageAt → Type 0) (prefix : List ℕ)
-    (slots : List SlotAt) (pages : List ChangedPageAt)
-    → ((prefix : List ℕ) (version : ℕ) (digest : List ℕ) (pages : List ChangedPageAt)
-    → Given prefix version digest pages → Any prefix version digest pages) → AreOfSlots (IsLoneBelow H) Given prefix slots pages → AreOfSlots (IsLoneBelow H) Any prefix slots pages
-unfolding AreOfSlots
-any_slots H Given Any prefix [] pages any h = h
-any_slots H Given Any prefix (x ∷ slots) pages any h =
-    (h.0, h.1, h.2, any_slot H Given Any prefix x x.lone h.0 any h.3, any_slots H Given Any prefix slots h.1 any h.4)
-
-any_from : (H : List ℕ → List ℕ) (IsThere : List ℕ → ℕ → List SlotAt → Type 0) (n : ℕ) (prefix : List ℕ) (version : ℕ)
-    (digest : List ℕ) (pages : List ChangedPageAt) → AreFrom H IsThere n prefix version digest pages
-    → AreFrom H IsAnyPage n prefix version digest pages
-unfolding AreFromWhere
-any_from H IsThere zero = λ prefix version digest pages h. h
-any_from H IsThere (suc n) = λ prefix version digest pages h. (
-  h.0,
-  h.1,
-  h.2,
-  h.3,
-  tt,
-  h.5,
-  any_slots H (AreFrom H IsThere n) (AreFrom H IsAnyPage n) prefix h.0 h.1 (any_from H IsThere n) h.6,
-)
-
-pub any_pages : (H : List ℕ → List ℕ) (IsThere : List ℕ → ℕ → List SlotAt → Type 0) (root : List ℕ) (version : ℕ)
-    (all : List ChangedPageAt) → AreAllPages H IsThere root version all → AreAllPages H IsAnyPage root version all
-any_pages H IsThere root zero all h = h
-any_pages H IsThere root (suc last) all h = any_from H IsThere 32 [] (suc last) root all h

@@ -40,14 +40,14 @@ impl<D> Drop for HeldInPages<D> {
     }
 }
 
-/// What the pages of a source hold under a key digest, from the first page, of `version`, on; `None` if they hold
-/// nothing under it, as at version 0. It checks no digest: what it returns holds of the pages that
-/// [`visit_pages`](crate::visit_pages) visited at this version, where the source tells of every page that it gives.
+/// Returns what the pages of a map hold under a key digest at `version`, or `None` if they hold nothing under it, as at
+/// version 0. It checks no digest: what it returns is true of the pages that [`visit_pages`](crate::visit_pages) has
+/// visited at this version, if the source tells of every page that it gives.
 ///
-/// The refusals: `Pages` where the source has no page; `BadPage` and `WrongLoneKey` only where the pages aren't those
-/// of a visit; or memory. What is known of the source stays true.
+/// It fails with `Pages` if the source has no such page, with `BadPage` or `WrongLoneKey` only if the pages aren't those
+/// of a visit, and if allocation fails. What is known of the source stays true.
 ///
-/// It reads the pages on the way of the key digest: the first one, and one for each byte that it shares with another.
+/// It reads the first page, and one more for each byte that the key digest shares with another.
 pub fn held_in_pages<D: SupportedDigest, P: Pages<A>, A: Allocator + Copy>(
     alloc: A,
     pages: &mut P,

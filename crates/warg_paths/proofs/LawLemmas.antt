@@ -1,12 +1,11 @@
 -- Where paths lead.
 use Rattle.std.proofs.Common.{◌≡◌, inl, inr, ℕ, zero, suc, ◌+◌, ◌-◌, ◌*◌, ◌<◌, ◌≤◌, List, [], length, reverse, take, slice_index_or, Option, Some, None, refl, sym, ap, ◌∙◌, arith}
 use Rattle.std.proofs.lemmas.Bool.{lt-ltb, cases_lt}
-use Rattle.std.proofs.Math.Seq.{take-length}
 use Rattle.warg_log.specs.Ranges.{Range, leaves_from, front_part, rest_part, IsAligned}
 use Rattle.warg_log.specs.Tree.{front_of, root_of, root_over, own_digest}
 use Rattle.warg_log.specs.Cut.{Evaluation, with_target, joined, cut_over, cut_root, old_over}
 use Rattle.warg_log.proofs.ForCallers.{below_pow, same_range, counts, node_at, root_over_one, cut_target, cut_parts, cut_old, cut_own_range}
-use Rattle.warg_paths.specs.Paths.{beside, inclusion_over, inclusion_of, inclusion_root, root_down, led_to}
+use Rattle.warg_paths.specs.Paths.{beside, inclusion_over, inclusion_of, root_down, led_to}
 use Rattle.warg_paths.proofs.PathLemmas.{root_one, root_front, root_rest}
 use Rattle.warg_paths.proofs.MakeLemmas.{parts_fewer, inclusion_one, inclusion_front, inclusion_rest}
 
@@ -105,12 +104,6 @@ own_climbs H ds m r inside aligned fits =
     (sym (root_over_one H ds (r.start + m) (omega arith)))
     ∙ cut_own_range H ds (leaves_from (r.start + m) 1) r (omega arith) aligned fits
 
-pub own_path_leads : (H : List ℕ → List ℕ) (ds : List (List ℕ)) (m : ℕ) (r : Range) (path : List (List ℕ)) → m < r.count
-    → IsAligned r.start r.count → r.start + r.count ≤ length ds
-    → inclusion_over (old_over H (own_digest H ds)) m r ≡ Some path
-    → root_down H m r.count (slice_index_or ds (r.start + m) []) (reverse path) ≡ Some (root_over H ds r.start r.count)
-own_path_leads H ds m r path inside aligned fits is = rw is at (own_climbs H ds m r inside aligned fits)
-
 -- a log's own path of a leaf leads to its root
 pub own_leads : (H : List ℕ → List ℕ) (ds : List (List ℕ)) (m n : ℕ) → m < n → n ≤ length ds
     → led_to H m n (slice_index_or ds m []) (inclusion_of (old_over H (own_digest H ds)) m n)
@@ -125,20 +118,3 @@ own_leads H ds m n inside fits =
     } in
     led_is H m n (slice_index_or ds m []) (inclusion_of (old_over H (own_digest H ds)) m n) inside
     ∙ rw at at (own_climbs H ds m (leaves_from 0 n) inside aligned (omega arith))
-
-pub own_path_is : (H : List ℕ → List ℕ) (ds : List (List ℕ)) (m : ℕ) → m < length ds
-    → (path : List (List ℕ)) × (inclusion_of (old_over H (own_digest H ds)) m (length ds) ≡ Some path)
-    × (inclusion_root H m (length ds) (slice_index_or ds m []) path ≡ Some (root_of H ds))
-own_path_is H ds m inside = there (inclusion_of (old_over H (own_digest H ds)) m (length ds)) refl
-    (own_leads H ds m (length ds) inside (omega arith) ∙ ap (λ l. Some (root_of H l)) (take-length ds))
-  where
-    there : (path : Option (List (List ℕ))) → inclusion_of (old_over H (own_digest H ds)) m (length ds) ≡ path
-        → led_to H m (length ds) (slice_index_or ds m []) (inclusion_of (old_over H (own_digest H ds)) m (length ds))
-        ≡ Some (root_of H ds)
-        → (path : List (List ℕ)) × (inclusion_of (old_over H (own_digest H ds)) m (length ds) ≡ Some path)
-        × (inclusion_root H m (length ds) (slice_index_or ds m []) path ≡ Some (root_of H ds))
-    there None is leads = absurd (nothing (rw is at leads))
-      where
-        nothing : None ≡ Some (root_of H ds) → ⊥
-        nothing e = cc
-    there (Some path) is leads = (path, is, rw is at leads)

@@ -178,20 +178,6 @@ last_word {X} say order words x says = said (first_says say words) says
     said (Some q) e = left q.0 (none_left q.1) e
     said None e = absurd (cc)
 
--- an order of which the last word says nothing
-pub no_last_word : {X : Type 0} (say : List ℕ → Option X) (order : X → Order) (words : List (List ℕ))
-    → last_says say words ≡ None → next say (λ y. done (order y)) words ≡ None
-no_last_word {X} say order words says = said (first_says say words) says
-  where
-    left : (y : X) (none : Option (Unit {0})) → option_map (λ _. y) none ≡ None → option_map (λ _. order y) none ≡ None
-    left y (Some _) e = absurd (cc)
-    left y None e = refl
-
-    said : (p : Option (X × List (List ℕ))) → option_and_then (λ q. option_map (λ _. q.0) (none_left q.1)) p ≡ None
-        → option_and_then (λ q. done (order q.0) q.1) p ≡ None
-    said (Some q) e = left q.0 (none_left q.1) e
-    said None e = refl
-
 lines_front : (front rest : List ℕ) → Lacks 10 front → lines_of (front ++ 10 ∷ rest) ≡ front ∷ lines_of rest
 unfolding lines_of
 lines_front [] rest lacks = refl

@@ -81,16 +81,6 @@ part_front bytes part more small is =
       ap (drop 8) is,
     )
 
--- Fewer than eight bytes begin with no part.
-pub no_length : (bytes : List ℕ) → length bytes < 8 → HasNoPart bytes
-no_length bytes short part more small is = let front = part_front bytes part more small is in omega arith
-
--- Nor do bytes that end before the part does.
-pub no_end : (bytes : List ℕ) → length (drop 8 bytes) < from_be_bytes w64 (take 8 bytes) → HasNoPart bytes
-no_end bytes cut part more small is =
-    let front = part_front bytes part more small is in
-    omega (arith, ap length front.2, length-append part more)
-
 -- What was read as a part is that part.
 pub part_read : (bytes part more : List ℕ) → ((i : ℕ) → get_or bytes i 0 < 256) → 8 ≤ length bytes
     → length part ≡ from_be_bytes w64 (take 8 bytes) → drop 8 bytes ≡ part ++ more → bytes ≡ framed_part part ++ more
@@ -118,10 +108,6 @@ one_part a b x y fa fb e =
     let front = part_front (framed_part b ++ y) a x fa (sym e) in
     let back = part_front (framed_part b ++ y) b y fb refl in
     same_front a x b y (sym front.1 ∙ back.1) (sym front.2 ∙ back.2)
-
--- Bytes that no key begins are no entry.
-pub no_key : (bytes : List ℕ) → HasNoPart bytes → (e : List ℕ × List ℕ) → IsInsertion e → bytes ≢ entry_of e
-no_key bytes none e fine is = none e.0 (framed_part e.1 ++ []) fine.0 is
 
 -- Nor are those that no value goes on.
 pub no_value : (bytes key more : List ℕ) → IsPart key → bytes ≡ framed_part key ++ more → HasNoPart more

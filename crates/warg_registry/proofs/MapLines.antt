@@ -1,5 +1,5 @@
 -- The line of a map's root is read in one way.
-use Rattle.std.proofs.Common.{◌≡◌, ◌≢◌, ℕ, suc, ◌+◌, nat_eq, Bool, true, false, Option, List, [], ◌∷◌, ◌++◌, length, take, drop, replicate, Result, Ok, codes, refl, sym, ap, ◌∙◌, inl, inr, arith}
+use Rattle.std.proofs.Common.{◌≡◌, ℕ, suc, ◌+◌, nat_eq, Bool, true, Option, List, [], ◌∷◌, ◌++◌, length, take, drop, replicate, Result, Ok, codes, refl, sym, ap, ◌∙◌, inl, inr, arith}
 use Rattle.std.proofs.lemmas.Bool.{cases_lt}
 use Rattle.std.proofs.lemmas.List.{length-append, length-replicate, get_or_past, get_or-drop, take-append-drop}
 use Rattle.std.proofs.lemmas.List.Elements.{All-get_or}
@@ -18,13 +18,6 @@ use Rattle.warg_tiles.proofs.ForCallers.{no_newline-encode}
 use Rattle.warg_store.specs.Log as log
 use Rattle.warg_registry.specs.Folder.{registry_of}
 use Rattle.warg_registry.specs.Registry.{line_of}
-
--- What begins otherwise is no line of a root.
-pub no_front : (line root : List ℕ) → pointwise nat_eq (take 4 line) (codes "map ") ≡ false → line ≢ line_of root
-no_front line root other is =
-    let front : take 4 line ≡ codes "map " = ap (take 4) is in
-    let same = (bytes_decides (take 4 line) (codes "map ")).1 front in
-    cc
 
 -- A digest's bytes are bytes.
 digest_bytes : (root : List ℕ) → IsDigest root → IsBytes root

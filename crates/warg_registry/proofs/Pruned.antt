@@ -1,13 +1,13 @@
 -- The pages that pruning keeps.
-use Rattle.std.proofs.Common.{◌≡◌, ⊎_elim, ◌⊎◌, ℕ, ◌<◌, ◌^◌, Bool, true, false, eqb, ◌&&◌, ◌||◌, List, [], ◌∷◌, ◌++◌, refl, sym, ap, subst, ◌∙◌, inl, inr, append_assoc}
-use Rattle.std.proofs.lemmas.Bool.{or_parts, and_parts}
+use Rattle.std.proofs.Common.{◌≡◌, ⊎_elim, ◌⊎◌, ℕ, ◌<◌, ◌^◌, Bool, true, false, ◌||◌, List, [], ◌∷◌, ◌++◌, refl, sym, ap, subst, ◌∙◌, inl, inr, append_assoc}
+use Rattle.std.proofs.lemmas.Bool.{or_parts}
 use Rattle.std.proofs.lemmas.List.{map-append}
 use Rattle.std.proofs.lemmas.List.Elements.{Contains-append_cases, Contains-append_left, Contains-append_right}
 use Rattle.std.proofs.lemmas.Map.Text.{is_eq-slice_cmp}
 use Rattle.std.proofs.lemmas.Slice.Eq.{bytes_eq-Decides}
 use Rattle.std.specs.BTreeMap.{is_at}
 use Rattle.std.specs.BTreeSet.{insert_key}
-use Rattle.std.specs.Cmp.Lexicographic.{slice_cmp, pointwise, bytes_decides}
+use Rattle.std.specs.Cmp.Lexicographic.{slice_cmp}
 use Rattle.std.specs.List.{Contains, list_any}
 use Rattle.std.specs.Ordering.{nat_cmp, is_eq, match_ordering}
 use Rattle.std.specs.String.{string_bytes, string_cmp}
@@ -194,10 +194,6 @@ no_paths names = λ p there. absurd (none_there p there)
 
 pub none_named : (ks : List (String Global)) → ks ≡ [] → AreOnlyPathsOf (bytes_of ks) []
 none_named ks e = λ n is. absurd (none_there n (subst (λ xs. Contains (bytes_of xs) n) e is))
-
--- what `==` on hashes says
-pub same_hashes : (a b : List ℕ) → (pointwise eqb a b && true) ≡ true → a ≡ b
-same_hashes a b e = (bytes_decides a b).0 (and_parts (pointwise eqb a b) true e).0
 
 pub none_of : (names others : List (List ℕ)) (es : List (List ℕ × List ℕ)) → AreNone others names
     → HaveAllPages names es → IsNoneOf others (pages_of es)

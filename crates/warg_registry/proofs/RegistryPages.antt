@@ -27,9 +27,6 @@ use Rattle.warg_store.specs.Log.{HasFiles, HasPage, Serves}
 use Rattle.warg_registry.specs.Folder.{path_below, page_file, prefixes_on_way, pages_of, registry_of, page_found, page_read, files_of}
 use Rattle.warg_registry.proofs.Listed.{mapped_there, of_mapped, passed_there, of_passed, joined_there, of_joined, first_there, later_there, there_cases, none_there}
 
-Insertions : Type 0
-Insertions = List (List ℕ × List ℕ)
-
 -- a page of insertions stands at these bytes
 pub record IsPageAt (insertions : List (List ℕ × List ℕ)) (prefix : List ℕ) : Type 0 where
   pub are_bytes : All IsByte prefix

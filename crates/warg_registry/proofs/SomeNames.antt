@@ -8,7 +8,8 @@ use Rattle.std.proofs.lemmas.List.{get_or-map, length-append, length-map, map-ap
 use Rattle.std.proofs.lemmas.List.Edits.{remove-append_right}
 use Rattle.std.proofs.lemmas.List.Elements.{Contains-append_cases, Contains-append_left, Contains-append_right}
 use Rattle.std.proofs.lemmas.List.Quantifiers.{all_pairs_remove}
-use Rattle.warg_registry.specs.Pruning.{bytes_of, AreApart, AreSome}
+use Rattle.warg_folder.specs.Files.{AreApart}
+use Rattle.warg_registry.specs.Pruning.{bytes_of, AreSome}
 use Rattle.warg_registry.proofs.Listed.{later_there}
 
 pub some_all : (names : List (String Global)) → AreSome names names

@@ -1,7 +1,7 @@
 -- The pages that a registry needs.
-use Rattle.std.specs.Prelude.{◌≡◌, ◌≢◌, ◌⊎◌, ℕ, true, List, map}
+use Rattle.std.specs.Prelude.{◌≡◌, ◌⊎◌, ℕ, true, List, map}
 use Rattle.std.specs.declared.alloc.Global.{Global}
-use Rattle.std.specs.List.{AllPairs, Contains}
+use Rattle.std.specs.List.{Contains}
 use Rattle.std.specs.String.{string_bytes}
 use Rattle.std.specs.declared.string.String.{String}
 use Rattle.warg_crypto.specs.Digests.{sha256}
@@ -10,7 +10,7 @@ use Rattle.warg_pages.specs.OwnPages.{stands}
 use Rattle.warg_pages.specs.PagePaths.{page_path}
 use Rattle.warg_pages.specs.Prefixes.{bits_of_bytes, version}
 use Rattle.warg_pages.specs.ProvedKeys.{IsOwnSource}
-use Rattle.warg_folder.specs.Files.{File, Files}
+use Rattle.warg_folder.specs.Files.{File, Files, AreApart}
 use Rattle.warg_folder.specs.Names.{page_name}
 use Rattle.warg_store.specs.Growing.{LogIn}
 use Rattle.warg_store.specs.Log.{Serves}
@@ -19,10 +19,6 @@ use Rattle.warg_registry.specs.Folder.{pages_of, registry_of, page_read, IsLogRe
 -- The bytes of names.
 abbrev pub bytes_of : List (String Global) → List (List ℕ)
 bytes_of names = map (λ name. string_bytes name) names
-
--- No two of the names are one.
-abbrev pub AreApart : List (String Global) → Type 0
-AreApart names = AllPairs (λ a b. string_bytes a ≢ string_bytes b) names
 
 -- Each of these is one of the names, and where no two of the names are one, no two of these are.
 pub record AreSome (these names : List (String Global)) : Type 0 where

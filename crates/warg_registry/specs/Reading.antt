@@ -29,6 +29,16 @@ pub record ReadsRegistry {F : Type 0} (seen : F → Files) (origin : List ℕ) (
   pub reads : Reads seen (registry_of origin insertions) r.log
   pub is_root : r.root ≡ sparse_root sha256 256 (map_of sha256 insertions)
 
+-- What is said of the insertions of each registry that the reader has.
+abbrev pub OfRead : {F : Type 0} → (F → Files) → RegistryRead F → (List (List ℕ × List ℕ) → Type 0) → Type 0
+OfRead seen r Said = (origin : List ℕ) (insertions : List (List ℕ × List ℕ)) → ReadsRegistry seen origin insertions r
+    → Said insertions
+
+-- The reader still has each registry that it had.
+abbrev pub StillReads : {F : Type 0} → (F → Files) → RegistryRead F → RegistryRead F → Type 0
+StillReads seen old new = (origin : List ℕ) (insertions : List (List ℕ × List ℕ))
+    → ReadsRegistry seen origin insertions old → ReadsRegistry seen origin insertions new
+
 -- The map's proof leads to a root: from the value's leaf digest, or, where nothing is there, from an empty leaf.
 abbrev pub IsKeyShown : List ℕ → List ℕ → KeyInRegistry → Type 0
 IsKeyShown root key (Held index value peers) =

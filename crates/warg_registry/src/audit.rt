@@ -15,7 +15,7 @@ ghost use Rattle.warg_store.specs.Refusals.{IsNoFault, IsNoFailure, HasLogCause}
 ghost use Rattle.warg_registry.specs.Auditing.{AreOfRegistry, AreAllInFiles, AreReplayed, HasVisited};
 ghost use Rattle.warg_registry.specs.Folder.{registry_of};
 ghost use Rattle.warg_registry.specs.Insertions.{entry_of, entries_of};
-ghost use Rattle.warg_registry.specs.Reading.{ReadsRegistry};
+ghost use Rattle.warg_registry.specs.Reading.{ReadsRegistry, OfRead, StillReads};
 
 use crate::error::damaged;
 use crate::insertion::{Insertion, read_insertion};
@@ -98,10 +98,8 @@ impl<F: Folder + Drop> RegistryReader<F> {
         ensures insertions { F.IsFaithful → IfOk result (λ checkpoint. (insertions : List (List ℕ × List ℕ))
             × AreOfRegistry checkpoint self.old.root insertions) }
         ensures served { IfOk result (λ checkpoint. checkpoint ≡ checkpoint_said self.old.log.text) }
-        ensures whole { F.IsFaithful → (origin : List ℕ) (insertions : List (List ℕ × List ℕ))
-            → ReadsRegistry F.seen origin insertions self.old → IfErr result (IsNoFault ⊥) }
-        ensures reads { F.IsFaithful → OnOk result ((origin : List ℕ) (insertions : List (List ℕ × List ℕ))
-            → ReadsRegistry F.seen origin insertions self.old → ReadsRegistry F.seen origin insertions self.new) }
+        ensures whole { F.IsFaithful → OfRead F.seen self.old (λ _. IfErr result (IsNoFault ⊥)) }
+        ensures reads { F.IsFaithful → OnOk result (StillReads F.seen self.old self.new) }
         ensures text { OnOk result (self.new.log.text ≡ self.old.log.text) }
         ensures read { F.IsFaithful → OnOk result
             (IsRead F.seen F.may_leave F.moment F.left_since self.old.log.folder self.new.log.folder) }
@@ -126,8 +124,7 @@ impl<F: Folder + Drop> RegistryReader<F> {
         ensures keys { F.IsFaithful → IfOk result (λ count. (all : List ChangedPageAt)
             × AreAllInFiles (F.seen self.old.log.folder) self.old.root self.old.log.text.length all
             × (count ≡ length (lone_slots all))) }
-        ensures whole { F.IsFaithful → (origin : List ℕ) (insertions : List (List ℕ × List ℕ))
-            → ReadsRegistry F.seen origin insertions self.old → IfErr result (IsNoFault ⊥) }
+        ensures whole { F.IsFaithful → OfRead F.seen self.old (λ _. IfErr result (IsNoFault ⊥)) }
         ensures same { (self.new.root ≡ self.old.root) × (self.new.log.text ≡ self.old.log.text) }
         ensures read { F.IsFaithful
             → IsRead F.seen F.may_leave F.moment F.left_since self.old.log.folder self.new.log.folder }

@@ -1,18 +1,19 @@
 //! The pages that a registry needs, and those that it doesn't.
 
-ghost use Rattle.std.specs.Prelude.{◌≡◌, ◌⊎◌, ◌++◌, ℕ, true, List, [], IfOk, IfErr, OnOk, IsSome, IsTrue, string_bytes};
-ghost use Rattle.std.specs.List.{All, Contains};
+ghost use Rattle.std.specs.Prelude.{◌≡◌, ◌⊎◌, ◌++◌, ℕ, true, List, [], IfOk, IfErr, OnOk, IsSome, IsTrue};
+ghost use Rattle.std.specs.List.{Contains};
 ghost use Rattle.warg_crypto.specs.Digests.{sha256};
 ghost use Rattle.warg_pages.specs.ChangedPages.{ChangedPageAt};
 ghost use Rattle.warg_pages.specs.PagePaths.{page_path};
 ghost use Rattle.warg_pages.specs.ProvedKeys.{IsOwnSource};
 ghost use Rattle.warg_store.specs.Growing.{LogIn};
 ghost use Rattle.warg_store.specs.Log.{Serves};
+ghost use Rattle.warg_folder.specs.Files.{AreApart};
 ghost use Rattle.warg_folder.specs.Names.{is_page};
-ghost use Rattle.warg_store.specs.Pruned.{IsNoneOf};
+ghost use Rattle.warg_store.specs.Pruned.{ArePagesIn, IsNoneOf};
 ghost use Rattle.warg_store.specs.Refusals.{IsNoFault, HasLogCause};
 ghost use Rattle.warg_registry.specs.Folder.{registry_of, pages_of, page_read, IsLogRead, ReadsOn};
-ghost use Rattle.warg_registry.specs.Pruning.{bytes_of, AreApart, AreSome, ArePathsOf, AreOnlyPathsOf, HaveAllPages, IsPageOf, AreNeeded, OfBoth, AreNone, AreAmong};
+ghost use Rattle.warg_registry.specs.Pruning.{bytes_of, AreSome, ArePathsOf, AreOnlyPathsOf, HaveAllPages, IsPageOf, AreNeeded, OfBoth, AreNone, AreAmong};
 
 use crate::error::{RegistryError, damaged};
 use crate::folder::root_said;
@@ -124,8 +125,7 @@ impl<F: Folder + Drop> KeptPages<F> {
             root.now version (λ known served kept. (n : List ℕ) → is_page n ≡ true → IsSome (F.seen known.folder n)
             → Contains (bytes_of spare.items) n ⊎ IsPageOf served n ⊎ IsPageOf kept n)) }
         ensures apart { F.IsFaithful → IfOk result (λ spare. AreApart spare.items) }
-        ensures there { F.IsFaithful → IfOk result (λ spare. All (λ name.
-            IsSome (F.seen self.new.log.folder (string_bytes name)) × (is_page (string_bytes name) ≡ true)) spare.items) }
+        ensures there { F.IsFaithful → IfOk result (λ spare. ArePagesIn (F.seen self.new.log.folder) spare.items) }
         ensures whole { F.IsFaithful → OfBoth F.seen F.may_leave F.moment F.left_since self.old.log root.now version
             (λ _ _ _. IfErr result (IsNoFault ⊥)) }
         ensures read { F.IsFaithful → ReadsOn F.seen F.may_leave F.moment F.left_since self.old.log self.new.log }
@@ -185,8 +185,7 @@ impl<F: Folder + Drop> KeptPages<F> {
             → IsLogRead F.seen F.may_leave F.moment F.left_since known self.old.log
             → (n : List ℕ) → is_page n ≡ true → IsSome (F.seen known.folder n) → Contains (bytes_of names.items) n) }
         ensures apart { F.IsFaithful → IfOk result (λ names. AreApart names.items) }
-        ensures there { F.IsFaithful → IfOk result (λ names. All (λ name.
-            IsSome (F.seen self.new.log.folder (string_bytes name)) × (is_page (string_bytes name) ≡ true)) names.items) }
+        ensures there { F.IsFaithful → IfOk result (λ names. ArePagesIn (F.seen self.new.log.folder) names.items) }
         ensures whole { IfErr result (IsNoFault ⊥) }
         ensures read { F.IsFaithful → ReadsOn F.seen F.may_leave F.moment F.left_since self.old.log self.new.log }
         ensures cause { HasLogCause F.IsFaithful (F.faults self.old.log.folder) (F.faults self.new.log.folder) result }

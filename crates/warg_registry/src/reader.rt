@@ -11,7 +11,7 @@ ghost use Rattle.warg_store.specs.Log.{Serves};
 ghost use Rattle.warg_store.specs.Reading.{IsShown, checkpoint_said};
 ghost use Rattle.warg_store.specs.Refusals.{IsNoFault as IsNoLogFault, IsNoFailure, HasLogCause};
 ghost use Rattle.warg_registry.specs.Folder.{registry_of, IsNoFault};
-ghost use Rattle.warg_registry.specs.Reading.{ReadsRegistry, IsKeyShown, IsLogged, IsOfEntry, IsOwnKey, IsHeldAt, IsKeyIn};
+ghost use Rattle.warg_registry.specs.Reading.{ReadsRegistry, OfRead, StillReads, IsKeyShown, IsLogged, IsOfEntry, IsOwnKey, IsHeldAt, IsKeyIn};
 ghost use Rattle.warg_registry.specs.Insertions.{entry_of, entries_of, IsInsertion};
 
 use crate::error::RegistryError;
@@ -116,13 +116,11 @@ impl<F: Folder + Drop> RegistryReader<F> {
     /// entry is in the log, `inclusion_path` of [`into_log`](RegistryReader::into_log) shows, and `get_logged` does.
     pub fn get(&mut self, key: &[u8]) -> Result<KeyInRegistry, LogError>
         ensures shown { IfOk result (IsKeyShown self.old.root key.now) }
-        ensures own { F.IsFaithful → IfOk result (λ found. (origin : List ℕ) (insertions : List (List ℕ × List ℕ))
-            → ReadsRegistry F.seen origin insertions self.old → IsKeyIn insertions key.now found) }
-        ensures whole { F.IsFaithful → (origin : List ℕ) (insertions : List (List ℕ × List ℕ))
-            → ReadsRegistry F.seen origin insertions self.old → IsOwnKey insertions key.now
-            → IfErr result (IsNoLogFault ⊥) }
-        ensures reads { F.IsFaithful → (origin : List ℕ) (insertions : List (List ℕ × List ℕ))
-            → ReadsRegistry F.seen origin insertions self.old → ReadsRegistry F.seen origin insertions self.new }
+        ensures own { F.IsFaithful → IfOk result (λ found. OfRead F.seen self.old (λ insertions.
+            IsKeyIn insertions key.now found)) }
+        ensures whole { F.IsFaithful → OfRead F.seen self.old (λ insertions.
+            IsOwnKey insertions key.now → IfErr result (IsNoLogFault ⊥)) }
+        ensures reads { F.IsFaithful → StillReads F.seen self.old self.new }
         ensures cause { HasLogCause F.IsFaithful (F.faults self.old.log.folder) (F.faults self.new.log.folder) result }
     {
         self.found(key, EntryFrom::Bundle)
@@ -133,13 +131,11 @@ impl<F: Folder + Drop> RegistryReader<F> {
     pub fn get_logged(&mut self, key: &[u8]) -> Result<KeyInRegistry, LogError>
         ensures shown { IfOk result (IsKeyShown self.old.root key.now) }
         ensures logged { IfOk result (IsLogged (checkpoint_said self.old.log.text) key.now) }
-        ensures own { F.IsFaithful → IfOk result (λ found. (origin : List ℕ) (insertions : List (List ℕ × List ℕ))
-            → ReadsRegistry F.seen origin insertions self.old → IsKeyIn insertions key.now found) }
-        ensures whole { F.IsFaithful → (origin : List ℕ) (insertions : List (List ℕ × List ℕ))
-            → ReadsRegistry F.seen origin insertions self.old → IsOwnKey insertions key.now
-            → IfErr result (IsNoLogFault ⊥) }
-        ensures reads { F.IsFaithful → (origin : List ℕ) (insertions : List (List ℕ × List ℕ))
-            → ReadsRegistry F.seen origin insertions self.old → ReadsRegistry F.seen origin insertions self.new }
+        ensures own { F.IsFaithful → IfOk result (λ found. OfRead F.seen self.old (λ insertions.
+            IsKeyIn insertions key.now found)) }
+        ensures whole { F.IsFaithful → OfRead F.seen self.old (λ insertions.
+            IsOwnKey insertions key.now → IfErr result (IsNoLogFault ⊥)) }
+        ensures reads { F.IsFaithful → StillReads F.seen self.old self.new }
         ensures cause { HasLogCause F.IsFaithful (F.faults self.old.log.folder) (F.faults self.new.log.folder) result }
     {
         self.found(key, EntryFrom::Log)
@@ -149,13 +145,11 @@ impl<F: Folder + Drop> RegistryReader<F> {
     fn found(&mut self, key: &[u8], from: EntryFrom) -> Result<KeyInRegistry, LogError>
         ensures shown { IfOk result (IsKeyShown self.old.root key.now) }
         ensures logged { from ≡ EntryFrom.Log → IfOk result (IsLogged (checkpoint_said self.old.log.text) key.now) }
-        ensures own { F.IsFaithful → IfOk result (λ found. (origin : List ℕ) (insertions : List (List ℕ × List ℕ))
-            → ReadsRegistry F.seen origin insertions self.old → IsKeyIn insertions key.now found) }
-        ensures whole { F.IsFaithful → (origin : List ℕ) (insertions : List (List ℕ × List ℕ))
-            → ReadsRegistry F.seen origin insertions self.old → IsOwnKey insertions key.now
-            → IfErr result (IsNoLogFault ⊥) }
-        ensures reads { F.IsFaithful → (origin : List ℕ) (insertions : List (List ℕ × List ℕ))
-            → ReadsRegistry F.seen origin insertions self.old → ReadsRegistry F.seen origin insertions self.new }
+        ensures own { F.IsFaithful → IfOk result (λ found. OfRead F.seen self.old (λ insertions.
+            IsKeyIn insertions key.now found)) }
+        ensures whole { F.IsFaithful → OfRead F.seen self.old (λ insertions.
+            IsOwnKey insertions key.now → IfErr result (IsNoLogFault ⊥)) }
+        ensures reads { F.IsFaithful → StillReads F.seen self.old self.new }
         ensures cause { HasLogCause F.IsFaithful (F.faults self.old.log.folder) (F.faults self.new.log.folder) result }
     {
         match self.prove(key)? {
@@ -167,13 +161,11 @@ impl<F: Folder + Drop> RegistryReader<F> {
     // What the pages prove of a key.
     fn prove(&mut self, key: &[u8]) -> Result<KeyInPages<Sha256>, LogError>
         ensures leads { IfOk result (LeadsTo sha256 (key_bits sha256 key.now) self.old.root) }
-        ensures own { F.IsFaithful → IfOk result (λ found. (origin : List ℕ) (insertions : List (List ℕ × List ℕ))
-            → ReadsRegistry F.seen origin insertions self.old → IsProved sha256 insertions key.now found) }
-        ensures whole { F.IsFaithful → (origin : List ℕ) (insertions : List (List ℕ × List ℕ))
-            → ReadsRegistry F.seen origin insertions self.old → IfErr result (IsNoLogFault ⊥) }
+        ensures own { F.IsFaithful → IfOk result (λ found. OfRead F.seen self.old (λ insertions.
+            IsProved sha256 insertions key.now found)) }
+        ensures whole { F.IsFaithful → OfRead F.seen self.old (λ _. IfErr result (IsNoLogFault ⊥)) }
         ensures same { (self.new.root ≡ self.old.root) × (self.new.log.text ≡ self.old.log.text) }
-        ensures reads { F.IsFaithful → (origin : List ℕ) (insertions : List (List ℕ × List ℕ))
-            → ReadsRegistry F.seen origin insertions self.old → ReadsRegistry F.seen origin insertions self.new }
+        ensures reads { F.IsFaithful → StillReads F.seen self.old self.new }
         ensures cause { HasLogCause F.IsFaithful (F.faults self.old.log.folder) (F.faults self.new.log.folder) result }
     {
         let version = self.version();
@@ -194,16 +186,13 @@ impl<F: Folder + Drop> RegistryReader<F> {
         ensures shown { IfOk result (λ found. proof_value sha256 peers.items leaf.now (key_bits sha256 key.now)
             ≡ self.old.root → IsKeyShown self.old.root key.now found) }
         ensures logged { from ≡ EntryFrom.Log → IfOk result (IsLogged (checkpoint_said self.old.log.text) key.now) }
-        ensures own { F.IsFaithful → IfOk result (λ found. (origin : List ℕ) (insertions : List (List ℕ × List ℕ))
-            → ReadsRegistry F.seen origin insertions self.old
+        ensures own { F.IsFaithful → IfOk result (λ found. OfRead F.seen self.old (λ insertions.
+            IsHeldAt insertions (key_bits sha256 key.now) index leaf.now peers.items
+            → IsKeyIn insertions key.now found)) }
+        ensures whole { F.IsFaithful → OfRead F.seen self.old (λ insertions. IsOwnKey insertions key.now
             → IsHeldAt insertions (key_bits sha256 key.now) index leaf.now peers.items
-            → IsKeyIn insertions key.now found) }
-        ensures whole { F.IsFaithful → (origin : List ℕ) (insertions : List (List ℕ × List ℕ))
-            → ReadsRegistry F.seen origin insertions self.old → IsOwnKey insertions key.now
-            → IsHeldAt insertions (key_bits sha256 key.now) index leaf.now peers.items
-            → IfErr result (IsNoLogFault ⊥) }
-        ensures reads { F.IsFaithful → (origin : List ℕ) (insertions : List (List ℕ × List ℕ))
-            → ReadsRegistry F.seen origin insertions self.old → ReadsRegistry F.seen origin insertions self.new }
+            → IfErr result (IsNoLogFault ⊥)) }
+        ensures reads { F.IsFaithful → StillReads F.seen self.old self.new }
         ensures cause { HasLogCause F.IsFaithful (F.faults self.old.log.folder) (F.faults self.new.log.folder) result }
     {
         let entry = self.entry(index as usize, from)?;
@@ -214,15 +203,12 @@ impl<F: Folder + Drop> RegistryReader<F> {
     fn entry(&mut self, index: usize, from: EntryFrom) -> Result<Vec<u8>, LogError>
         ensures shown { from ≡ EntryFrom.Log
             → IfOk result (λ entry. IsShown (checkpoint_said self.old.log.text) index entry.items) }
-        ensures own { F.IsFaithful → IfOk result (λ entry. (origin : List ℕ) (insertions : List (List ℕ × List ℕ))
-            → ReadsRegistry F.seen origin insertions self.old
-            → slice_get (entries_of insertions) index ≡ Some entry.items) }
-        ensures whole { F.IsFaithful → (origin : List ℕ) (insertions : List (List ℕ × List ℕ))
-            → ReadsRegistry F.seen origin insertions self.old
-            → IfErr result (IsNoLogFault (length (entries_of insertions) ≤ index)) }
+        ensures own { F.IsFaithful → IfOk result (λ entry. OfRead F.seen self.old (λ insertions.
+            slice_get (entries_of insertions) index ≡ Some entry.items)) }
+        ensures whole { F.IsFaithful → OfRead F.seen self.old (λ insertions.
+            IfErr result (IsNoLogFault (length (entries_of insertions) ≤ index))) }
         ensures root { self.new.root ≡ self.old.root }
-        ensures reads { F.IsFaithful → (origin : List ℕ) (insertions : List (List ℕ × List ℕ))
-            → ReadsRegistry F.seen origin insertions self.old → ReadsRegistry F.seen origin insertions self.new }
+        ensures reads { F.IsFaithful → StillReads F.seen self.old self.new }
         ensures cause { HasLogCause F.IsFaithful (F.faults self.old.log.folder) (F.faults self.new.log.folder) result }
     {
         match from {

@@ -51,14 +51,6 @@ next_more {X = X} entry_of first old new xs i x below is so_far more es was =
     subst (λ (l : List (List ℕ)). StandsFor sha256 new (leaves_of sha256 l)) (sym all)
     (more (es ++ map entry_of (take i xs)) (so_far es was))
 
--- A log of entries stays one with further ones, and where its full tiles are taken.
-pub entries_more : (old mid new : RightEdge) (more : List (List ℕ))
-    → ((es : List (List ℕ)) → StandsFor sha256 old (leaves_of sha256 es)
-    → StandsFor sha256 mid (leaves_of sha256 (es ++ more)))
-    → ((ds : List (List ℕ)) → StandsFor sha256 mid ds → StandsFor sha256 new ds) → HasEntries old → HasEntries new
-entries_more old mid new more pushed taken has =
-    (has.0 ++ more, taken (leaves_of sha256 (has.0 ++ more)) (pushed has.0 has.1))
-
 -- The checkpoint of a log of entries is theirs.
 pub of_entries : (log : RightEdge) (checkpoint : RootAndLength)
     → ((ds : List (List ℕ)) → StandsFor sha256 log ds → checkpoint.root ≡ root_of sha256 ds)

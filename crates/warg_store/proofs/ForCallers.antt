@@ -1,17 +1,15 @@
 -- Lemmas for the proofs of the crates above, over public definitions alone.
-use Rattle.std.proofs.Common.{◌≡◌, ◌⊎◌, ⊎_elim, ℕ, ◌+◌, ◌<◌, List, length, sym, ap, subst, ◌∙◌, arith}
+use Rattle.std.proofs.Common.{◌≡◌, ◌⊎◌, ⊎_elim, ℕ, ◌+◌, ◌<◌, List, length, sym, subst, arith}
 use Rattle.std.specs.List.{Contains}
 use Rattle.warg_folder.specs.Files.{File, Files}
 use Rattle.warg_folder.specs.Moments.{IsRead}
-use Rattle.warg_store.specs.Log.{LogOf, HasFiles, Keeps, ArePagesStaged, IsCommitting}
+use Rattle.warg_store.specs.Log.{LogOf, Keeps, ArePagesStaged, IsCommitting}
 use Rattle.warg_folder.specs.Commits.{IsBeside}
-use Rattle.warg_store.specs.Growing.{LogIn, IsReady, Has}
-use Rattle.warg_store.specs.Reading.{ServedIn, Reads}
+use Rattle.warg_store.specs.Growing.{LogIn, Has}
 use Rattle.warg_store.specs.Pruned.{AreGone}
 use Rattle.warg_store.proofs.FetchedLemmas as fetched
 use Rattle.warg_store.proofs.GoneLemmas as gone
 use Rattle.warg_store.proofs.GrowingLemmas as growing
-use Rattle.warg_store.proofs.ReadyRuns.{staging_kept}
 
 -- files that are removed, and then others
 pub gone_then : (m n : ℕ) (old mid new : Files) → AreGone m old mid → AreGone n mid new → AreGone (m + n) old new
@@ -25,22 +23,6 @@ module _ {F : Type 0} (seen : F → Files) (may_leave : F → Files → Type 0) 
       → Has seen may_leave served old next m
   has_read served old next l m same read has = subst (Has seen may_leave served old next) (sym same)
       (fetched.has_read seen may_leave served old next l m.folder read.found read.crash has)
-
-  -- and is ready as before
-  pub ready_read : (l m : LogIn F) → m ≡ record l { folder = m.folder }
-      → IsRead seen may_leave moment left_since l.folder m.folder → IsReady seen may_leave l
-      → IsReady seen may_leave m
-  ready_read l m same read ready is_open = staging_kept (seen l.folder) (seen m.folder) (may_leave l.folder)
-      (may_leave m.folder) read.found read.crash (ready (sym (ap (λ (x : LogIn F). x.is_open) same) ∙ is_open))
-
-  -- a reader whose folder was only read has the same log
-  pub reads_read : (log : LogOf) (r t : ServedIn F) → t ≡ record r { folder = t.folder }
-      → IsRead seen may_leave moment left_since r.folder t.folder → Reads seen log r → Reads seen log t
-  reads_read log r t same read reads = record {
-    can = reads.can;
-    text = ap (λ (x : ServedIn F). x.text) same ∙ reads.text;
-    files = subst (HasFiles log) (sym read.found) reads.files;
-  }
 
 -- fewer pages to be kept, where each of the others is kept already
 fewer_staged : (served old next fewer : List File) (files : Files)

@@ -1,10 +1,9 @@
 -- Files that are removed, one after the other.
 use Rattle.std.proofs.Common.{◌≡◌, ◌≢◌, ℕ, zero, suc, ◌+◌, ◌<◌, ◌≤◌, List, length, get_or, Option, IsSome, string_bytes, sym, ap, subst, ◌∙◌, arith}
-use Rattle.std.specs.List.{AllPairs}
 use Rattle.std.specs.declared.string.String.{String}
 use Rattle.std.specs.declared.alloc.Global.{Global}
 use Rattle.std.proofs.lemmas.List.{get_or_default}
-use Rattle.warg_folder.specs.Files.{Files, without}
+use Rattle.warg_folder.specs.Files.{Files, without, AreApart}
 use Rattle.warg_folder.proofs.ForCallers.{without_apart}
 use Rattle.warg_store.specs.Pruned.{AreGone}
 
@@ -30,7 +29,7 @@ AreLeft i names files = (k : ℕ) (d : String Global) → i ≤ k → k < length
 -- without the first of them those behind it still have
 pub left_behind : (names : List (String Global)) (i : ℕ) (it : String Global) (name : List ℕ) (mid new : Files)
     → i < length names → it ≡ get_or names i it → name ≡ string_bytes it
-    → AllPairs (λ (a b : String Global). string_bytes a ≢ string_bytes b) names
+    → AreApart names
     → AreLeft i names mid → new ≡ without name mid → AreLeft (i + 1) names new
 left_behind names i it name mid new below is named apart left gone k d behind inside =
     let text : String Global → List ℕ = λ s. string_bytes s in

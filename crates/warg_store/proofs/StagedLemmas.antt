@@ -78,10 +78,5 @@ staged_from P (f ∷ fs) s n each some = elim (staged_from P fs (put (staged f.0
   | inr later ↦ inr later
 ]
 
-pub all_weaker : (P Q : File → Type 0) → ((f : File) → P f → Q f) → (fs : List File) → AllByRecursion P fs
-    → AllByRecursion Q fs
-all_weaker P Q weak [] each = tt
-all_weaker P Q weak (f ∷ fs) each = (weak f each.0, all_weaker P Q weak fs each.1)
-
 pub beside_back : (s m e : Files) → ((n : List ℕ) → is_staged n ≡ false → m n ≡ s n) → IsBeside m e → IsBeside s e
 beside_back s m e same was = record { outside = λ n isnt. was.outside n isnt ∙ same n isnt; no_mark = was.no_mark }

@@ -1,6 +1,8 @@
 -- What is removed: by pruning, partial tiles and bundles whose full one is there; by their names, pages.
-use Rattle.std.specs.Prelude.{◌≡◌, ◌≢◌, ◌⊎◌, ℕ, zero, suc, ◌<◌, true, List, None, IsSome}
+use Rattle.std.specs.Prelude.{◌≡◌, ◌≢◌, ◌⊎◌, ℕ, zero, suc, ◌<◌, true, List, None, IsSome, All, string_bytes}
 use Rattle.std.specs.List.{Contains}
+use Rattle.std.specs.declared.alloc.Global.{Global}
+use Rattle.std.specs.declared.string.String.{String}
 use Rattle.warg_tiles.specs.Tiles.{TileAt, IsTile}
 use Rattle.warg_tiles.specs.TilePaths.{tile_path, entries_path}
 use Rattle.warg_tiles.specs.Between.{IsTileOf}
@@ -40,6 +42,10 @@ AreGone (suc n) old new = (name : List ℕ) × (before : Files) × AreGone n old
 -- None of the names is that of one of the pages.
 abbrev pub IsNoneOf : List (List ℕ) → List File → Type 0
 IsNoneOf names pages = (n : List ℕ) → Contains names n → (f : File) → Contains pages f → page_name f.0 ≢ n
+
+-- Each of the names is a page's, and has a file.
+abbrev pub ArePagesIn : Files → List (String Global) → Type 0
+ArePagesIn files names = All (λ (name : String Global). IsSome (files (string_bytes name)) × (is_page (string_bytes name) ≡ true)) names
 
 -- None of the names is that of a page which is served, kept or to be kept.
 pub record ArePagesNotOf (names : List (List ℕ)) (served old next : LogOf) : Type 0 where

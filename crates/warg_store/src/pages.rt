@@ -1,13 +1,13 @@
 //! The pages of a log's folder.
 
-ghost use Rattle.std.specs.Prelude.{◌≡◌, ◌≢◌, ◌+◌, ℕ, true, List, length, take, map, option_map, None, IfOk, OnOk, IsSome, All, AllPairs, Contains, string_bytes};
-ghost use Rattle.warg_folder.specs.Files.{Files, without};
+ghost use Rattle.std.specs.Prelude.{◌≡◌, ◌≢◌, ◌+◌, ℕ, true, List, length, take, map, option_map, None, IfOk, OnOk, IsSome, All, Contains, string_bytes};
+ghost use Rattle.warg_folder.specs.Files.{Files, without, AreApart};
 ghost use Rattle.warg_store.specs.Growing.{Has};
 ghost use Rattle.warg_store.specs.Log.{LogOf, IsOneOf};
 ghost use Rattle.warg_folder.specs.Moments.{Only, Follows, Elapses, IsRead, LeavesOnly, HasCause};
 ghost use Rattle.warg_folder.specs.Names.{is_page, page_name};
 ghost use Rattle.warg_store.specs.Private.Steps.{IsPageGone};
-ghost use Rattle.warg_store.specs.Pruned.{AreGone, ArePagesNotOf, IsWithoutPages};
+ghost use Rattle.warg_store.specs.Pruned.{AreGone, ArePagesIn, ArePagesNotOf, IsWithoutPages};
 
 use crate::log_folder::LogFolder;
 use std::alloc::Global;
@@ -31,12 +31,10 @@ impl<F: Folder + Drop> LogFolder<F> {
     /// The names below `map/` that have a file, in any order, each once. It changes nothing, and fails only if memory
     /// is refused or the device fails.
     pub fn pages(&mut self) -> Result<Vec<String>, FolderError>
-        ensures there { F.IsFaithful → IfOk result (λ names. All (λ name. IsSome (F.seen self.old.folder (string_bytes name))
-            × (is_page (string_bytes name) ≡ true)) names.items) }
+        ensures there { F.IsFaithful → IfOk result (λ names. ArePagesIn (F.seen self.old.folder) names.items) }
         ensures all { F.IsFaithful → IfOk result (λ names. (n : List ℕ) → IsSome (F.seen self.old.folder n)
             → is_page n ≡ true → Contains (map (λ name. string_bytes name) names.items) n) }
-        ensures once { F.IsFaithful → IfOk result (λ names.
-            AllPairs (λ a b. string_bytes a ≢ string_bytes b) names.items) }
+        ensures once { F.IsFaithful → IfOk result (λ names. AreApart names.items) }
         ensures same { self.new ≡ record self.old { folder = self.new.folder } }
         ensures read { F.IsFaithful
             → IsRead F.seen F.may_leave F.moment F.left_since self.old.folder self.new.folder }
@@ -61,9 +59,7 @@ impl<F: Folder + Drop> LogFolder<F> {
             → Has F.seen F.may_leave served old next self.old
             → ArePagesNotOf (map (λ name. string_bytes name) names.now) served old next
             → LeavesOnly F.moment F.left_since self.old.folder self.new.folder (IsOneOf served old old) }
-        ensures gone { F.IsFaithful → AllPairs (λ a b. string_bytes a ≢ string_bytes b) names.now
-            → All (λ name. IsSome (F.seen self.old.folder (string_bytes name))
-            × (is_page (string_bytes name) ≡ true)) names.now
+        ensures gone { F.IsFaithful → AreApart names.now → ArePagesIn (F.seen self.old.folder) names.now
             → OnOk result (AreGone (length names.now) (F.seen self.old.folder) (F.seen self.new.folder)) }
         ensures same { self.new ≡ record self.old { folder = self.new.folder } }
         ensures cause { HasCause F.IsFaithful (F.faults self.old.folder) (F.faults self.new.folder) result }
@@ -78,8 +74,7 @@ fn remove_all<F: Folder>(folder: &mut F, names: &[String]) -> Result<(), FolderE
         → F.seen folder.new (string_bytes name) ≡ None) names.now) }
     ensures only { F.IsFaithful → OnOk result (IsWithoutPages (map (λ name. string_bytes name) names.now)
         (F.seen folder.old) (F.seen folder.new)) }
-    ensures gone { F.IsFaithful → AllPairs (λ a b. string_bytes a ≢ string_bytes b) names.now
-        → All (λ name. IsSome (F.seen folder.old (string_bytes name)) × (is_page (string_bytes name) ≡ true)) names.now
+    ensures gone { F.IsFaithful → AreApart names.now → ArePagesIn (F.seen folder.old) names.now
         → OnOk result (AreGone (length names.now) (F.seen folder.old) (F.seen folder.new)) }
     ensures durable { F.IsFaithful → OnOk result (Only (F.seen folder.new) (F.may_leave folder.new)) }
     ensures any_moment { F.IsFaithful → LeavesOnly F.moment F.left_since folder.old folder.new (λ c. (d : Files)
@@ -96,8 +91,7 @@ fn remove_each<F: Folder>(folder: &mut F, names: &[String]) -> Result<(), Folder
         → F.seen folder.new (string_bytes name) ≡ None) names.now) }
     ensures only { F.IsFaithful → OnOk result (IsWithoutPages (map (λ name. string_bytes name) names.now)
         (F.seen folder.old) (F.seen folder.new)) }
-    ensures gone { F.IsFaithful → AllPairs (λ a b. string_bytes a ≢ string_bytes b) names.now
-        → All (λ name. IsSome (F.seen folder.old (string_bytes name)) × (is_page (string_bytes name) ≡ true)) names.now
+    ensures gone { F.IsFaithful → AreApart names.now → ArePagesIn (F.seen folder.old) names.now
         → OnOk result (AreGone (length names.now) (F.seen folder.old) (F.seen folder.new)) }
     ensures crash { F.IsFaithful → Follows (IsWithoutPages (map (λ name. string_bytes name) names.now))
         (F.may_leave folder.old) (F.may_leave folder.new) }

@@ -1,9 +1,9 @@
 //! Files that the log needs no more.
 
-ghost use Rattle.std.specs.Prelude.{None, ◌≡◌, ◌≢◌, ◌≤◌, ◌<◌, ◌^◌, ◌↔◌, ℕ, true, List, length, if◌then◌else◌, All, AllPairs, IsSome, IsTrue, IfOk, IfErr, IfSome, OnOk, string_bytes};
+ghost use Rattle.std.specs.Prelude.{None, ◌≡◌, ◌≢◌, ◌≤◌, ◌<◌, ◌^◌, ◌↔◌, ℕ, true, List, length, if◌then◌else◌, All, IsSome, IsTrue, IfOk, IfErr, IfSome, OnOk, string_bytes};
 ghost use Rattle.warg_tiles.specs.Between.{IsTileOf};
 ghost use Rattle.warg_tiles.specs.Tiles.{TileAt, IsTile};
-ghost use Rattle.warg_folder.specs.Files.{Files, without};
+ghost use Rattle.warg_folder.specs.Files.{Files, without, AreApart};
 ghost use Rattle.warg_folder.specs.Moments.{Only, LeavesOnly, HasCause};
 ghost use Rattle.warg_folder.specs.Names.{is_staged};
 ghost use Rattle.warg_folder.specs.Commits.{IsStaging};
@@ -103,7 +103,7 @@ fn prune_each<F: Folder>(
         → ((d : Files) → F.may_leave folder.old d → IsPruning kept served s d)
         → All (λ name. IsSpare kept served s (string_bytes name)
         → F.seen folder.new (string_bytes name) ≡ None) names.now) }
-    ensures gone { F.IsFaithful → AllPairs (λ a b. string_bytes a ≢ string_bytes b) names.now
+    ensures gone { F.IsFaithful → AreApart names.now
         → All (λ name. IsSome (F.seen folder.old (string_bytes name))) names.now
         → IfOk result (λ n. AreGone n (F.seen folder.old) (F.seen folder.new)) }
     ensures few { IfOk result (λ n. n ≤ length names.now) }

@@ -36,15 +36,6 @@ serves_last : (xs : List ℕ) (x : ℕ) (t : TileAt) → has_below t x ≡ true 
 serves_last xs x t has = list_any-append (has_below t) xs (x ∷ [])
     ∙ (let last : list_any (has_below t) (x ∷ []) ≡ true = rw has refl in rw last (or_true (list_any (has_below t) xs)))
 
--- no tiles were added for no nodes
-pub added_none : (n : ℕ) (tiles : List TileAt) → IsAdded n tiles tiles []
-added_none n tiles = record {
-  tiles_of = λ are. are;
-  serve = λ before all. serves_more before [] tiles all;
-  keep = λ x given. given;
-  give = tt;
-}
-
 -- nor for a node that the tiles give
 pub added_known : (n x : ℕ) (tiles : List TileAt) → gives tiles x ≡ true → IsAdded n tiles tiles (x ∷ [])
 added_known n x tiles given = record {

@@ -195,7 +195,7 @@ impl<D: SupportedDigest, V: VisitBytes, A: Allocator + Copy> LogBuilder<D, V> fo
 
     ghost stands_for = { λ l ds. StandsFor D.digest l ds };
 
-    /// A push hashes the leaf and, of each tile that it fills, the branches: an entry has one branch on average.
+    /// A push hashes the leaf, and the branches of each tile that it fills: on average one branch an entry.
     fn push(&mut self, entry: &V) -> Result<Node, AllocError>
         requires { self.old.len < GREATEST_LENGTH }
         ensures node { IfOk result (λ node. node.0 ≡ 2 * self.old.len) }

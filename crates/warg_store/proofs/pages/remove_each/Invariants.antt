@@ -1,9 +1,9 @@
-use Rattle.std.proofs.Common.{◌≡◌, ◌≢◌, ◌≤◌, map, true, None, IsSome, take, string_bytes}
-use Rattle.std.specs.List.{All, AllPairs}
-use Rattle.warg_folder.specs.Files.{Files}
+use Rattle.std.proofs.Common.{◌≡◌, ◌≤◌, map, true, None, take, string_bytes}
+use Rattle.std.specs.List.{All}
+use Rattle.warg_folder.specs.Files.{Files, AreApart}
 use Rattle.warg_folder.specs.Moments.{Follows, LeavesOnly}
 use Rattle.warg_folder.specs.Names.{is_page}
-use Rattle.warg_store.specs.Pruned.{AreGone, IsWithoutPages}
+use Rattle.warg_store.specs.Pruned.{AreGone, ArePagesIn, IsWithoutPages}
 use Rattle.warg_store.proofs.GoneLemmas.{AreLeft}
 use Rattle.warg_store.proofs.pages.remove_each.Given as goal
 
@@ -19,9 +19,8 @@ invariant-names g l = record {
   time : g.F.Folder.IsFaithful → LeavesOnly g.F.Folder.moment g.F.Folder.left_since l.fn.folder l.folder
       (λ c. (d : Files) × g.F.Folder.may_leave l.fn.folder d
       × IsWithoutPages (map (λ name. string_bytes name) l.names) d c);
-  gone : g.F.Folder.IsFaithful → AllPairs (λ a b. string_bytes a ≢ string_bytes b) l.names
-      → All (λ name. IsSome (g.F.Folder.seen l.fn.folder (string_bytes name))
-      × (is_page (string_bytes name) ≡ true)) l.names
+  gone : g.F.Folder.IsFaithful → AreApart l.names
+      → ArePagesIn (g.F.Folder.seen l.fn.folder) l.names
       → AreGone l.name-index (g.F.Folder.seen l.fn.folder) (g.F.Folder.seen l.folder)
       × AreLeft l.name-index l.names (g.F.Folder.seen l.folder);
 }

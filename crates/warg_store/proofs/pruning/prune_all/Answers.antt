@@ -1,9 +1,9 @@
-use Rattle.std.proofs.Common.{◌≡◌, ◌≢◌, true, IsSome, codes, nat_eq, map, get_or, length, string_bytes, sym, ap, subst, ◌∙◌}
-use Rattle.std.specs.List.{All, AllPairs, Contains, starts_with}
+use Rattle.std.proofs.Common.{◌≡◌, true, IsSome, codes, nat_eq, map, get_or, length, string_bytes, sym, ap, subst, ◌∙◌}
+use Rattle.std.specs.List.{All, Contains, starts_with}
 use Rattle.std.specs.declared.string.String.{String}
 use Rattle.std.specs.declared.alloc.Global.{Global}
 use Rattle.warg_tiles.specs.CheckpointText.{Said}
-use Rattle.warg_folder.specs.Files.{Files}
+use Rattle.warg_folder.specs.Files.{Files, AreApart}
 use Rattle.warg_folder.specs.Moments.{LeavesOnly}
 use Rattle.warg_store.specs.Pruned.{AreGone, IsSpare}
 use Rattle.warg_store.specs.Private.Steps.{IsPruning}
@@ -96,7 +96,7 @@ returns-clause-gone g c = λ faithful.
     subst (λ (f : Files). AreGone c.in_ok-removed.removed first f) (sym (c.sync.ensures.seen faithful))
     (subst (λ (f : Files). AreGone c.in_ok-removed.removed f (g.F.Folder.seen c.prune_each.new.folder)) listed
     (c.in_ok-removed.ensures.gone faithful
-    (subst (λ l. AllPairs (λ a b. string_bytes a ≢ string_bytes b) l) (sym c.as_slice.ensures.value)
+    (subst AreApart (sym c.as_slice.ensures.value)
     (c.in_ok-names.ensures.once faithful)) there))
 
 pub returns-clause-all : goal.returns-clause-all

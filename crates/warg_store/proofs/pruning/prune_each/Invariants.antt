@@ -1,6 +1,6 @@
-use Rattle.std.proofs.Common.{◌≡◌, ◌≢◌, ◌≤◌, ℕ, List, true, None, IsSome, take, string_bytes}
-use Rattle.std.specs.List.{All, AllPairs}
-use Rattle.warg_folder.specs.Files.{Files}
+use Rattle.std.proofs.Common.{◌≡◌, ◌≤◌, ℕ, List, true, None, IsSome, take, string_bytes}
+use Rattle.std.specs.List.{All}
+use Rattle.warg_folder.specs.Files.{Files, AreApart}
 use Rattle.warg_folder.specs.Moments.{LeavesOnly}
 use Rattle.warg_folder.specs.Names.{is_staged}
 use Rattle.warg_store.specs.Private.Steps.{IsPruning}
@@ -19,7 +19,7 @@ invariant-names g l = record {
       → LeavesOnly g.F.Folder.moment g.F.Folder.left_since l.fn.folder l.folder (IsPruning l.kept l.served s);
   staged : g.F.Folder.IsFaithful → (n : List ℕ) → is_staged n ≡ true → g.F.Folder.seen l.folder n
       ≡ g.F.Folder.seen l.fn.folder n;
-  gone : g.F.Folder.IsFaithful → AllPairs (λ a b. string_bytes a ≢ string_bytes b) l.names
+  gone : g.F.Folder.IsFaithful → AreApart l.names
       → All (λ name. IsSome (g.F.Folder.seen l.fn.folder (string_bytes name))) l.names
       → AreGone l.removed (g.F.Folder.seen l.fn.folder) (g.F.Folder.seen l.folder)
       × AreLeft l.name-index l.names (g.F.Folder.seen l.folder);

@@ -5,7 +5,8 @@ use Rattle.std.specs.declared.alloc.Global.{Global}
 use Rattle.warg_folder.specs.declared.memory.Call.{Call}
 use Rattle.warg_folder.specs.declared.memory.Call.TheVariants.{Synced}
 use Rattle.warg_folder.specs.Memory.{seen_after, name_put}
-use Rattle.warg_folder.proofs.ListedLemmas.{AreThere, AreAll, AreApart, there_more, all_more, all_same, all_put, apart_more}
+use Rattle.warg_folder.specs.Files.{AreApart}
+use Rattle.warg_folder.proofs.ListedLemmas.{AreThere, AreAll, there_more, all_more, all_same, all_put, apart_more}
 use Rattle.warg_folder.proofs.memory.MemoryFolderFolder.list.Goals as goal
 use Rattle.warg_folder.proofs.memory.MemoryFolderFolder.list.Goals.{in-Some+in_ok-copied-in-Some+in_ok-push-in-Some, in-None}
 

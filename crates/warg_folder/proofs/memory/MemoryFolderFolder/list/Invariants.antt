@@ -1,4 +1,5 @@
-use Rattle.warg_folder.proofs.ListedLemmas.{AreThere, AreAll, AreApart}
+use Rattle.warg_folder.specs.Files.{AreApart}
+use Rattle.warg_folder.proofs.ListedLemmas.{AreThere, AreAll}
 use Rattle.warg_folder.proofs.memory.MemoryFolderFolder.list.Given as goal
 
 abbrev pub invariant-each : goal.invariant-each

@@ -1,15 +1,15 @@
-use Rattle.std.proofs.Common.{◌≡◌, ⊎_elim, true, None, IsSome, List, length, sym, subst, ◌∙◌, string_bytes, arith}
+use Rattle.std.proofs.Common.{◌≡◌, ⊎_elim, true, None, List, length, sym, subst, ◌∙◌, string_bytes, arith}
 use Rattle.std.specs.List.{All}
 use Rattle.std.proofs.lemmas.List.{length-map}
 use Rattle.std.specs.declared.alloc.Global.{Global}
 use Rattle.std.specs.declared.string.String.{String}
 use Rattle.warg_folder.specs.Names.{is_page}
-use Rattle.warg_folder.specs.Files.{Files}
-use Rattle.warg_store.specs.Pruned.{AreGone, ArePagesNotOf, IsSpare, IsWithoutPages}
+use Rattle.warg_folder.specs.Files.{Files, AreApart}
+use Rattle.warg_store.specs.Pruned.{AreGone, ArePagesIn, ArePagesNotOf, IsSpare, IsWithoutPages}
 use Rattle.warg_store.proofs.ForCallers.{gone_then}
 use Rattle.warg_registry.specs.Folder.{registry_of, RegistryIn}
 use Rattle.warg_registry.specs.Insertions.{entry_of}
-use Rattle.warg_registry.specs.Pruning.{bytes_of, AreApart}
+use Rattle.warg_registry.specs.Pruning.{bytes_of}
 use Rattle.warg_registry.proofs.LeftPages.{page_stays, spare_in}
 use Rattle.warg_registry.proofs.Sources.{log_is_read}
 use Rattle.warg_registry.proofs.Refused.{told_as}
@@ -76,9 +76,7 @@ returns-clause-gone g c = λ faithful origin served kept has.
     let last = dev.seen c.remove_pages.new.self.folder in
     let here = c.spare.ensures.read faithful c.self.inside.pages.log (log_is_read dev c.self.inside.pages.log) in
     let stay = c.in_ok-pruned.ensures.only faithful S K K run.at in
-    let there : All (λ name. IsSome (pruned (string_bytes name)) × (is_page (string_bytes name) ≡ true))
-    c.as_slice.result.now = subst (λ l. All (λ name. IsSome (pruned (string_bytes name))
-    × (is_page (string_bytes name) ≡ true)) l) (sym c.as_slice.ensures.value)
+    let there : ArePagesIn pruned c.as_slice.result.now = subst (ArePagesIn pruned) (sym c.as_slice.ensures.value)
     (λ k d inside. let is = c.in_ok-spare.ensures.there faithful k d inside in
     (page_stays _ pruned _ _ stay _ is.1 is.0, is.1)) in
     let apart = subst AreApart (sym c.as_slice.ensures.value) (c.in_ok-spare.ensures.apart faithful) in
