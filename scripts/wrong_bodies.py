@@ -4,12 +4,13 @@
 An edit is a line 'file: src/lib.rt' and then pairs of lines 'old: TEXT' and 'new: TEXT', each old text standing there once; 'old
 line: TEXT' stands for a whole line, and after a line 'behind: TEXT' the first one behind that text is meant. One check of a copy
 of the crate carries a round of edits, one a proof at most, and proves the functions that they change alone: a function's proof
-rests on its callees' contracts and on the statements of lemmas, not on their proofs, so one hole stands for all of these. An edit
-is refused exactly if the check names an open goal, or an error in the proof files, of the function that it changes, or of one in
-a cycle of calls with it, as these have one proof. What waits for a callee, lacks a name or was cut off goes to the next round,
-and what no round has judged goes alone, over the whole crate. What is let through fails, and so does an edit that changes no one
-function. The libraries below are those that rt ci or rt check has left. Edits in wrong-bodies/planted change no meaning, and show
-that this script can fail: each must come out as let through, and waits_* wait first for the broken function that it calls.
+rests on its callees' contracts and on what lemmas state, so each other body is empty, and one hole stands for all other proofs.
+An edit is refused exactly if the check names an open goal, or an error in the proof files, of the function that it changes, or of
+one in a cycle of calls with it, as these have one proof. What waits for a callee, lacks a name or was cut off goes to the next
+round, and what no round has judged goes alone, over the whole crate. What is let through fails, and so does an edit that changes
+no one function. The libraries below are those that rt ci or rt check has left. Edits in wrong-bodies/planted change no meaning,
+and show that this script can fail: each must come out as let through, and waits_* wait first for the broken function that it
+calls.
 
 Usage: wrong_bodies.py [--crate NAME] [--only WORD]
 """
@@ -24,7 +25,6 @@ import re
 import shutil
 import sys
 import tempfile
-import time
 
 import items
 import kit
@@ -45,25 +45,22 @@ LACKS_A_NAME = re.compile(r"has no field|is not in scope|has no `|was not admitt
 
 @dataclasses.dataclass(eq=False)
 class Edit:
-    """A wrong body: its pairs of texts by file, the names of the functions that have one proof with the one that it changes,
-    itself first, the words of its goals' names that it changes, by the folder of the answers, and what its rounds told."""
+    """A wrong body: its pairs of texts by file, whether it is planted, the names of the functions that have one proof with the one
+    that it changes, itself first, the words of its goals' names that it changes, by the folder of the answers, and what its rounds
+    told."""
 
     path: pathlib.Path
     pairs: list
+    is_planted: bool
     functions: list = ()
     renamed: set = dataclasses.field(default_factory=set)
     told: list = dataclasses.field(default_factory=list)
 
-    @property
-    def is_planted(self):
-        return self.path.parent.name == "planted"
-
     def fault(self):
         """Returns what is wrong with what its rounds told, or nothing."""
-        if not self.is_planted:
-            return "" if self.told[-1] == "refused" else f"LET THROUGH: {self.told[-1]}"
-        if self.told[-1] != "proved":
-            return f"planted, and not seen as let through: {self.told}"
+        wanted = "proved" if self.is_planted else "refused"
+        if self.told[-1] != wanted:
+            return f"not {wanted}: {self.told}"
         waits = not self.path.stem.startswith("waits_") or self.told[0] == "waits"
         return "" if waits else f"planted, and waits for no broken function in its first round: {self.told}"
 
@@ -83,14 +80,12 @@ def read(path):
         elif key == "new" and file and old:
             pairs.append((file, behind, around + old + around, around + text + around))
             old = None
-    return Edit(path, pairs)
+    return Edit(path, pairs, path.parent.name == "planted")
 
 
 def place(text, behind, old):
     """Returns where an old text stands in a file's, the first time behind the other one, or -1 where one isn't there just once."""
-    if text.count(behind or old) != 1:
-        return -1
-    return text.find(old, text.find(behind) if behind else 0)
+    return text.find(old, text.find(behind) if behind else 0) if text.count(behind or old) == 1 else -1
 
 
 def applied(edit, texts):
@@ -209,10 +204,10 @@ class Crate:
             found.add(around[-1] if around else "")
         return found.pop() if len(found) == 1 else ""
 
-    def leave_out(self, proofs, edits):
-        """Puts the hole in place of each proof, in a copy's folder of them, but those of recursive functions and of those that the
-        edits change."""
-        changed = {it for edit in edits for it in edit.functions}
+    def leave_out(self, room, edits):
+        """Puts nothing in place of each body in a copy, and the hole in place of its proof, but of recursive functions and of those
+        that the edits change."""
+        proofs, changed = room / "proofs", {it for edit in edits for it in edit.functions}
         hole = f"use Rattle.{self.name}.proofs.LetThrough.{{let_through}}\n"
         for file in [it for it in proofs.rglob("*.antt") if it.stem not in ("Answers", "Invariants", "Proof", "Lib")]:
             file.write_text(hole + LEMMA.sub(r"\g<said>\g<room>\g<name> = absurd let_through\n", file.read_text()))
@@ -220,14 +215,21 @@ class Crate:
         proofs.joinpath("LetThrough.antt").write_text("pub let_through : ⊥\nlet_through = ?\n")
         with proofs.joinpath("Lib.antt").open("a") as declared:
             declared.write("pub mod LetThrough\n")
-        for it, name in (it for found in self.functions.values() for it in found):
-            parts = name.split("::")[1:]
-            folder = proofs.joinpath(*parts)
-            is_recursive = name in sum(self.cycles.values(), []) or folder.with_name(f"+{it.name}").exists()
-            if not is_recursive and not it.is_of_trait and name not in changed:
+        for file, found in self.functions.items():
+            text = (room / file).read_text()
+            bodies = [it for it in items.functions(text, file) if it.body < it.end]
+            for it, (_, name) in reversed([*zip(bodies, found)]):
+                parts = name.split("::")[1:]
+                folder = proofs.joinpath(*parts)
+                is_recursive = name in sum(self.cycles.values(), []) or folder.with_name(f"+{it.name}").exists()
+                if is_recursive or it.is_of_trait or name in changed or it.name != parts[-1]:
+                    continue
                 shutil.rmtree(folder, ignore_errors=True)
                 folder.mkdir(parents=True)
                 folder.joinpath("Proof.antt").write_text(hole + PROOF.format(".".join(("Rattle", self.name, "proofs", *parts)), it.name))
+                if it.name != "drop":
+                    text = text[: it.body] + "{ unreachable!() }" + text[it.end :]
+            (room / file).write_text(text)
 
     def check(self, edits, is_whole=False):
         """Checks a copy of the crate with these edits: the whole crate, or the functions that they change alone."""
@@ -243,7 +245,7 @@ class Crate:
             for folder, *words in {it for edit in edits for it in edit.renamed}:
                 rename(f"{room}/proofs/{folder}", *words)
             if not is_whole:
-                self.leave_out(pathlib.Path(room, "proofs"), edits)
+                self.leave_out(pathlib.Path(room), edits)
             words = [kit.RATTLE, "check", *kit.words(self.name), *scope, "--jobs", "1", "--incremental", self.kept]
             stages = pathlib.Path(room, "stages")
             is_read = lambda: stages.exists() and "stage lines" in stages.read_text()
@@ -288,8 +290,8 @@ class Crate:
             ended = [it for it in taken if it.told[-1] == "refused" or it.is_planted and it.told[-1] == "proved"]
             ended += taken if len(taken) == 1 and taken[0].told[-1] != RENAMED else []
             left = [it for it in left if it not in ended]
-        lost = "an old text doesn't stand in its file as it has to, or isn't of one function"
-        faults = [f"{it.path.stem}: {lost}" for it in self.found if it not in self.edits]
+        lost = (it for it in self.found if it not in self.edits)
+        faults = [f"{it.path.stem}: an old text doesn't stand in its file as it has to, or isn't of one function" for it in lost]
         faults += [f"{it.path.stem}: {it.fault()}" for it in self.edits if it.fault()]
         wrong = [it for it in self.edits if not it.is_planted]
         self.refused = sum(it.told[-1] == "refused" for it in self.edits)
@@ -305,12 +307,10 @@ def main():
     asked = asked.parse_args()
     crates = [Crate(it, asked.only) for it in kit.crates() if it in (asked.crate or kit.crates())]
     crates = sorted((it for it in crates if it.found), key=lambda it: -len(it.edits))
-    began = time.monotonic()
     with tempfile.TemporaryDirectory(prefix="wrong-bodies-kept-") as room:
         with concurrent.futures.ThreadPoolExecutor(len(os.sched_getaffinity(0))) as pool:
             failed = sum(map(len, pool.map(lambda it: it.try_all(room), crates)))
-    refused, seconds = sum(it.refused for it in crates), time.monotonic() - began
-    print(f"wrong bodies: {refused} refused, {failed} failed, {seconds:.0f} seconds")
+    print(f"wrong bodies: {sum(it.refused for it in crates)} refused, {failed} failed")
     sys.exit(bool(failed))
 
 
