@@ -33,7 +33,7 @@ RENAMED = "its goals have other names"
 WAITS = re.compile(r"which (is|are) not proved")
 # What a check says of a function whose own proof has no open goal; the second and the third, of one beside holes.
 PROVED = ("proved", "no holes", "depends on a hole in")
-# A function's proof that isn't looked at, by the hole that stands for all of them, and a lemma in a file, with its own.
+# What stands for the proof of a function that a round doesn't judge; and a lemma in a file, what it says and its proof.
 PROOF = "use {0}.Statement.{{statement}}\n\npub {1}_spec : {{M : Type 1}} → statement M\n{1}_spec = absurd let_through\n"
 LEMMA = re.compile(r"""^(?P<said>(?P<room>\ *)(?:pub\ )?(?P<name>[^\s:(){}=]+)(?:\ \{[^}]*\})?\ :.*\n(?:(?P=room)(?:\ +\S|[)}\]]).*\n)*)
 (?:(?P=room)unfolding\ .*\n(?:(?P=room)\ +\S.*\n)*)?(?:(?P=room)(?P=name)\ .*\n(?:(?P=room)(?:\ +\S|[)}\]]).*\n|\n+(?=(?P=room)\ +\S))*)+""", re.M | re.X)
