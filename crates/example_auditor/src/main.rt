@@ -23,23 +23,39 @@ impl Progress for Steps {
 }
 
 fn main(rt: HostRuntime) -> Result<()> {
-    let alloc = rt.alloc();
     // (here the folder leaves why the system refuses a call)
     let fault = Cell::new(None);
     let folder = SystemFolder::new(&rt, "registry", &fault)?;
-    let mut registry = RegistryReader::open(alloc, folder)?;
+    let mut registry = RegistryReader::open(rt.alloc(), folder)?;
+    let newest = audit(&rt, &mut registry)?;
+    compare(&rt, &mut registry.into_log(), &newest)
+}
+
+// The registry's checkpoint, once all is as its entries have it.
+fn audit(
+    rt: &HostRuntime,
+    registry: &mut RegistryReader<SystemFolder<'_>>,
+) -> Result<Checkpoint<Sha256>> {
     let newest = registry.audit(&mut Steps(0))?;
     let (length, root) = (newest.length(), newest.root());
     println!(rt; "{length} entries, root {root}")?;
     let root = registry.root();
     println!(rt; "the map's root is {root}")?;
-    let mut log = registry.into_log();
-    for line in rt.lines(alloc) {
+    Ok(newest)
+}
+
+// Goes through the checkpoints on standard input, up to the first that the log doesn't continue.
+fn compare(
+    rt: &HostRuntime,
+    log: &mut LogReader<SystemFolder<'_>>,
+    newest: &Checkpoint<Sha256>,
+) -> Result<()> {
+    for line in rt.lines(rt.alloc()) {
         let Some(old) = checkpoint_of(line?.as_str()) else {
             bail!("not a length and a root");
         };
         let (length, root) = (old.length(), old.root());
-        if !continues(&mut log, &old, &newest)? {
+        if !continues(log, &old, newest)? {
             bail!("the log doesn't continue {length} {root}");
         }
         println!(rt; "{length} entries are still there")?;

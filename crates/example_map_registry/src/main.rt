@@ -9,6 +9,7 @@ use anyhow::{Result, bail};
 use std::alloc::Global;
 use std::cell::Cell;
 use std::{env, fs};
+use warg_crypto::{Hash, Sha256};
 use warg_registry::{KeyInRegistry, RegistryFolder, RegistryReader};
 use warg_store::SystemFolder;
 
@@ -20,7 +21,9 @@ fn main(rt: HostRuntime) -> Result<()> {
     for line in rt.lines(alloc) {
         lines.push(line?)?;
     }
-    publish(&rt, lines.as_slice())?;
+    let insertions = insertions_of(alloc, lines.as_slice())?;
+    let (count, root) = (insertions.len(), publish(&rt, insertions.as_slice())?);
+    println!(rt; "{count} insertions, map {root}")?;
     let words = env::args(&rt)?.collect::<Vec<String>>(alloc)?;
     for key in words.iter().skip(1) {
         look_up(&rt, key.as_str())?;
@@ -28,19 +31,15 @@ fn main(rt: HostRuntime) -> Result<()> {
     Ok(())
 }
 
-// Makes the registry of these lines.
-fn publish(rt: &HostRuntime, lines: &[String]) -> Result<()> {
-    let alloc = rt.alloc();
-    let insertions = insertions_of(alloc, lines)?;
+// Makes the registry of these insertions, and returns the root of their map.
+fn publish(rt: &HostRuntime, insertions: &[(&[u8], &[u8])]) -> Result<Hash<Sha256>> {
     fs::create_dir_all(rt, "registry/.log")?;
     // (here the folder leaves why the system refuses a call)
     let fault = Cell::new(None);
     let folder = SystemFolder::new(rt, FOLDER, &fault)?;
-    let mut registry = RegistryFolder::create(alloc, folder, b"example.com/registry")?;
-    registry.publish(insertions.as_slice())?;
-    let (count, root) = (lines.len(), registry.root());
-    println!(rt; "{count} insertions, map {root}")?;
-    Ok(())
+    let mut registry = RegistryFolder::create(rt.alloc(), folder, b"example.com/registry")?;
+    registry.publish(insertions)?;
+    Ok(registry.root().copied())
 }
 
 // The key and the value of each line.
@@ -57,10 +56,14 @@ fn insertions_of(alloc: Global, lines: &[String]) -> Result<Vec<(&[u8], &[u8])>>
 
 // Prints what the registry has under a key.
 fn look_up(rt: &HostRuntime, key: &str) -> Result<()> {
-    let alloc = rt.alloc();
     let fault = Cell::new(None);
-    let mut registry = RegistryReader::open(alloc, SystemFolder::new(rt, FOLDER, &fault)?)?;
-    match registry.get(key.as_bytes())? {
+    let folder = SystemFolder::new(rt, FOLDER, &fault)?;
+    let found = RegistryReader::open(rt.alloc(), folder)?.get(key.as_bytes())?;
+    print_found(rt, key, found)
+}
+
+fn print_found(rt: &HostRuntime, key: &str, found: KeyInRegistry) -> Result<()> {
+    match found {
         KeyInRegistry::Held(index, value, peers) => {
             let (value, count) = (String::from_utf8(value)?, peers.len());
             println!(rt; "{key}: {value} (entry {index}, path of {count})")?;

@@ -52,12 +52,20 @@ impl Session<'_> {
             return Err(Refusal::Argument("--every has to be at least 1".into()));
         }
         let _lock = self.lock()?;
-        let mut log = self.log()?;
+        self.append_to(&mut self.log()?, asked, every)
+    }
+
+    fn append_to(
+        &self,
+        log: &mut Log<'_>,
+        asked: &ArgMatches<'_>,
+        every: usize,
+    ) -> Result<(), Refusal> {
         if names_map(log.text()) {
             return Err(Refusal::HasMap(self.name()?));
         }
         let first = length_of(asked, &log.checkpoint())?;
-        self.push_all(&mut log, every, asked.get_flag("binary"))?;
+        self.push_all(log, every, asked.get_flag("binary"))?;
         self.done(log.commit())?;
         self.say_added(first, log.length())
     }

@@ -10,20 +10,30 @@ use std::alloc::{AllocError, Global};
 use warg_crypto::{Hash, Sha256};
 use warg_protobuf::{MapInclusionProof, MapProofBundle, OptionalHash};
 use warg_registry::{KeyInRegistry, RegistryFolder, RegistryReader};
-use warg_store::Progress;
+use warg_store::{Progress, SystemFolder};
+
+/// A registry in a folder of the system's.
+type Registry<'a> = RegistryFolder<SystemFolder<'a>>;
 
 impl Session<'_> {
     /// Adds the insertions of standard input, all of them or none, and prints the index of the first one and the new length.
     pub fn publish(&self, asked: &ArgMatches<'_>) -> Result<(), Refusal> {
         let _lock = self.lock()?;
-        let alloc = self.rt.alloc();
-        let mut registry = self.opened(RegistryFolder::open(alloc, self.files()?))?;
+        let registry = RegistryFolder::open(self.rt.alloc(), self.files()?);
+        self.publish_in(&mut self.opened(registry)?, asked)
+    }
+
+    fn publish_in(
+        &self,
+        registry: &mut Registry<'_>,
+        asked: &ArgMatches<'_>,
+    ) -> Result<(), Refusal> {
         let first = length_of(asked, &registry.checkpoint())?;
         let insertions = self.read_insertions()?;
         let borrowed: Vec<(&[u8], &[u8])> = insertions
             .iter()
             .map(|(key, value)| (key.as_slice(), value.as_slice()))
-            .collect(alloc)?;
+            .collect(self.rt.alloc())?;
         self.done(registry.publish(borrowed.as_slice()))?;
         self.say_added(first, registry.checkpoint().length())
     }
@@ -49,9 +59,13 @@ impl Session<'_> {
         let key = word_in(alloc, text(asked, "KEY").as_bytes())?;
         let fault = "a key is two hexadecimal digits for each byte, or - for no bytes";
         let key = key.ok_or(Refusal::Argument(fault.into()))?;
-        let mut registry = self.opened(RegistryReader::open(alloc, self.files()?))?;
-        let found = said_of(alloc, &self.done(registry.get(key.as_slice()))?)?;
+        let found = said_of(alloc, &self.look_up(key.as_slice())?)?;
         said(println!(self.rt; "{found}"))
+    }
+
+    fn look_up(&self, key: &[u8]) -> Result<KeyInRegistry, Refusal> {
+        let registry = RegistryReader::open(self.rt.alloc(), self.files()?);
+        self.done(self.opened(registry)?.get(key))
     }
 }
 
