@@ -10,12 +10,13 @@ BLOCK = re.compile(r"^[ \t]*(?:pub(?:\(\w+\))? )?(?:unsafe )?(impl|trait)\b([^{}
 
 @dataclasses.dataclass(frozen=True)
 class Function:
-    """A function of a file: its name, its module or its type and trait, whether it stands in a trait, and where it begins, its
-    clauses begin, its body begins and it ends. One that a trait declares has no body."""
+    """A function of a file: its name, its module or its type and trait, whether it is a trait's own, or an impl's of one, and where it
+    begins, its clauses begin, its body begins and it ends. One that a trait declares has no body."""
 
     name: str
     owner: str
     is_of_trait: bool
+    is_of_impl: bool
     start: int
     clauses: int
     body: int
@@ -106,9 +107,12 @@ def body_of(text, at):
 def functions(text, module):
     """Returns the functions of a file's text, in its order; a free one is known by its module."""
     text = blanked(text)
-    blocks = [(it.end() - 1, closing(text, it.end() - 1), it[1] == "trait", owner_of(it[1], it[2])) for it in BLOCK.finditer(text)]
+    blocks = []
+    for it in BLOCK.finditer(text):
+        is_of_impl = " for " in re.split(r"\bwhere\b", " ".join(it[2].split()))[0]
+        blocks.append((it.end() - 1, closing(text, it.end() - 1), owner_of(it[1], it[2]), it[1] == "trait", is_of_impl))
     found = []
     for it in re.finditer(r"\bfn\s+(\w+)", text):
-        around = [block[2:] for block in blocks if block[0] < it.start() < block[1]] or [(False, module)]
-        found.append(Function(it[1], around[-1][1], around[-1][0], it.start(), *body_of(text, it.end())))
+        around = [block[2:] for block in blocks if block[0] < it.start() < block[1]] or [(module, False, False)]
+        found.append(Function(it[1], *around[-1], it.start(), *body_of(text, it.end())))
     return found

@@ -2,15 +2,11 @@
 """Shows that the prover refuses each crate's wrong bodies, crates/NAME/wrong-bodies/*.edit and must-fail/*.edit.
 
 An edit is a line 'file: src/lib.rt' and then pairs of lines 'old: TEXT' and 'new: TEXT', each old text standing there once; 'old
-line: TEXT' stands for a whole line, and after a line 'behind: TEXT' the first one behind that text is meant. One check of a copy
-of the crate carries a round of edits, one a proof at most, and proves the functions that they change alone: a function's proof
-rests on its callees' contracts and on what lemmas state, so each other body is empty, and one hole stands for all other proofs.
-An edit is refused exactly if the check names an open goal, or an error in the proof files, of the function that it changes, or of
-one in a cycle of calls with it, as these have one proof. What waits for a callee, lacks a name or was cut off goes to the next
-round, and what no round has judged goes alone, over the whole crate. What is let through fails, and so does an edit that changes
-no one function. The libraries below are those that rt ci or rt check has left. Edits in wrong-bodies/planted change no meaning,
-and show that this script can fail: each must come out as let through, and waits_* wait first for the broken function that it
-calls.
+line: TEXT' stands for a whole line, and after a line 'behind: TEXT' the first one behind that text is meant. One check of a copy of
+the crate judges a round of edits (docs/ARCHITECTURE.md). An edit is refused exactly if the check names an open goal of its wrong
+body, or an error in the proof files, which is no lack of a name; what waits for a callee, or lacks names, goes to the next round.
+What is let through or never judged fails, and so does an edit that changes no one function. Edits in wrong-bodies/planted change no
+meaning, and show that this script can fail: each must come out as let through, and waits_* wait first for a broken method.
 
 Usage: wrong_bodies.py [--crate NAME] [--only WORD]
 """
@@ -38,31 +34,30 @@ PROOF = "use {0}.Statement.{{statement}}\n\npub {1}_spec : {{M : Type 1}} → st
 LEMMA = re.compile(r"""^(?P<said>(?P<room>\ *)(?:pub\ )?(?P<name>[^\s:(){}=]+)(?:\ \{[^}]*\})?\ :.*\n(?:(?P=room)(?:\ +\S|[)}\]]).*\n)*)
 (?:(?P=room)unfolding\ .*\n(?:(?P=room)\ +\S.*\n)*)?(?:(?P=room)(?P=name)\ .*\n(?:(?P=room)(?:\ +\S|[)}\]]).*\n|\n+(?=(?P=room)\ +\S))*)+""", re.M | re.X)
 CYCLE = re.compile(r"#\[cycle\((\w+)\)\]\s*(?:#\[[^\n]*\]\s*|//[^\n]*\n\s*)*(?:pub(?:\(\w+\))? )?\Z")
+WRAPPED = re.compile(r"^(?:\./)?proofs/\S+: error: .*(?:\n  .*)+", re.M)
 LACKS_A_GOAL = re.compile(r"^(?:\./)?proofs/(\S+)/\w+\.antt:\d+:\d+: error: `[^`]+`: `goal\.([^`]+)`: module", re.M)
 ASKS = re.compile(r"^help: `Goals` has no `([^`]+)`; rattle asks for ([^;]*)", re.M)
+OPEN = re.compile(r"^note: src/.*\(`([^`]+)`\)", re.M)
 LACKS_A_NAME = re.compile(r"has no field|is not in scope|has no `|was not admitted|is no name")
 
 
 @dataclasses.dataclass(eq=False)
 class Edit:
-    """A wrong body: its pairs of texts by file, whether it is planted, the names of the functions that have one proof with the one
-    that it changes, itself first, the words of its goals' names that it changes, by the folder of the answers, and what its rounds
-    told."""
+    """A wrong body: its pairs of texts by file, whether it is planted, the name of the function that it changes, its own name and
+    those of what has one proof with it, the words of its goals' names that it changes, and what its rounds told."""
 
     path: pathlib.Path
     pairs: list
     is_planted: bool
+    changed: str = ""
     functions: list = ()
     renamed: set = dataclasses.field(default_factory=set)
     told: list = dataclasses.field(default_factory=list)
 
     def fault(self):
         """Returns what is wrong with what its rounds told, or nothing."""
-        wanted = "proved" if self.is_planted else "refused"
-        if self.told[-1] != wanted:
-            return f"not {wanted}: {self.told}"
-        waits = not self.path.stem.startswith("waits_") or self.told[0] == "waits"
-        return "" if waits else f"planted, and waits for no broken function in its first round: {self.told}"
+        wanted = ["waits"] * self.path.stem.startswith("waits_") + ["proved" if self.is_planted else "refused"]
+        return "" if self.told[-len(wanted) :] == wanted else f"it should end as {wanted}, and was told {self.told}"
 
 
 def read(path):
@@ -89,15 +84,14 @@ def place(text, behind, old):
 
 
 def applied(edit, texts):
-    """Returns the texts with the edit, or None unless each of its old texts stands there, as the pairs before leave them."""
-    changed = dict(texts)
-    for file, behind, old, new in edit.pairs:
-        text = changed.get(file, "")
+    """Returns its file's text with the edit, or none unless each of its old texts stands there, as the pairs before leave them."""
+    text = texts.get(edit.pairs[0][0], "") if edit.pairs else ""
+    for _, behind, old, new in edit.pairs:
         at = place(text, behind, old)
         if at < 0:
-            return None
-        changed[file] = text[:at] + new + text[at + len(old) :]
-    return changed if edit.pairs else None
+            return ""
+        text = text[:at] + new + text[at + len(old) :]
+    return text
 
 
 def word_changed(old, new):
@@ -114,28 +108,46 @@ def rename(folder, before, old, new):
         file.write_text(names.sub(rf"\1-{new}", file.read_text()))
 
 
+def copy(room, folder, to):
+    """Copies a function's proof for one of another name beside it."""
+    if (room / folder).is_dir():
+        shutil.copytree(room / folder, room / to)
+        for file in (room / to).rglob("*.antt"):
+            file.write_text(file.read_text().replace(f"{'.'.join(folder.parts)}.", f"{'.'.join(to.parts)}."))
+
+
 class Check:
     """What the prover says of a copy of a crate with some edits."""
 
-    def __init__(self, said, is_read):
-        self.said, self.is_read = said, is_read
+    def __init__(self, said):
+        self.said = said = WRAPPED.sub(lambda it: re.sub(r"\n +", " ", it[0]), said)
         self.lines = dict(re.findall(r"^fn (\S+): (.*)$", said, re.M))
         found = re.findall(r"^(?:\./)?proofs/(\S*?)/?\w+\.antt:\d+:\d+: error: (.*)$", said, re.M)
         self.faults = {folder.replace("+", "") for folder, fault in found if not LACKS_A_NAME.search(fault)}
-        self.asked = {it.partition(": ")[0]: dict(ASKS.findall(it)) for it in re.split(r"^fn ", said, flags=re.M)[1:]}
+        # Open goals stand above the line of their function, and what it asks for below.
+        parts = re.split(r"^fn (\S+): .*$", said, flags=re.M)
+        self.open = {name: OPEN.findall(above) for above, name in zip(parts[::2], parts[1::2])}
+        self.asked = {name: dict(ASKS.findall(below)) for name, below in zip(parts[1::2], parts[2::2])}
+
+    def lacked(self, name):
+        """Returns the goals, each with its folder, that a function's answers name and that aren't there."""
+        own = "/".join(name.split("::")[1:])
+        return [(folder, goal) for folder, goal in LACKS_A_GOAL.findall(self.said) if folder.replace("+", "") == own]
 
     def is_broken(self, name):
-        """Whether a function has an open goal of its own, or an error in its own proof that is no lack of a name."""
-        said = self.lines.get(name, "proved")
-        return "did not prove" in said or not said.startswith(PROVED) and "/".join(name.split("::")[1:]) in self.faults
+        """Whether a function has an open goal of a kind that its answers don't lack, or an error in its proof that is no lack of a name."""
+        said, lacked = self.lines.get(name, "proved"), {goal.partition("-")[0] for _, goal in self.lacked(name)}
+        is_open = any(goal.partition("-")[0] not in lacked for goal in self.open.get(name, ()))
+        is_open = is_open or "did not prove" in said or "/".join(name.split("::")[1:]) in self.faults
+        return is_open and not said.startswith(PROVED)
 
     def renamed(self, name):
         """Returns the words of the names that a function's answers lack, and for each the one that stands there now."""
-        own, found = "/".join(name.split("::")[1:]), set()
-        for folder, old in LACKS_A_GOAL.findall(self.said):
+        found = set()
+        for folder, old in self.lacked(name):
             asked = re.findall(r"`([^`]+)`", self.asked.get(name, {}).get(old, ""))
             words = next(filter(None, (word_changed(old, it) for it in asked)), None)
-            if folder.replace("+", "") == own and words:
+            if words:
                 found.add((folder, *words))
         return found
 
@@ -149,7 +161,7 @@ class Check:
 
     def answer(self, edit):
         """Returns what it says of one of its edits: refused, proved, or a word why it says nothing yet."""
-        if not self.is_read:
+        if not self.lines:
             return "unread: " + next((it for it in self.said.splitlines() if "error" in it), "")[:200]
         name = edit.functions[0]
         if self.verdict(edit) in ("", "waits") and self.renamed(name) - edit.renamed:
@@ -159,29 +171,30 @@ class Check:
 
 
 class Crate:
-    """A crate whose wrong bodies are tried. Its checks keep their work in a folder of their own."""
+    """A crate whose wrong bodies are tried."""
 
     def __init__(self, name, only):
-        self.name, self.folder, self.kept = name, kit.ROOT / "crates" / name, None
+        self.name, self.folder = name, kit.ROOT / "crates" / name
         self.seconds, self.checks = 0.0, 0
         self.texts = {str(it.relative_to(self.folder)): it.read_text() for it in sorted(self.folder.glob("src/**/*.rt"))}
         parts = {it: pathlib.Path(it).with_suffix("").parts[1:] for it in self.texts}
         self.modules = {it: tuple(part for part in parts[it] if part not in ("lib", "main")) for it in self.texts}
-        self.functions, self.cycles = {}, collections.defaultdict(list)
+        self.functions, self.cycles, self.free = {}, collections.defaultdict(list), set()
         for file, text in self.texts.items():
             found = items.functions(text, (name, *self.modules[file])[-1])
             self.functions[file] = [(it, self.name_of(file, it)) for it in found if it.body < it.end]
             for it, named in self.functions[file]:
                 for cycle in CYCLE.findall(text[: it.start]):
                     self.cycles[cycle].append(named)
+                if not it.is_of_impl and not self.is_left(it, named):
+                    self.free.add(named)
         found = [read(it) for it in sorted([*self.folder.glob("wrong-bodies/**/*.edit"), *self.folder.glob("must-fail/*.edit")])]
-        # Those that are planted come first, into the round of what they wait for.
-        self.found = sorted((it for it in found if only in it.path.stem), key=lambda it: not it.is_planted)
+        self.found = [it for it in found if only in it.path.stem]
         for edit in (it for it in self.found if applied(it, self.texts)):
-            own = self.function_of(edit)
-            beside = (it for cycle in self.cycles.values() if own in cycle for it in cycle if it != own)
-            edit.functions = [own, *beside] if own else []
-        self.edits = [it for it in self.found if it.functions]
+            edit.changed = own = self.function_of(edit)
+            around = (it for cycle in self.cycles.values() if own in cycle for it in cycle if it != own)
+            edit.functions = [f"{own.rpartition('::')[0]}::{edit.path.stem}"] if own in self.free else [own, *around]
+        self.edits = [it for it in self.found if it.changed]
 
     def name_of(self, file, function):
         """Returns the name by which a check knows a function of a file: a type's own stand where the type does."""
@@ -204,10 +217,43 @@ class Crate:
             found.add(around[-1] if around else "")
         return found.pop() if len(found) == 1 else ""
 
-    def leave_out(self, room, edits):
-        """Puts nothing in place of each body in a copy, and the hole in place of its proof, but of recursive functions and of those
-        that the edits change."""
-        proofs, changed = room / "proofs", {it for edit in edits for it in edit.functions}
+    def proofs_of(self, function):
+        """Returns the folder of a function's proof."""
+        return pathlib.Path("proofs", *function.split("::")[1:])
+
+    def is_left(self, function, name):
+        """Whether a round leaves a function as it is that it doesn't judge: one of a trait, or in a cycle of calls."""
+        proof = self.folder / self.proofs_of(name)
+        return function.is_of_trait or name in sum(self.cycles.values(), []) or proof.with_name(f"+{function.name}").exists()
+
+    def text_of(self, file, edits):
+        """Returns a file's text in a round: each wrong body, and nothing in place of the bodies that the round doesn't judge."""
+        text = self.texts[file]
+        for it, name in reversed(self.functions[file]):
+            start = max(text.rfind(between, 0, it.start) for between in ("\n\n", "{\n")) + 2
+            is_left = self.is_left(it, name) or it.name == "drop"
+            bodies = {it.name: text[start : it.end] if is_left else text[start : it.body] + "{ unreachable!() }"}
+            for edit in (edit for edit in edits if edit.changed == name):
+                own, changed = edit.functions[0].split("::")[-1], applied(edit, self.texts)
+                wrong = changed[start : it.end + len(changed) - len(self.texts[file])]
+                bodies[own] = wrong.replace(f"fn {it.name}", f"fn {own}", 1)
+            text = text[:start] + "\n\n".join(bodies.values()) + text[it.end :]
+        return text
+
+    def lay_out(self, room, edits):
+        """Writes a copy of the crate for a round: the texts, a proof beside each wrong body, and the hole for all other proofs."""
+        for part in filter(lambda it: (self.folder / it).is_dir(), kit.PARTS):
+            shutil.copytree(self.folder / part, room / part)
+        for file in self.texts:
+            (room / file).write_text(self.text_of(file, edits))
+        for edit in (it for it in edits if it.functions[0] != it.changed):
+            copy(room, self.proofs_of(edit.changed), self.proofs_of(edit.functions[0]))
+        for folder, *words in {it for edit in edits for it in edit.renamed}:
+            rename(room / "proofs" / folder, *words)
+        self.leave_out(room / "proofs", {it for edit in edits for it in edit.functions})
+
+    def leave_out(self, proofs, judged):
+        """Puts the hole in place of what lemmas prove, and of the proofs of functions that a round doesn't judge."""
         hole = f"use Rattle.{self.name}.proofs.LetThrough.{{let_through}}\n"
         for file in [it for it in proofs.rglob("*.antt") if it.stem not in ("Answers", "Invariants", "Proof", "Lib")]:
             file.write_text(hole + LEMMA.sub(r"\g<said>\g<room>\g<name> = absurd let_through\n", file.read_text()))
@@ -215,81 +261,38 @@ class Crate:
         proofs.joinpath("LetThrough.antt").write_text("pub let_through : ⊥\nlet_through = ?\n")
         with proofs.joinpath("Lib.antt").open("a") as declared:
             declared.write("pub mod LetThrough\n")
-        for file, found in self.functions.items():
-            text = (room / file).read_text()
-            bodies = [it for it in items.functions(text, file) if it.body < it.end]
-            for it, (_, name) in reversed([*zip(bodies, found)]):
-                parts = name.split("::")[1:]
-                folder = proofs.joinpath(*parts)
-                is_recursive = name in sum(self.cycles.values(), []) or folder.with_name(f"+{it.name}").exists()
-                if is_recursive or it.is_of_trait or name in changed or it.name != parts[-1]:
-                    continue
+        for it, name in sum(self.functions.values(), []):
+            if name not in judged and not self.is_left(it, name):
+                folder = proofs.parent / self.proofs_of(name)
                 shutil.rmtree(folder, ignore_errors=True)
                 folder.mkdir(parents=True)
-                folder.joinpath("Proof.antt").write_text(hole + PROOF.format(".".join(("Rattle", self.name, "proofs", *parts)), it.name))
-                if it.name != "drop":
-                    text = text[: it.body] + "{ unreachable!() }" + text[it.end :]
-            (room / file).write_text(text)
+                module = ".".join(("Rattle", self.name, *self.proofs_of(name).parts))
+                folder.joinpath("Proof.antt").write_text(hole + PROOF.format(module, it.name))
 
-    def check(self, edits, is_whole=False):
-        """Checks a copy of the crate with these edits: the whole crate, or the functions that they change alone."""
-        texts = self.texts
-        for edit in edits:
-            texts = applied(edit, texts)
-        scope = [] if is_whole else ["--allow-holes", *(word for it in edits for word in ("--only", it.functions[0]))]
+    def check(self, edits):
+        """Returns what the prover says of the wrong bodies of a round, in a copy of the crate."""
         with tempfile.TemporaryDirectory(prefix="wrong-bodies-") as room:
-            for part in filter(lambda it: (self.folder / it).is_dir(), kit.PARTS):
-                shutil.copytree(self.folder / part, f"{room}/{part}")
-            for file, text in texts.items():
-                pathlib.Path(room, file).write_text(text)
-            for folder, *words in {it for edit in edits for it in edit.renamed}:
-                rename(f"{room}/proofs/{folder}", *words)
-            if not is_whole:
-                self.leave_out(pathlib.Path(room), edits)
-            words = [kit.RATTLE, "check", *kit.words(self.name), *scope, "--jobs", "1", "--incremental", self.kept]
-            stages = pathlib.Path(room, "stages")
-            is_read = lambda: stages.exists() and "stage lines" in stages.read_text()
-            # What comes behind offers answers, for goals that have other names, and takes long.
-            is_enough = lambda said: not is_whole and is_read() and all(map(Check(said(), True).verdict, edits))
-            _, said, seconds = kit.call([*words, "--stage-times", stages], room, is_enough)
+            self.lay_out(pathlib.Path(room), edits)
+            scope = [word for it in edits for word in ("--only", it.functions[0])]
+            _, said, seconds = kit.call([kit.RATTLE, "check", *kit.words(self.name), *scope, "--allow-holes"], room)
             self.seconds, self.checks = self.seconds + seconds, self.checks + 1
-            return Check(said, is_read())
+            return Check(said)
 
     def judge(self, edits):
-        """Checks a round, and notes what it tells of each edit. What can't be read goes on by halves, one edit over the whole crate."""
+        """Checks a round, and notes what it tells of each edit. What can't be read goes on by halves."""
         checked = self.check(edits)
-        if len(edits) > 1 and not checked.is_read:
-            half = len(edits) // 2
-            self.judge(edits[:half])
-            self.judge(edits[half:])
-            return
-        for edit in edits:
-            edit.told.append(checked.answer(edit))
-        if len(edits) == 1 and edit.told[-1] not in ("refused", "proved", RENAMED):
-            checked = self.check(edits, is_whole=True)
-            edit.told[-1] = "refused" if checked.is_read and any(map(checked.is_broken, checked.lines)) else checked.answer(edit)
+        if len(edits) > 1 and not checked.lines:
+            self.judge(edits[: len(edits) // 2])
+            self.judge(edits[len(edits) // 2 :])
+        else:
+            for edit in edits:
+                edit.told.append(checked.answer(edit))
 
-    def fitting(self, edits):
-        """Returns as many of the edits as fit into one round, one a function at most. What two rounds left goes alone."""
-        taken, seen, texts = [], set(), self.texts
-        for edit in edits:
-            proof, changed = frozenset(edit.functions), applied(edit, texts)
-            if len(edit.told) < 2 and proof not in seen and changed:
-                texts = changed
-                seen.add(proof)
-                taken.append(edit)
-        return taken or edits[:1]
-
-    def try_all(self, room):
-        """Tries the edits in rounds, until each is judged. Returns the crate's faults."""
-        self.kept = pathlib.Path(room, self.name)
-        left = [*self.edits]
-        while left:
-            taken = self.fitting(left)
-            self.judge(taken)
-            ended = [it for it in taken if it.told[-1] == "refused" or it.is_planted and it.told[-1] == "proved"]
-            ended += taken if len(taken) == 1 and taken[0].told[-1] != RENAMED else []
-            left = [it for it in left if it not in ended]
+    def try_all(self):
+        """Tries the edits in rounds, until each is judged or was told nothing in three. Returns the crate's faults."""
+        while left := [it for it in self.edits if it.told[-1:] not in (["refused"], ["proved"]) and len(it.told) < 3]:
+            # One a proof: those beside their functions go all into one round.
+            self.judge([*{frozenset(it.functions): it for it in reversed(left)}.values()])
         lost = (it for it in self.found if it not in self.edits)
         faults = [f"{it.path.stem}: an old text doesn't stand in its file as it has to, or isn't of one function" for it in lost]
         faults += [f"{it.path.stem}: {it.fault()}" for it in self.edits if it.fault()]
@@ -307,9 +310,8 @@ def main():
     asked = asked.parse_args()
     crates = [Crate(it, asked.only) for it in kit.crates() if it in (asked.crate or kit.crates())]
     crates = sorted((it for it in crates if it.found), key=lambda it: -len(it.edits))
-    with tempfile.TemporaryDirectory(prefix="wrong-bodies-kept-") as room:
-        with concurrent.futures.ThreadPoolExecutor(len(os.sched_getaffinity(0))) as pool:
-            failed = sum(map(len, pool.map(lambda it: it.try_all(room), crates)))
+    with concurrent.futures.ThreadPoolExecutor(len(os.sched_getaffinity(0))) as pool:
+        failed = sum(map(len, pool.map(Crate.try_all, crates)))
     print(f"wrong bodies: {sum(it.refused for it in crates)} refused, {failed} failed")
     sys.exit(bool(failed))
 
