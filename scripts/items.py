@@ -77,14 +77,10 @@ def owner_of(kind, header):
     header = re.split(r"\bwhere\b", " ".join(header.split()))[0].strip()
     if kind == "trait":
         return re.match(r"\w+", header)[0]
-    parameters, depth = [], 0
-    for at, mark in enumerate(header if header.startswith("<") else ""):
-        depth += (mark == "<") - (mark == ">" and header[at - 1] != "-")
-        if not depth:
-            parameters = [re.sub(r"^const ", "", it).split(":")[0].split("=")[0].strip() for it in parted(header[1:at], ",")]
-            header = header[at + 1 :].strip()
-            break
-    trait, _, of = header.rpartition(" for ")
+    first, *rest = parted(header, " ")
+    given = parted(first[1:-1], ",") if first.startswith("<") else []
+    parameters = [re.sub(r"^const ", "", it).split(":")[0].split("=")[0].strip() for it in given]
+    trait, _, of = " ".join(rest if given else [first, *rest]).rpartition(" for ")
     return word_of(of, parameters) + (word_of(trait, parameters) if trait not in ("", "Drop") else "")
 
 

@@ -10,7 +10,6 @@ Usage: prove_all.py [--cpu CPU] [--notes] [--over-gate] NAME..
 
 import argparse
 import concurrent.futures
-import hashlib
 import os
 import pathlib
 import re
@@ -27,16 +26,6 @@ ROOM = 1 << 32
 TOOLCHAIN = ["--toolchain", f"{kit.KIT}/toolchain"]
 
 
-def sum_of(name, listed):
-    """Returns a sum of all that a crate's proof reads: the kit, and the files of the crate and of those below it."""
-    read = [(kit.KIT / "KIT-ID").read_bytes()]
-    for each in [*kit.below(name, listed), name]:
-        folder = kit.ROOT / "crates" / each
-        files = sorted(it for part in kit.PARTS for it in folder.glob(f"{part}/**/*") if it.is_file())
-        read += [each, listed[each], *((str(it.relative_to(folder)), it.read_bytes()) for it in files)]
-    return hashlib.sha256(repr(read).encode()).hexdigest()
-
-
 class Crate:
     """A crate that is proved and built over the libraries in a folder of their crates."""
 
@@ -48,7 +37,7 @@ class Crate:
         self.cpu = ["--cpu", cpu] if cpu and (self.is_program or self.is_static) else []
         self.product = f"out/proved/{name if self.is_program else f'lib{name}.a' if self.is_static else f'{name}.rlib'}"
         # Where a run writes what it has proved, and that.
-        self.stamp, self.told = self.folder / "out/proved/sum", " ".join([sum_of(name, kit.crates()), *self.cpu])
+        self.stamp, self.told = self.folder / "out/proved/sum", " ".join([kit.sum_of(name), *self.cpu])
 
     def is_proved(self):
         """Whether a run has proved the crate as it is, and left what it built."""

@@ -7,6 +7,7 @@ the crate judges a round of edits (docs/ARCHITECTURE.md). An edit is refused exa
 body, or an error in the proof files, which is no lack of a name; what waits for a callee, or lacks names, goes to the next round.
 What is let through or never judged fails, and so does an edit that changes no one function. Edits in wrong-bodies/planted change no
 meaning, and show that this script can fail: each must come out as let through, and waits_* wait first for a broken method.
+Where all of a crate's came out, that is kept on this machine, by a sum of all that was read, and they aren't tried again.
 
 Usage: wrong_bodies.py [--crate NAME] [--only WORD]
 """
@@ -26,6 +27,7 @@ import items
 import kit
 
 RENAMED = "its goals have other names"
+KEPT = pathlib.Path(os.environ.get("XDG_CACHE_HOME") or pathlib.Path.home() / ".cache") / "warg-wrong-bodies"
 WAITS = re.compile(r"which (is|are) not proved")
 # What a check says of a function whose own proof has no open goal; the second and the third, of one beside holes.
 PROVED = ("proved", "no holes", "depends on a hole in")
@@ -195,6 +197,8 @@ class Crate:
             around = (it for cycle in self.cycles.values() if own in cycle for it in cycle if it != own)
             edit.functions = [f"{own.rpartition('::')[0]}::{edit.path.stem}"] if own in self.free else [own, *around]
         self.edits = [it for it in self.found if it.changed]
+        scripts = map(pathlib.Path, (__file__, items.__file__, kit.__file__))
+        self.kept = KEPT / (kit.sum_of(name, [*scripts, *(it.path for it in self.found)]) + only)
 
     def name_of(self, file, function):
         """Returns the name by which a check knows a function of a file: a type's own stand where the type does."""
@@ -278,28 +282,29 @@ class Crate:
             self.seconds, self.checks = self.seconds + seconds, self.checks + 1
             return Check(said)
 
-    def judge(self, edits):
-        """Checks a round, and notes what it tells of each edit. What can't be read goes on by halves."""
-        checked = self.check(edits)
-        if len(edits) > 1 and not checked.lines:
-            self.judge(edits[: len(edits) // 2])
-            self.judge(edits[len(edits) // 2 :])
-        else:
-            for edit in edits:
-                edit.told.append(checked.answer(edit))
-
     def try_all(self):
         """Tries the edits in rounds, until each is judged or was told nothing in three. Returns the crate's faults."""
+        if self.kept.is_file():
+            print(f"{self.name}: {self.kept.read_text()}, as was seen before", flush=True)
+            self.refused = int(self.kept.read_text().split()[0])
+            return []
         while left := [it for it in self.edits if it.told[-1:] not in (["refused"], ["proved"]) and len(it.told) < 3]:
             # One a proof: those beside their functions go all into one round.
-            self.judge([*{frozenset(it.functions): it for it in reversed(left)}.values()])
+            edits = {frozenset(it.functions): it for it in reversed(left)}.values()
+            checked = self.check(edits)
+            for edit in edits:
+                edit.told.append(checked.answer(edit))
         lost = (it for it in self.found if it not in self.edits)
         faults = [f"{it.path.stem}: an old text doesn't stand in its file as it has to, or isn't of one function" for it in lost]
         faults += [f"{it.path.stem}: {it.fault()}" for it in self.edits if it.fault()]
         wrong = [it for it in self.edits if not it.is_planted]
         self.refused = sum(it.told[-1] == "refused" for it in self.edits)
-        print(f"{self.name}: {self.refused} of {len(wrong)} wrong bodies refused, {len(self.edits) - len(wrong)} planted,"
-              f" {self.checks} checks, {self.seconds / 60:.1f} min", *(f"FAILED {self.name}: {it}" for it in faults), sep="\n", flush=True)
+        told = f"{self.refused} of {len(wrong)} wrong bodies refused, {len(self.edits) - len(wrong)} planted"
+        print(f"{self.name}: {told}, {self.checks} checks, {self.seconds / 60:.1f} min",
+              *(f"FAILED {self.name}: {it}" for it in faults), sep="\n", flush=True)
+        if not faults:
+            KEPT.mkdir(parents=True, exist_ok=True)
+            self.kept.write_text(told)
         return faults
 
 

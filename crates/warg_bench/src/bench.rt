@@ -101,10 +101,10 @@ impl<'a> Bench<'a> {
         Ok(())
     }
 
-    /// Prints a line, unless one call alone is made.
-    pub fn say(&self, line: &str) -> Result<()> {
+    /// Prints what is measured, with how many there are, unless one call alone is made.
+    pub fn say(&self, what: &str, count: usize, of: &str) -> Result<()> {
         if self.only.is_none() {
-            println!(self.rt; "{line}")?;
+            println!(self.rt; "{what} {count} {of}")?;
         }
         Ok(())
     }

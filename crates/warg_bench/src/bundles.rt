@@ -10,7 +10,14 @@ pub fn measure(bench: &Bench<'_>) -> Result<()> {
     let alloc = bench.alloc();
     let bundle = log_bundle(alloc)?;
     let bytes = bundle.encode(alloc)?;
-    let bytes = bytes.as_slice();
+    of_log(bench, &bundle, bytes.as_slice())?;
+    let bundle = map_bundle(alloc)?;
+    let bytes = bundle.encode(alloc)?;
+    of_map(bench, &bundle, bytes.as_slice())
+}
+
+fn of_log(bench: &Bench<'_>, bundle: &LogProofBundle, bytes: &[u8]) -> Result<()> {
+    let alloc = bench.alloc();
     bench.calls(
         "a log bundle's encode",
         1_000,
@@ -20,10 +27,11 @@ pub fn measure(bench: &Bench<'_>) -> Result<()> {
         "a log bundle's decode",
         1_000,
         |_| LogProofBundle::decode(alloc, bytes).is_ok(),
-    )?;
-    let bundle = map_bundle(alloc)?;
-    let bytes = bundle.encode(alloc)?;
-    let bytes = bytes.as_slice();
+    )
+}
+
+fn of_map(bench: &Bench<'_>, bundle: &MapProofBundle, bytes: &[u8]) -> Result<()> {
+    let alloc = bench.alloc();
     bench.calls(
         "a map bundle's encode",
         1_000,

@@ -33,16 +33,34 @@ pub fn pairs_of(bench: &Bench<'_>, keys: &[Entry]) -> Result<Vec<(Entry, Entry)>
 /// Measures a map of so many keys.
 pub fn measure(bench: &Bench<'_>, count: usize) -> Result<()> {
     let list = entries(bench.alloc(), count)?;
-    let keys = list.as_slice();
-    let map = map_of(bench, keys)?;
-    print_size(bench, &map, count)?;
+    let map = map_of(bench, list.as_slice())?;
+    measure_map(bench, &map, list.as_slice())
+}
+
+fn measure_map(bench: &Bench<'_>, map: &Keys, keys: &[Entry]) -> Result<()> {
+    print_size(bench, map, keys.len())?;
+    insertions(bench, map, keys)?;
+    extensions(bench, keys)?;
+    proofs(bench, map, keys)
+}
+
+fn insertions(bench: &Bench<'_>, map: &Keys, keys: &[Entry]) -> Result<()> {
     let known = &entry(0);
-    bench.pieces("Map::insert", 1, count, |_| map_of(bench, keys).is_ok())?;
+    bench.pieces(
+        "Map::insert",
+        1,
+        keys.len(),
+        |_| map_of(bench, keys).is_ok(),
+    )?;
     bench.calls(
         "Map::insert of a known key",
         100,
         |_| map.insert(*known, *known).is_ok(),
-    )?;
+    )
+}
+
+fn extensions(bench: &Bench<'_>, keys: &[Entry]) -> Result<()> {
+    let count = keys.len();
     bench.pieces(
         "Map::extend",
         1,
@@ -54,14 +72,20 @@ pub fn measure(bench: &Bench<'_>, count: usize) -> Result<()> {
         1,
         count,
         |_| extended(bench, keys, count / 2).is_ok(),
-    )?;
-    bench.calls("Map::prove", count, |number| is_proved(&map, keys, number))?;
-    let Some(proof) = &map.prove(*known)? else {
-        return Ok(());
-    };
-    bench.calls("evaluation of a map's proof", 1_000, |_| {
-        proof.evaluate(known, known) == *map.root()
-    })
+    )
+}
+
+fn proofs(bench: &Bench<'_>, map: &Keys, keys: &[Entry]) -> Result<()> {
+    let known = &entry(0);
+    bench.calls("Map::prove", keys.len(), |number| {
+        is_proved(map, keys, number)
+    })?;
+    match &map.prove(*known)? {
+        Some(proof) => bench.calls("evaluation of a map's proof", 1_000, |_| {
+            proof.evaluate(known, known) == *map.root()
+        }),
+        None => Ok(()),
+    }
 }
 
 fn is_proved(map: &Keys, keys: &[Entry], number: usize) -> bool {
@@ -88,8 +112,6 @@ fn print_size(bench: &Bench<'_>, map: &Keys, count: usize) -> Result<()> {
     let (nodes, keys) = (map.node_count(), count as u128);
     let others = nodes.saturating_sub(keys).saturating_mul(112);
     let bytes = share(others.saturating_add(keys.saturating_mul(150)), keys);
-    let line = format!(in bench.alloc();
-        "a map of {count} keys: {nodes} nodes, {bytes} bytes a key"
-    )?;
-    bench.say(line.as_str())
+    let size = format!(in bench.alloc(); "keys: {nodes} nodes, {bytes} bytes a key")?;
+    bench.say("a map of", count, size.as_str())
 }

@@ -52,14 +52,22 @@ impl<'a> Pages<Global> for &'a Newest {
 pub fn measure(bench: &Bench<'_>, held: usize, new: usize) -> Result<()> {
     let all = entries(bench.alloc(), held.saturating_add(new))?;
     let (old, more) = all.as_slice().split_at(held.min(all.len()));
+    in_memory(bench, old, more)?;
+    in_pages(bench, old, more)
+}
+
+fn in_memory(bench: &Bench<'_>, old: &[Entry], more: &[Entry]) -> Result<()> {
     let empty: Keys = Map::default(bench.alloc());
     let map = empty.extend(pairs_of(bench, old)?.into_iter())?;
     bench.pieces(
         "Map::extend of a map",
         1,
-        new,
+        more.len(),
         |_| is_extended(bench, &map, more),
-    )?;
+    )
+}
+
+fn in_pages(bench: &Bench<'_>, old: &[Entry], more: &[Entry]) -> Result<()> {
     let mut paged = PagedMap::new();
     let mut pages = Newest {
         alloc: bench.alloc(),
@@ -70,7 +78,7 @@ pub fn measure(bench: &Bench<'_>, held: usize, new: usize) -> Result<()> {
     bench.pieces(
         "PagedMap::insert_all",
         1,
-        new,
+        more.len(),
         |_| is_inserted(bench, &paged, &pages, more),
     )
 }

@@ -18,22 +18,29 @@ const KEYS: usize = 10_000;
 /// Measures verdicts, witnesses, and the program on lines.
 pub fn measure(bench: &Bench<'_>) -> Result<()> {
     let list = entries(bench.alloc(), ENTRIES)?;
-    let log = log_of(bench, list.as_slice())?;
+    over_entries(bench, list.as_slice())?;
+    over_keys(bench, list.get(..KEYS).unwrap_or_default())
+}
+
+fn over_entries(bench: &Bench<'_>, entries: &[Entry]) -> Result<()> {
+    let log = log_of(bench, entries)?;
     of_inclusion(bench, &log)?;
-    of_consistency(bench, &log)?;
-    let list = entries(bench.alloc(), KEYS)?;
-    let keys = list.as_slice();
+    of_consistency(bench, &log)
+}
+
+fn over_keys(bench: &Bench<'_>, keys: &[Entry]) -> Result<()> {
     let map = map_of(bench, keys)?;
     of_key(bench, &map)?;
     of_update(bench, &map)?;
     over_log(bench, keys)?;
     over_map(bench, &map, keys)?;
+    on_lines(bench, keys)
+}
+
+fn on_lines(bench: &Bench<'_>, keys: &[Entry]) -> Result<()> {
     let lines = lines_of(bench, keys)?;
-    bench.calls(
-        "10,000 insert lines and a map",
-        1,
-        |_| is_run(bench, lines.as_slice()),
-    )
+    let lines = lines.as_slice();
+    bench.calls("10,000 insert lines and a map", 1, |_| is_run(bench, lines))
 }
 
 fn of_inclusion(bench: &Bench<'_>, log: &Log) -> Result<()> {

@@ -1,6 +1,6 @@
 //! A folder of files: what a reader finds in it, and what a crash may leave.
 
-ghost use Rattle.std.specs.Prelude.{◌≡◌, ◌≢◌, ◌≤◌, ◌+◌, List, ℕ, nat_eq, true, take, map, option_map, Err, IfOk, OnOk, IsSome, All, Contains, string_bytes};
+ghost use Rattle.std.specs.Prelude.{◌≡◌, ◌≤◌, ◌+◌, List, ℕ, nat_eq, true, take, map, option_map, IfOk, OnOk, IsSome, All, Contains, string_bytes};
 ghost use Rattle.std.specs.List.{starts_with};
 ghost use Rattle.warg_folder.specs.Files.{Files, put, without, moved, SameBut, Either, AreApart};
 ghost use Rattle.warg_folder.specs.Moments.{Only, Within, Follows, Elapses, HasCause};

@@ -1,9 +1,8 @@
 //! A folder in memory, for tests. It keeps each call that changed it, so that each past moment can be told from them.
 
-ghost use Rattle.std.specs.Prelude.{◌≡◌, ◌≢◌, ◌+◌, ℕ, List, [], ◌∷◌, ◌++◌, nat_eq, true, length, take, Option, Some, None, IfOk, OnOk, OnErr, IsErrOf, is_some, IsSome, IsTrue, IfSome, IfNone, MatchOption, Contains, ◌↔◌, map, string_bytes, option_map};
+ghost use Rattle.std.specs.Prelude.{◌≡◌, ◌+◌, ℕ, List, [], ◌∷◌, ◌++◌, nat_eq, true, length, take, Option, Some, None, IfOk, OnOk, OnErr, is_some, IsSome, IsTrue, IfSome, IfNone, Contains, ◌↔◌, map, string_bytes};
 ghost use Rattle.std.specs.List.{starts_with};
 ghost use Rattle.std.specs.Option.{option_copied};
-ghost use Rattle.warg_folder.specs.declared.device.FolderError.TheVariants.{Memory};
 ghost use Rattle.warg_folder.specs.Memory.{seen_after, MayLeave, LeftSince, name_put, stays, counts, is_only};
 
 use crate::device::{Folder, FolderError};

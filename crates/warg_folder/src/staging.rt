@@ -1,6 +1,6 @@
 //! Files of a commit before it stands.
 
-ghost use Rattle.std.specs.Prelude.{◌≡◌, ◌⊎◌, ℕ, List, None, true, map, OnOk, All, string_bytes};
+ghost use Rattle.std.specs.Prelude.{◌≡◌, ◌⊎◌, ℕ, List, None, true, OnOk, All, string_bytes};
 ghost use Rattle.warg_folder.specs.Files.{Files, put};
 ghost use Rattle.warg_folder.specs.Moments.{Only, LeavesOnly, HasCause};
 ghost use Rattle.warg_folder.specs.Names.{staged, is_staged, is_served};

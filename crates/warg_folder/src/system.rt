@@ -1,7 +1,6 @@
 //! A folder of the system's files. What a disk does no clause says: this file is to be read, and is tested.
 
-ghost use Rattle.std.specs.Prelude.{◌≡◌, None};
-ghost use Rattle.warg_folder.specs.Files.{Files};
+ghost use Rattle.std.specs.Prelude.{None};
 ghost use Rattle.warg_folder.specs.System.{nothing, OnlyNothing, NothingSince, nothing_stays, nothing_counts, nothing_now};
 
 use crate::device::{Folder, FolderError};

@@ -1,7 +1,7 @@
 //! Slots as bytes.
 
-ghost use Rattle.std.specs.Prelude.{◌≡◌, ◌≢◌, ℕ, ◌<◌, List, ◌++◌, length, Option, MatchOption, OnOk, OnErr};
-ghost use Rattle.std.specs.Int.{to_be_bytes, w64};
+ghost use Rattle.std.specs.Prelude.{◌≡◌, ◌≢◌, ℕ, ◌<◌, List, ◌++◌, length, Option, MatchOption, OnOk};
+ghost use Rattle.std.specs.Int.{to_be_bytes};
 ghost use Rattle.warg_crypto.specs.Digests.{IsDigest};
 ghost use Rattle.warg_pages.specs.Slots.{SlotAt, IsLone, IsSlot};
 ghost use Rattle.warg_pages.specs.PageBytes.{kind_of, lone_bytes, slot_bytes};

@@ -1,6 +1,6 @@
 //! Where the way down ends at a lone key.
 
-ghost use Rattle.std.specs.Prelude.{◌≡◌, ◌+◌, ◌*◌, ◌<◌, ◌≤◌, ◌++◌, [], ℕ, List, Option, Some, None, length, IfOk, IfErr, OnOk};
+ghost use Rattle.std.specs.Prelude.{◌≡◌, ◌+◌, ◌*◌, ◌<◌, ◌≤◌, ◌++◌, [], ℕ, List, Option, Some, None, IfOk, IfErr, OnOk};
 ghost use Rattle.warg_map.specs.Bits.{bit_at, bits_from};
 ghost use Rattle.warg_pages.specs.Private.Descents.{EndsAt, IsNoLoneKey};
 ghost use Rattle.warg_pages.specs.Refusals.{IsMemoryUnless};

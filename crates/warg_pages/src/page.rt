@@ -1,6 +1,6 @@
 //! The pages of a map.
 
-ghost use Rattle.std.specs.Prelude.{◌≡◌, ◌≢◌, ◌<◌, ◌++◌, ◌↔◌, [], ℕ, List, Err, IfOk, IfErr, IfSome, IsTrue, OnOk};
+ghost use Rattle.std.specs.Prelude.{◌≡◌, ◌≢◌, ◌<◌, ◌++◌, ◌↔◌, [], List, Err, IfOk, IfErr, IfSome, IsTrue, OnOk};
 ghost use Rattle.std.specs.List.{All, cons_option};
 ghost use Rattle.std.specs.Option.{option_copied};
 ghost use Rattle.warg_pages.specs.Slots.{SlotAt, Ascends, IsPage};

@@ -1,6 +1,6 @@
 //! Proofs of keys by way of pages.
 
-ghost use Rattle.std.specs.Prelude.{◌≡◌, ◌≤◌, [], ℕ, List, reverse, length, take, IfOk, IfErr};
+ghost use Rattle.std.specs.Prelude.{◌≡◌, ◌≤◌, [], ℕ, List, length, IfOk, IfErr};
 ghost use Rattle.warg_map.specs.Bits.{key_bits};
 ghost use Rattle.warg_pages.specs.ProvedKeys.{IsOwnSource, LeadsTo, IsProved};
 ghost use Rattle.warg_pages.specs.Private.Finals.{IsWholeWay, IsWholeWayOf, AreLeft, presence_peers};

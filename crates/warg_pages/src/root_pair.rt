@@ -1,6 +1,6 @@
 //! The digests of a page before and after changes.
 
-ghost use Rattle.std.specs.Prelude.{◌≡◌, ◌+◌, ◌^◌, ◌<◌, ◌≤◌, ℕ, List, length, IsTrue};
+ghost use Rattle.std.specs.Prelude.{◌≡◌, ◌+◌, ◌^◌, ◌<◌, ◌≤◌, ℕ, List, IsTrue};
 ghost use Rattle.warg_crypto.specs.Tree.{branch};
 ghost use Rattle.warg_pages.specs.Slots.{IsPage};
 ghost use Rattle.warg_pages.specs.Pages.{digest_at, root_over, page_digest};

@@ -1,6 +1,6 @@
 //! A visit of all pages that a root leads to.
 
-ghost use Rattle.std.specs.Prelude.{◌≡◌, ◌++◌, ◌-◌, ◌≤◌, ◌<◌, [], ◌∷◌, ℕ, List, length, IfOk, IfErr, OnOk};
+ghost use Rattle.std.specs.Prelude.{◌≡◌, ◌++◌, ◌-◌, ◌≤◌, ◌<◌, [], ◌∷◌, ℕ, List, length, IfErr, OnOk};
 ghost use Rattle.warg_pages.specs.ChangedPages.{ChangedPageAt};
 ghost use Rattle.warg_pages.specs.ProvedKeys.{IsOwnSource};
 ghost use Rattle.warg_pages.specs.Visits.{AreAllPagesWhere, AreFromWhere, AreOfSlot, IsAllowed, IsLoneBelow, IsLoneShown};

@@ -1,6 +1,6 @@
 //! Laws of the paths: the contract of each function is the law, and it has no effect.
 
-ghost use Rattle.std.specs.Prelude.{◌≡◌, ℕ, ◌+◌, ◌-◌, ◌*◌, ◌^◌, ◌<◌, ◌≤◌, ◌⊎◌, Bool, false, List, [], ◌∷◌, length, take, Option, Some, IsSome, slice_index_or};
+ghost use Rattle.std.specs.Prelude.{◌≡◌, ℕ, ◌+◌, ◌-◌, ◌*◌, ◌^◌, ◌<◌, ◌≤◌, ◌⊎◌, Bool, false, List, [], length, take, Option, Some, IsSome, slice_index_or};
 ghost use Rattle.warg_log.specs.Ranges.{Range, front_part, rest_part};
 ghost use Rattle.warg_log.specs.Tree.{front_of, root_of, own_digest};
 ghost use Rattle.warg_log.specs.Cut.{cut_root, old_over};

@@ -1,6 +1,7 @@
 -- A folder whose spare files go.
 use Rattle.std.proofs.Common.{◌≡◌, ◌⊎◌, inl, inr, ⊎_elim, ℕ, ◌<◌, ◌≤◌, List, [], ◌∷◌, length, map, get_or, take, codes, nat_eq, string_bytes, true, false, Option, Some, None, IsSome, refl, sym, ap, subst, ◌∙◌, arith}
-use Rattle.std.specs.Prelude.{option_map}
+use Rattle.std.specs.Prelude.{option_map, Bool, IsTrue, Vec, ◌↔◌}
+use Rattle.std.specs.Bool.{if◌then◌else◌}
 use Rattle.std.specs.List.{All, Contains, starts_with}
 use Rattle.std.specs.declared.string.String.{String}
 use Rattle.std.specs.declared.alloc.Global.{Global}
@@ -9,14 +10,14 @@ use Rattle.warg_tiles.specs.Tiles.{TileAt, IsTile}
 use Rattle.warg_tiles.specs.TilePaths.{tile_path, entries_path}
 use Rattle.warg_tiles.specs.Between.{IsTileOf}
 use Rattle.warg_folder.specs.Files.{Files, without, Either}
-use Rattle.warg_folder.specs.Moments.{Only}
+use Rattle.warg_folder.specs.Moments.{Only, Within, Follows, Elapses, IsRead}
 use Rattle.warg_folder.specs.Names.{checkpoint, state, mark, staged, is_staged, is_served, page_name}
 use Rattle.warg_folder.specs.Commits.{IsBeside, opened}
 use Rattle.warg_store.specs.Log.{LogOf, IsFileOf, Keeps, IsOneOf}
 use Rattle.warg_store.specs.Growing.{LogIn, Has}
 use Rattle.warg_store.specs.Pruned.{HasFull, full_of, IsSpare, IsPruned}
-use Rattle.warg_store.specs.Private.Steps.{IsPruning}
-use Rattle.warg_folder.proofs.ForCallers.{one_name, apart, served_not_staged, without_here, without_apart, either}
+use Rattle.warg_store.specs.Private.Steps.{IsPruning, PrunesOn}
+use Rattle.warg_folder.proofs.ForCallers.{one_name, apart, served_not_staged, without_here, without_apart, either, goes_on, begins, leaves_none, leaves_then}
 use Rattle.warg_store.proofs.PathLemmas.{tile_path_once, one_tile, entries_path_once, no_tile_a_bundle, other_kind, no_page_a_tile, no_page_a_bundle}
 use Rattle.warg_store.proofs.ServeLemmas.{opened_idle}
 use Rattle.warg_store.proofs.LeadLemmas.{width_at_most, file_served, same_served, same_kept, pages_stay}
@@ -131,23 +132,104 @@ module _ (kept served : ℕ) (s : Files) where
     | inr gone ↦ absurd (none_some (now full) gone.0 some)
   ]
 
-  -- a spare file that was removed, or wasn't yet
-  pub gone_one : (now from c : Files) (name full : List ℕ) (tile : TileAt) → IsTile tile → HasFull name tile full → (tile.width < 256)
-      × IsTileOf kept (full_of tile) × (IsTileOf served tile → ⊥) → IsSome (now full)
-      → IsPruning kept served s now → IsPruning kept served s from → Either (without name) from c
-      → IsPruning kept served s c
-  gone_one now from c name full tile tile_is paths spare there seen before removed =
-      let is : IsSpare kept served s name = record {
-        tile = tile;
-        full = full;
-        is = tile_is;
-        paths = paths;
-        partial = spare.0;
-        exists = spare.1;
-        unserved = spare.2;
-        there = was_there now full (path_served name full tile paths).1 seen there;
-      } in
-      either (IsPruning kept served s) (without name) from c removed before (pruned_one from name is before)
+  -- what is spare later was so at first
+  pub spare_first : (now : Files) (n : List ℕ) → IsPruning kept served s now → IsSpare kept served now n
+      → IsSpare kept served s n
+  spare_first now n was spare = record {
+    tile = spare.tile;
+    full = spare.full;
+    is = spare.is;
+    paths = spare.paths;
+    partial = spare.partial;
+    exists = spare.exists;
+    unserved = spare.unserved;
+    there = was_there now spare.full (path_served n spare.full spare.tile spare.paths).1 was spare.there;
+  }
+
+-- a spare name is its tile's, whose full one's file is there
+pub spare_tile : {kept served : ℕ} {s : Files} (name : List ℕ) (tile : TileAt) (full : List ℕ) → IsTile tile
+    → HasFull name tile full → IsSpare kept served s name
+    → ((tile.width < 256) × IsTileOf kept (full_of tile) × (IsTileOf served tile → ⊥)) × IsSome (s full)
+spare_tile {kept = kept} {served = served} {s = s} name tile full is paths spare =
+    let same = one_full name spare.tile tile spare.full full spare.is is spare.paths paths in (
+      (
+        subst (λ (t : TileAt). t.width < 256) same.0 spare.partial,
+        subst (λ (t : TileAt). IsTileOf kept (full_of t)) same.0 spare.exists,
+        subst (λ (t : TileAt). IsTileOf served t → ⊥) same.0 spare.unserved,
+      ),
+      subst (λ (f : List ℕ). IsSome (s f)) same.1 spare.there,
+    )
+
+module _ (kept served : ℕ) (old new : Files) (name : List ℕ) where
+  -- a staged file stays where a spare one goes
+  pub staged_stays : (is : Bool) (n : List ℕ) → new ≡ (if is then without name old else old)
+      → (IsTrue is → IsSpare kept served old name) → is_staged n ≡ true → new n ≡ old n
+  staged_stays true n gone spare is =
+      let paths = (spare refl).paths in
+      let isnt = served_not_staged name (path_served name (spare refl).full (spare refl).tile paths).0 in
+      ap (λ (f : Files). f n) gone ∙ without_apart name old n (λ e. apart (sym is ∙ ap is_staged (sym e) ∙ isnt))
+  staged_stays false n gone spare is = ap (λ (f : Files). f n) gone
+
+  -- a spare file goes
+  pub gone_if_spare : (is : Bool) → new ≡ (if is then without name old else old)
+      → (IsSpare kept served old name → IsTrue is) → IsSpare kept served old name → new name ≡ None
+  gone_if_spare true gone spare it = ap (λ (f : Files). f name) gone ∙ without_here name old
+  gone_if_spare false gone spare it = absurd (let no : false ≡ true = spare it in cc)
+
+module _ {D : Type 0} (moment : D → ℕ) (left_since : D → ℕ → Files → Type 0) (may_leave : D → Files → Type 0)
+    (only : (folder : D) (c : Files) → left_since folder (moment folder) c → may_leave folder c) (kept served : ℕ) where
+  -- no call
+  pub prunes_none : (old : D) → PrunesOn moment left_since may_leave kept served old old
+  prunes_none old = record {
+    any_moment = λ s before. leaves_none moment left_since old (IsPruning kept served s) (λ c left. before c (only old c left));
+    crash = λ s before c left. before c left;
+  }
+
+  -- a call that only reads
+  pub prunes_read : (old new : D) → Within (may_leave old) (may_leave new) → Elapses moment left_since may_leave old new
+      → PrunesOn moment left_since may_leave kept served old new
+  prunes_read old new within time = record {
+    any_moment = λ s before. begins moment left_since may_leave old new (IsPruning kept served s) (only old) time before
+        (λ c left. before c (within c left));
+    crash = λ s before c left. before c (within c left);
+  }
+
+  -- two runs, the second after the first
+  pub prunes_then : (old mid new : D) → PrunesOn moment left_since may_leave kept served old mid
+      → PrunesOn moment left_since may_leave kept served mid new → PrunesOn moment left_since may_leave kept served old new
+  prunes_then old mid new one two = record {
+    any_moment = λ s before.
+        let P = IsPruning kept served s in
+        leaves_then moment left_since old mid new P P P (one.any_moment s before)
+        (two.any_moment s (one.crash s before)) (λ c p. p) (λ c p. p);
+    crash = λ s before c left. two.crash s (one.crash s before) c left;
+  }
+
+  -- two calls that only read, and a run behind them
+  pub prunes_behind : (old mid new last : D) → Within (may_leave old) (may_leave mid)
+      → Elapses moment left_since may_leave old mid → Within (may_leave mid) (may_leave new)
+      → Elapses moment left_since may_leave mid new → PrunesOn moment left_since may_leave kept served new last
+      → PrunesOn moment left_since may_leave kept served old last
+  prunes_behind old mid new last first time second later run = prunes_then old mid last (prunes_read old mid first time)
+      (prunes_then mid new last (prunes_read mid new second later) run)
+
+  -- a call that only reads, and the removal of a file that is spare
+  pub prunes_gone : (seen : D → Files) (old mid new : D) (name : List ℕ) → may_leave old (seen old)
+      → IsRead seen may_leave moment left_since old mid → IsSpare kept served (seen old) name
+      → Follows (Either (without name)) (may_leave mid) (may_leave new)
+      → Elapses moment left_since may_leave mid new → PrunesOn moment left_since may_leave kept served old new
+  prunes_gone seen old mid new name stays read spare removed time =
+      let after : (s : Files) → ((d : Files) → may_leave old d → IsPruning kept served s d)
+      → (c : Files) → may_leave new c → IsPruning kept served s c = λ s before c left.
+      let from = removed c left in
+      let was = before from.0 (read.crash from.0 from.1) in
+      either (IsPruning kept served s) (without name) from.0 c from.2 was
+      (pruned_one kept served s from.0 name (spare_first kept served s (seen old) name (before (seen old) stays) spare) was) in
+      record {
+        any_moment = λ s before. goes_on moment left_since may_leave old mid new (IsPruning kept served s)
+            ((prunes_read old mid read.crash read.time).any_moment s before) time (after s before);
+        crash = after;
+      }
 
 -- A folder in which no commit stands keeps a log, and serves a beginning of it, while their files stay.
 module _ (served old : LogOf) (s : Files) (keeps : Keeps served old s) (c : Files) (no_mark : c mark ≡ None)
@@ -293,10 +375,13 @@ prune_has seen may_leave served old next l folder has was same only =
     still_has seen may_leave served old next l folder has
     (pruned_keeps served old (seen l.folder) has.keeps (seen folder) was) was.no_mark (λ n. same (staged n) refl) only
 
--- a file of which something was read is there
-pub some_read : (o : Option (List ℕ)) (bytes : List ℕ) (n : ℕ) → Some bytes ≡ option_map (take n) o → IsSome o
-some_read None bytes n e = cc
-some_read (Some b) bytes n e = refl
+-- a file of which something was read is there, and the reverse
+pub there_if_read : (found : Option (Vec ℕ Global)) (o : Option (List ℕ)) (n : ℕ)
+    → option_map (λ v. v.items) found ≡ option_map (take n) o → IsSome found ↔ IsSome o
+there_if_read None None n read = ((λ some. some), (λ some. some))
+there_if_read None (Some t) n read = cc
+there_if_read (Some v) None n read = cc
+there_if_read (Some v) (Some t) n read = ((λ some. refl), (λ some. refl))
 
 -- a spare name begins as a tile's
 pub spare_name : {kept served : ℕ} {s : Files} (n : List ℕ) (spare : IsSpare kept served s n)

@@ -198,6 +198,32 @@ pub(crate) fn damaged_bundle(alloc: Global, tile: &Tile, fault: &'static str) ->
     }
 }
 
+/// Reads what the log of a checkpoint goes on from: its right edge, and the entries of the last bundle. `Damaged` names the
+/// first file that is missing or corrupt.
+pub(crate) fn read_end<F: Folder>(
+    alloc: Global,
+    folder: &mut F,
+    checkpoint: &Checkpoint<Sha256>,
+) -> Result<(TileLog<Sha256, Vec<u8>>, Vec<u8>), LogError>
+    requires { checkpoint.now.length ≤ GREATEST_LENGTH }
+    ensures length { IfOk result (λ end. (end.0.len ≡ checkpoint.now.length)
+        × (end.0.taken ≡ checkpoint.now.length)) }
+    ensures end { F.IsFaithful → IfOk result (λ end. (log : LogOf) → CanBeKept log
+        → checkpoint.now.length ≡ length log.entries → HasFiles log (F.seen folder.old)
+        → StandsFor sha256 end.0 (leaves_of sha256 log.entries)
+        × (end.1.items ≡ bundle_of (drop (256 * (length log.entries / 256)) log.entries))) }
+    ensures whole { F.IsFaithful → (log : LogOf) → CanBeKept log
+        → checkpoint.now ≡ checkpoint_said (said_of log) → HasFiles log (F.seen folder.old)
+        → IfErr result (IsNoFault ⊥) }
+    ensures read { F.IsFaithful → IsRead F.seen F.may_leave F.moment F.left_since folder.old folder.new }
+    ensures cause { HasLogCause F.IsFaithful (F.faults folder.old) (F.faults folder.new) result }
+{
+    let edge = read_edge(alloc, folder, checkpoint.length())?;
+    let log = open_edge(alloc, checkpoint, edge.as_slice())?;
+    let bundle = read_last_bundle(alloc, folder, edge.as_slice())?;
+    Ok((log, bundle))
+}
+
 /// Reads the bundle below the last tile of level 0, if that isn't full. `Damaged` where the entries aren't the tile's.
 #[tactic(auto, using(warg_folder::proofs::ForCallers::read_is))]
 pub(crate) fn read_last_bundle<F: Folder>(

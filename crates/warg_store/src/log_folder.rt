@@ -9,7 +9,7 @@ ghost use Rattle.warg_tiles.specs.TileLog.{StandsFor};
 ghost use Rattle.warg_folder.specs.Moments.{LeavesOnly, HasCause, HasCauseOf};
 ghost use Rattle.warg_folder.specs.Commits.{IsBeside, IsStaging};
 ghost use Rattle.warg_store.specs.Growing.{IsReady, IsSameBut, Has, HasAll, HasNext, IsEndOf, IsPut, ArePartsOf, with_entry, IsFresh, with_page, IsRefusedBy};
-ghost use Rattle.warg_store.specs.Log.{LogOf, CanBeKept, IsCommitting, said_of, checkpoint_of};
+ghost use Rattle.warg_store.specs.Log.{LogOf, CanBeKept, IsCommitting, said_of};
 
 use crate::log::{commit_log, stage_bundle, stage_tiles};
 use std::alloc::{AllocError, Global};

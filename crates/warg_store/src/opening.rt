@@ -13,7 +13,7 @@ ghost use Rattle.warg_store.specs.Opening.{CanBeServed, AgreesWith, IsAtRest, Is
 ghost use Rattle.warg_store.specs.Rebuilt.{IsStated};
 ghost use Rattle.warg_store.specs.Refusals.{IsNoFault, IsNoFailure, HasLogCause};
 
-use crate::edge::{open_edge, read_edge, read_last_bundle};
+use crate::edge::{open_edge, read_edge, read_end};
 use crate::error::LogError;
 use crate::log_folder::{LogFolder, with_lines};
 use std::alloc::{AllocError, Global};
@@ -138,9 +138,7 @@ impl<F: Folder + Drop> LogFolder<F> {
         }
         let text = kept_text(alloc, &mut folder)?;
         let checkpoint = text.checkpoint();
-        let edge = read_edge(alloc, &mut folder, checkpoint.length())?;
-        let log = open_edge(alloc, &checkpoint, edge.as_slice())?;
-        let bundle = read_last_bundle(alloc, &mut folder, edge.as_slice())?;
+        let (log, bundle) = read_end(alloc, &mut folder, &checkpoint)?;
         let held = checkpoint.length() % 256;
         Ok(LogFolder::with(alloc, folder, text, log, bundle, held))
     }

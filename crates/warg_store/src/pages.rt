@@ -1,6 +1,6 @@
 //! The pages of a log's folder.
 
-ghost use Rattle.std.specs.Prelude.{◌≡◌, ◌≢◌, ◌+◌, ℕ, true, List, length, take, map, option_map, None, IfOk, OnOk, IsSome, All, Contains, string_bytes};
+ghost use Rattle.std.specs.Prelude.{◌≡◌, ◌+◌, ℕ, true, List, length, take, map, option_map, None, IfOk, OnOk, IsSome, All, Contains, string_bytes};
 ghost use Rattle.warg_folder.specs.Files.{Files, without, AreApart};
 ghost use Rattle.warg_store.specs.Growing.{Has};
 ghost use Rattle.warg_store.specs.Log.{LogOf, IsOneOf};

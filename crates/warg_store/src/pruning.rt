@@ -1,17 +1,17 @@
 //! Files that the log needs no more.
 
-ghost use Rattle.std.specs.Prelude.{None, ◌≡◌, ◌≢◌, ◌≤◌, ◌<◌, ◌^◌, ◌↔◌, ℕ, true, List, length, if◌then◌else◌, All, IsSome, IsTrue, IfOk, IfErr, IfSome, OnOk, string_bytes};
+ghost use Rattle.std.specs.Prelude.{None, ◌≡◌, ◌≤◌, ◌<◌, ◌^◌, ◌↔◌, ℕ, true, List, length, if◌then◌else◌, All, IsSome, IsTrue, IfOk, IfErr, IfSome, OnOk, string_bytes};
 ghost use Rattle.warg_tiles.specs.Between.{IsTileOf};
 ghost use Rattle.warg_tiles.specs.Tiles.{TileAt, IsTile};
 ghost use Rattle.warg_folder.specs.Files.{Files, without, AreApart};
-ghost use Rattle.warg_folder.specs.Moments.{Only, LeavesOnly, HasCause};
+ghost use Rattle.warg_folder.specs.Moments.{Only, LeavesOnly, IsRead, HasCause};
 ghost use Rattle.warg_folder.specs.Names.{is_staged};
 ghost use Rattle.warg_folder.specs.Commits.{IsStaging};
 ghost use Rattle.warg_store.specs.Log.{LogOf, Serves, Keeps, IsOneOf};
 ghost use Rattle.warg_store.specs.Growing.{Has};
 ghost use Rattle.warg_store.specs.Refusals.{IsNoFault, HasLogCause};
 ghost use Rattle.warg_store.specs.Pruned.{full_of, HasFull, IsSpare, IsPruned, AreGone};
-ghost use Rattle.warg_store.specs.Private.Steps.{IsPruning};
+ghost use Rattle.warg_store.specs.Private.Steps.{IsPruning, PrunesOn};
 
 use crate::error::LogError;
 use crate::log_folder::LogFolder;
@@ -93,10 +93,7 @@ fn prune_each<F: Folder>(
 ) -> Result<usize, FolderError>
     requires kept { kept ≤ GREATEST_LENGTH }
     requires served { served ≤ GREATEST_LENGTH }
-    ensures any_moment { F.IsFaithful → (s : Files) → ((d : Files) → F.may_leave folder.old d → IsPruning kept served s d)
-        → LeavesOnly F.moment F.left_since folder.old folder.new (IsPruning kept served s) }
-    ensures crash { F.IsFaithful → (s c : Files) → ((d : Files) → F.may_leave folder.old d → IsPruning kept served s d)
-        → F.may_leave folder.new c → IsPruning kept served s c }
+    ensures run { F.IsFaithful → PrunesOn F.moment F.left_since F.may_leave kept served folder.old folder.new }
     ensures staged { F.IsFaithful → OnOk result ((n : List ℕ) → is_staged n ≡ true
         → F.seen folder.new n ≡ F.seen folder.old n) }
     ensures all { F.IsFaithful → OnOk result ((s : Files)
@@ -118,7 +115,7 @@ fn prune_each<F: Folder>(
     Ok(removed)
 }
 
-// Removes a file that is spare. Whether it was.
+// Removes a file if it is spare. Whether it was.
 fn prune_one<F: Folder>(
     alloc: Global,
     folder: &mut F,
@@ -128,16 +125,31 @@ fn prune_one<F: Folder>(
 ) -> Result<bool, FolderError>
     requires kept { kept ≤ GREATEST_LENGTH }
     requires served { served ≤ GREATEST_LENGTH }
-    ensures any_moment { F.IsFaithful → (s : Files) → ((d : Files) → F.may_leave folder.old d → IsPruning kept served s d)
-        → LeavesOnly F.moment F.left_since folder.old folder.new (IsPruning kept served s) }
-    ensures crash { F.IsFaithful → (s c : Files) → ((d : Files) → F.may_leave folder.old d → IsPruning kept served s d)
-        → F.may_leave folder.new c → IsPruning kept served s c }
-    ensures staged { F.IsFaithful → OnOk result ((n : List ℕ) → is_staged n ≡ true
-        → F.seen folder.new n ≡ F.seen folder.old n) }
-    ensures all { F.IsFaithful → OnOk result (IsSpare kept served (F.seen folder.old) name.now
-        → F.seen folder.new name.now ≡ None) }
+    ensures run { F.IsFaithful → PrunesOn F.moment F.left_since F.may_leave kept served folder.old folder.new }
+    ensures spare { F.IsFaithful → IfOk result (λ is. IsTrue is ↔ IsSpare kept served (F.seen folder.old) name.now) }
     ensures gone { F.IsFaithful → IfOk result (λ is. F.seen folder.new
         ≡ (if is then without name.now (F.seen folder.old) else F.seen folder.old)) }
+    ensures cause { HasCause F.IsFaithful (F.faults folder.old) (F.faults folder.new) result }
+{
+    let is_spare = is_spare_file(alloc, folder, name, kept, served)?;
+    if is_spare {
+        folder.remove(name)?;
+    }
+    Ok(is_spare)
+}
+
+// Whether a file is spare, which the folder is only read for.
+fn is_spare_file<F: Folder>(
+    alloc: Global,
+    folder: &mut F,
+    name: &str,
+    kept: usize,
+    served: usize,
+) -> Result<bool, FolderError>
+    requires kept { kept ≤ GREATEST_LENGTH }
+    requires served { served ≤ GREATEST_LENGTH }
+    ensures spare { F.IsFaithful → IfOk result (λ is. IsTrue is ↔ IsSpare kept served (F.seen folder.old) name.now) }
+    ensures read { F.IsFaithful → IsRead F.seen F.may_leave F.moment F.left_since folder.old folder.new }
     ensures cause { HasCause F.IsFaithful (F.faults folder.old) (F.faults folder.new) result }
 {
     let Some(named) = tile_named(alloc, name)? else {
@@ -146,11 +158,8 @@ fn prune_one<F: Folder>(
     if !is_spare(&named.tile, kept, served) {
         return Ok(false);
     }
-    let Some(_) = folder.read(alloc, named.full.as_str(), 0)? else {
-        return Ok(false);
-    };
-    folder.remove(name)?;
-    Ok(true)
+    let full = folder.read(alloc, named.full.as_str(), 0)?;
+    Ok(full.is_some())
 }
 
 // Whether the tile is a partial one that the served length hasn't, and the kept length has the full one.

@@ -12,7 +12,7 @@ use warg_protobuf::{MapInclusionProof, MapProofBundle, OptionalHash};
 use warg_registry::{KeyInRegistry, RegistryFolder, RegistryReader};
 use warg_store::{Progress, SystemFolder};
 
-/// A registry in a folder of the system's.
+// A registry in a folder of the system's.
 type Registry<'a> = RegistryFolder<SystemFolder<'a>>;
 
 impl Session<'_> {

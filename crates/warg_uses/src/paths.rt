@@ -1,6 +1,6 @@
 //! A log that sends paths, and its client.
 
-ghost use Rattle.std.specs.Prelude.{◌≡◌, true, ◌∷◌, [], List, ℕ, length, Some, Ok, IfOk, slice_index_or};
+ghost use Rattle.std.specs.Prelude.{◌≡◌, true, [], List, ℕ, length, Some, Ok, IfOk, slice_index_or};
 ghost use Rattle.warg_crypto.specs.Digests.{sha256};
 ghost use Rattle.warg_crypto.specs.Tree.{leaf_digest};
 ghost use Rattle.warg_log.specs.Tree.{root_of};

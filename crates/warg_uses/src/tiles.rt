@@ -1,6 +1,6 @@
 //! A log that outgrows memory: its tiles are stored, and it goes on from its right edge.
 
-ghost use Rattle.std.specs.Prelude.{◌≡◌, ℕ, List, OnOk, IfOk};
+ghost use Rattle.std.specs.Prelude.{ℕ, List, IfOk};
 ghost use Rattle.warg_crypto.specs.Digests.{sha256};
 ghost use Rattle.warg_tiles.specs.TileLog.{StandsFor};
 

@@ -1,6 +1,6 @@
 //! An auditor who holds a log's entries, and looks at a proof that leads to its root.
 
-ghost use Rattle.std.specs.Prelude.{◌≡◌, ◌≢◌, Ok, None, ◌∷◌, map, IfOk, IfSome};
+ghost use Rattle.std.specs.Prelude.{◌≡◌, ◌≢◌, Ok, None, map, IfOk, IfSome};
 ghost use Rattle.warg_crypto.specs.Tree.{leaf_digest};
 ghost use Rattle.warg_witness.specs.Claims.{IsMet, IsEntry};
 

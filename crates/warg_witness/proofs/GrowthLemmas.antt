@@ -18,7 +18,7 @@ use Rattle.warg_crypto.specs.Collisions.{Collides}
 use Rattle.warg_witness.specs.TreePlaced.{Turning, IsTreePlaced}
 use Rattle.warg_paths.specs.Ways.IsOnGrowth.{whole}
 use Rattle.warg_witness.specs.Private.Agreement.{DiffersFirst}
-use Rattle.warg_witness.specs.Private.Divergence.{AreApart, IsDivergence, Shows, inputs, inputs_of, root_at}
+use Rattle.warg_witness.specs.Private.Divergence.{BranchesDiffer, IsDivergence, Shows, inputs, inputs_of, root_at}
 use Rattle.warg_witness.specs.Private.Meeting.{IsTreeMeeting, Descent, descent, whole_descent, LeadsOver, IsTreeDivergence}
 use Rattle.warg_witness.specs.declared.divergence.Branches.{Branches}
 use Rattle.warg_witness.specs.declared.divergence.Divergence.{Divergence}
@@ -242,7 +242,7 @@ module _ {D V A : Type 0} (H : Digest) (trees : Trees D V A) (place : ℕ) (know
   -- where the evaluation's branch at the range isn't a tree's, they collide
   branches_collide : (tree : List (List ℕ)) (over : Range) {l r : List ℕ} {b : Branches D} → 1 < over.count
       → over.start + over.count ≤ length tree → H (branch_input l r) ≡ root_at H tree over
-      → AreApart l r (root_at H tree (front_part over)) (root_at H tree (rest_part over)) b
+      → BranchesDiffer l r (root_at H tree (front_part over)) (root_at H tree (rest_part over)) b
       → Collides H (inputs b) × (inputs b ≡ (branch_input l r, tree_input H tree over))
   branches_collide tree over wide within root apart = rw apart.are (
     record { differ = apart.differ; same = root ∙ root_over_parts H tree over.start over.count wide within },
@@ -252,7 +252,7 @@ module _ {D V A : Type 0} (H : Digest) (trees : Trees D V A) (place : ℕ) (know
   pub old_apart : {l r : List ℕ} {b : Branches D} → front_of n < m → range.start + m ≤ length trees.old
       → old_turn_input H m n top below ≡ Some (branch_input l r)
       → H (branch_input l r) ≡ root_at H trees.old (leaves_from range.start m)
-      → AreApart l r (root_at H trees.old (front_part (leaves_from range.start m)))
+      → BranchesDiffer l r (root_at H trees.old (front_part (leaves_from range.start m)))
       (root_at H trees.old (rest_part (leaves_from range.start m))) b
       → IsTreeDivergence H trees place here (Branch b)
   old_apart high within takes root apart = λ path old new way.
@@ -267,7 +267,7 @@ module _ {D V A : Type 0} (H : Digest) (trees : Trees D V A) (place : ℕ) (know
   pub new_apart : {l r : List ℕ} {b : Branches D} → range.start + n ≤ length trees.new
       → new_turn_input H known m n top below ≡ Some (branch_input l r)
       → H (branch_input l r) ≡ root_at H trees.new range
-      → AreApart l r (root_at H trees.new (front_part range)) (root_at H trees.new (rest_part range)) b
+      → BranchesDiffer l r (root_at H trees.new (front_part range)) (root_at H trees.new (rest_part range)) b
       → IsTreeDivergence H trees place here (Branch b)
   new_apart within takes root apart = λ path old new way.
       let (collides, are) = branches_collide trees.new range (omega arith) within root apart in

@@ -38,7 +38,7 @@ abbrev pub inputs : {D : _} → Branches D → List ℕ × List ℕ
 inputs b = (input_beside b.right b.first_beside b.first, input_beside b.right b.second_beside b.second)
 
 -- The branch of an evaluation over the first two digests isn't a tree's over the other two, and these are both.
-pub record AreApart {D : _} (left right tree_left tree_right : List ℕ) (b : Branches D) : Type 0 where
+pub record BranchesDiffer {D : _} (left right tree_left tree_right : List ℕ) (b : Branches D) : Type 0 where
   pub differ : branch_input left right ≡ branch_input tree_left tree_right → ⊥
   pub are : b ≡ record { right = false; first = left; first_beside = right; second = tree_left; second_beside = tree_right }
 

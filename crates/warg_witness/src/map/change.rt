@@ -1,6 +1,6 @@
 //! The witness for a step from one map to another.
 
-ghost use Rattle.std.specs.Prelude.{◌≡◌, ◌↔◌, IfOk, IsTrue, ⊤};
+ghost use Rattle.std.specs.Prelude.{◌≡◌, ◌↔◌, ◌++◌, ◌∷◌, [], IfOk, IsTrue, ⊤};
 ghost use Rattle.warg_map.specs.Sparse.{map_of, pair_bytes, sparse_root};
 ghost use Rattle.warg_witness.specs.Findings.{Finds};
 ghost use Rattle.warg_witness.specs.ChangeClaims.{IsChangeMet, IsUpdate, IsUpdatePlaced};
@@ -83,10 +83,32 @@ pub fn witness_change<
         Finding::Holds => (),
         lie => return Ok(lie),
     }
+    find_change(alloc, &met.divergence, key, new_value, old, new)
+}
+
+// What the old insertions and the new value show beside the new ones, where the proof's evaluation diverges from the old
+// map's tree, or leads to both maps' one root.
+fn find_change<D: SupportedDigest, K: VisitBytes, V: VisitBytes, A: Allocator + Copy>(
+    alloc: A,
+    divergence: &Divergence<D>,
+    key: &K,
+    value: &V,
+    old: &[(K, V)],
+    new: &[(K, V)],
+) -> Result<Finding<D, A>, AllocError>
+    requires { Parts D.digest (λ first second. ⊤)
+        (sparse_root D.digest 256 (map_of D.digest (pair_bytes K.bytes V.bytes old.now
+        ++ (K.bytes key.now, V.bytes value.now) ∷ []))
+        ≡ sparse_root D.digest 256 (map_of D.digest (pair_bytes K.bytes V.bytes new.now)))
+        divergence.now }
+    ensures { let updated = pair_bytes K.bytes V.bytes old.now ++ (K.bytes key.now, V.bytes value.now) ∷ [] in
+        IfOk result (Finds ⊤ (HaveSameValues updated (pair_bytes K.bytes V.bytes new.now))
+        (IsPlacedInStep D.digest divergence.now updated (pair_bytes K.bytes V.bytes new.now))) }
+{
     let mut updated = lent(alloc, old)?;
-    updated.push((Lent(key), Lent(new_value)))?;
+    updated.push((Lent(key), Lent(value)))?;
     let given = lent(alloc, new)?;
-    find_step(alloc, &met.divergence, &updated, &given)
+    find_step(alloc, divergence, &updated, &given)
 }
 
 // Whether a proof leads from a value to the root of the map of the insertions.
@@ -104,8 +126,7 @@ fn leads_to<D: SupportedDigest, K: VisitBytes, V: VisitBytes, A: Allocator + Cop
     Ok(proof.evaluate(key, value) == *map.root())
 }
 
-// What the old insertions and the new value show beside the new ones, where the proof's evaluation diverges from the old
-// map's tree, or leads to both maps' one root.
+// The same of two lists of insertions.
 fn find_step<D: SupportedDigest, K: VisitBytes, V: VisitBytes, A: Allocator + Copy>(
     alloc: A,
     divergence: &Divergence<D>,

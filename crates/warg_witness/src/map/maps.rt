@@ -1,6 +1,6 @@
 //! Two maps of one root, and a key whose last value isn't one in both.
 
-ghost use Rattle.std.specs.Prelude.{◌≡◌, ℕ, List, All, Contains, IfOk, map, MatchOption, ⊤};
+ghost use Rattle.std.specs.Prelude.{◌≡◌, All, Contains, IfOk, map, MatchOption, ⊤};
 ghost use Rattle.warg_map.specs.Sparse.{sparse_root, map_of, pair_bytes};
 ghost use Rattle.warg_witness.specs.Findings.{Finds};
 ghost use Rattle.warg_witness.specs.MapsPlaced.{HaveOneValue, HaveSameValues, IsInserted, IsPlacedInMaps};

@@ -1,6 +1,6 @@
 //! The witness for one insertion more.
 
-ghost use Rattle.std.specs.Prelude.{◌≡◌, IfOk, ⊤};
+ghost use Rattle.std.specs.Prelude.{IfOk, ⊤};
 ghost use Rattle.warg_map.specs.Sparse.{pair_bytes};
 ghost use Rattle.warg_witness.specs.Findings.{Finds};
 ghost use Rattle.warg_witness.specs.MapClaims.{IsKeyMet, IsKeyAgreement};

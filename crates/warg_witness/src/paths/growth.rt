@@ -4,7 +4,7 @@ ghost use Rattle.std.specs.Prelude.{◌≡◌, ℕ, ◌+◌, ◌-◌, ◌<◌, �
 ghost use Rattle.warg_log.specs.Tree.{front_of};
 ghost use Rattle.warg_log.specs.Ranges.{leaves_from, front_part, rest_part, IsAligned};
 ghost use Rattle.warg_witness.specs.Ranges.{IsAround};
-ghost use Rattle.warg_witness.specs.Private.Divergence.{root_at, AreApart};
+ghost use Rattle.warg_witness.specs.Private.Divergence.{root_at, BranchesDiffer};
 ghost use Rattle.warg_witness.specs.Private.Meeting.{descent, whole_descent, LeadsOver, IsTreeDivergence};
 
 use crate::divergence::{Branches, Divergence};
@@ -29,7 +29,7 @@ fn branches_apart<D: SupportedDigest, V: VisitBytes, A: Allocator>(
     requires rest_within { rest.now.start + rest.now.count ≤ length tree.now }
     ensures { MatchOption result ((left.now ≡ root_at D.digest tree.now front.now)
         × (right.now ≡ root_at D.digest tree.now rest.now))
-        (AreApart left.now right.now (root_at D.digest tree.now front.now) (root_at D.digest tree.now rest.now)) }
+        (BranchesDiffer left.now right.now (root_at D.digest tree.now front.now) (root_at D.digest tree.now rest.now)) }
 {
     let first = plain_digest(tree, front);
     let second = plain_digest(tree, rest);

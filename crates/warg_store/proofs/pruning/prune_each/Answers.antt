@@ -7,11 +7,10 @@ use Rattle.std.proofs.lemmas.List.{take_all}
 use Rattle.std.proofs.lemmas.List.Elements.{All-more, All-weaker}
 use Rattle.warg_folder.specs.Files.{Files, without}
 use Rattle.warg_store.specs.Pruned.{AreGone, IsSpare}
-use Rattle.warg_store.proofs.PruneLemmas.{spare_still}
+use Rattle.warg_store.proofs.PruneLemmas.{spare_still, staged_stays, gone_if_spare, prunes_none, prunes_then}
 use Rattle.warg_store.proofs.GoneLemmas.{AreLeft, gone_more, left_behind, left_after, first_left}
 use Rattle.warg_store.proofs.pruning.prune_each.Goals.{then-branch, else-branch}
-use Rattle.warg_store.specs.Private.Steps.{IsPruning}
-use Rattle.warg_folder.proofs.ForCallers.{leaves_none, leaves_then, without_either}
+use Rattle.warg_folder.proofs.ForCallers.{without_either}
 use Rattle.warg_store.proofs.pruning.prune_each.Goals as goal
 
 -- where a file was spare, it is gone
@@ -28,9 +27,7 @@ still_none name n false old new e none = ap (λ (f : Files). f n) e ∙ none
 pub names-init : goal.names-init
 names-init g c = record {
   faults = omega arith;
-  crash = λ faithful s e all left. all e left;
-  time = λ faithful s all. leaves_none g.F.Folder.moment g.F.Folder.left_since c.args.folder.now
-      (IsPruning c.args.kept c.args.served s) (λ e left. all e (g.met.F.Folder.only_now c.args.folder.now e left));
+  run = λ faithful. prunes_none _ _ _ g.met.F.Folder.only_now c.args.kept c.args.served c.args.folder.now;
   staged = λ faithful n is. refl;
   gone = λ faithful apart there. (refl, λ k d behind inside. there k d inside);
   few = omega arith;
@@ -40,15 +37,13 @@ names-init g c = record {
 pub names-preserved : goal.names-preserved
 names-preserved g c = record {
   faults = omega (arith, c.names.invariant.faults, c.prune_one.ensures.cause.later);
-  crash = λ faithful s e all left. c.prune_one.ensures.crash faithful s e
-      (λ d was. c.names.invariant.crash faithful s d all was) left;
-  time = λ faithful s all.
-      let P = IsPruning c.args.kept c.args.served s in
-      leaves_then g.F.Folder.moment g.F.Folder.left_since c.args.folder.now c.names.folder c.prune_one.new.folder P P P
-      (c.names.invariant.time faithful s all)
-      (c.prune_one.ensures.any_moment faithful s (λ d was. c.names.invariant.crash faithful s d all was)) (λ e p. p)
-      (λ e p. p);
-  staged = λ faithful n is. c.in_ok-prune_one.ensures.staged faithful n is ∙ c.names.invariant.staged faithful n is;
+  run = λ faithful. prunes_then _ _ _ g.met.F.Folder.only_now c.args.kept c.args.served c.args.folder.now c.names.folder
+      c.prune_one.new.folder
+      (c.names.invariant.run faithful) (c.prune_one.ensures.run faithful);
+  staged = λ faithful n is. staged_stays c.args.kept c.args.served (g.F.Folder.seen c.names.folder)
+      (g.F.Folder.seen c.prune_one.new.folder) c.as_str.result.now c.in_ok-prune_one.field-0 n
+      (c.in_ok-prune_one.ensures.gone faithful) (c.in_ok-prune_one.ensures.spare faithful).0 is
+      ∙ c.names.invariant.staged faithful n is;
   gone = λ faithful apart there.
       let first = g.F.Folder.seen c.args.folder.now in
       let old = g.F.Folder.seen c.names.folder in
@@ -87,7 +82,7 @@ names-preserved g c = record {
   all = λ faithful s before.
       let old = g.F.Folder.seen c.names.folder in
       let new = g.F.Folder.seen c.prune_one.new.folder in
-      let here = c.names.invariant.crash faithful s old before (g.met.F.Folder.seen_may_stay c.names.folder) in
+      let here = (c.names.invariant.run faithful).crash s before old (g.met.F.Folder.seen_may_stay c.names.folder) in
       let text : c.as_str.result.now ≡ string_bytes (get_or c.args.names.now c.names.name-index c.name-item.result) =
       c.as_str.ensures.value ∙ ap (λ (x : String Global). string_bytes x) c.name-item.is in
       All-more (IsGone c.args.kept c.args.served s new) c.args.names.now c.names.name-index c.name-item.result
@@ -95,22 +90,18 @@ names-preserved g c = record {
       (All-weaker (IsGone c.args.kept c.args.served s old) (IsGone c.args.kept c.args.served s new)
       (λ x gone spare. still_none c.as_str.result.now (string_bytes x) c.in_ok-prune_one.field-0 old new
       (c.in_ok-prune_one.ensures.gone faithful) (gone spare)) _ (c.names.invariant.all faithful s before))
-      (λ spare. subst (λ (n : List ℕ). new n ≡ None) text (c.in_ok-prune_one.ensures.all faithful
+      (λ spare. subst (λ (n : List ℕ). new n ≡ None) text (gone_if_spare c.args.kept c.args.served old new
+      c.as_str.result.now c.in_ok-prune_one.field-0 (c.in_ok-prune_one.ensures.gone faithful)
+      (c.in_ok-prune_one.ensures.spare faithful).1
       (spare_still c.args.kept c.args.served s old c.as_str.result.now here
       (subst (IsSpare c.args.kept c.args.served s) (sym text) spare))));
 }
 
-pub returns-in_err-prune_one-clause-any_moment : goal.returns-in_err-prune_one-clause-any_moment
-returns-in_err-prune_one-clause-any_moment g c = λ faithful s all.
-    let P = IsPruning c.args.kept c.args.served s in
-    leaves_then g.F.Folder.moment g.F.Folder.left_since c.args.folder.now c.names.folder c.prune_one.new.folder P P P
-    (c.names.invariant.time faithful s all)
-    (c.prune_one.ensures.any_moment faithful s (λ d was. c.names.invariant.crash faithful s d all was)) (λ e p. p)
-    (λ e p. p)
-
-pub returns-in_err-prune_one-clause-crash : goal.returns-in_err-prune_one-clause-crash
-returns-in_err-prune_one-clause-crash g c = λ faithful s e all left. c.prune_one.ensures.crash faithful s e
-    (λ d was. c.names.invariant.crash faithful s d all was) left
+pub returns-in_err-prune_one-clause-run : goal.returns-in_err-prune_one-clause-run
+returns-in_err-prune_one-clause-run g c = λ faithful.
+    prunes_then _ _ _ g.met.F.Folder.only_now c.args.kept c.args.served c.args.folder.now c.names.folder
+    c.prune_one.new.folder
+    (c.names.invariant.run faithful) (c.prune_one.ensures.run faithful)
 
 pub returns-clause-all : goal.returns-clause-all
 returns-clause-all g c = λ faithful s before.

@@ -1,15 +1,12 @@
-use Rattle.std.proofs.Common.{◌≡◌, ◌⊎◌, inl, inr, ⊎_elim, List, length, Err, sym, ap, subst, ◌∙◌, arith}
-use Rattle.std.specs.declared.alloc.Global.{Global}
-use Rattle.warg_crypto.specs.declared.hash.Sha256.{Sha256}
+use Rattle.std.proofs.Common.{◌≡◌, ◌⊎◌, inl, inr, ⊎_elim, Err, sym, ap, subst, ◌∙◌, arith}
 use Rattle.warg_tiles.specs.CheckpointText.{Said}
-use Rattle.warg_tiles.specs.declared.stored.StoredTile.{StoredTile}
 use Rattle.warg_folder.specs.Files.{Files}
-use Rattle.warg_folder.specs.Moments.{IsRead, LeavesOnly}
+use Rattle.warg_folder.specs.Moments.{LeavesOnly}
 use Rattle.warg_folder.specs.Names.{checkpoint}
 use Rattle.warg_store.specs.Opening.{AgreesWith, IsOpening, IsTakenOver}
 use Rattle.warg_folder.specs.Commits.{NothingStaged}
-use Rattle.warg_store.specs.Log.{Keeps, HasLog, HasFiles}
-use Rattle.warg_store.specs.Growing.{LogIn, IsReady, Has, ArePartsOf}
+use Rattle.warg_store.specs.Log.{Keeps, HasLog}
+use Rattle.warg_store.specs.Growing.{LogIn, IsReady, Has}
 use Rattle.warg_folder.proofs.ForCallers.{leaves_weaker, leaves_then, then_reads, read_leaves}
 use Rattle.warg_store.proofs.OpenLemmas.{opened_has, beside_state}
 use Rattle.warg_store.proofs.ReadyRuns.{staging_kept}
@@ -22,30 +19,18 @@ returns-clause-has g c = λ faithful served kept has.
     let found = c.in_ok-text.ensures.text faithful served kept
     (subst (HasLog served kept) (sym (c.in_default.ensures.opened faithful)) has) in
     let keeps = found.1 in
-    let long : c.checkpoint-checkpoint.result.length ≡ length kept.entries = c.checkpoint-checkpoint.ensures.length
-    ∙ ap (λ (s : Said). s.length) found.0 in
-    let are = c.in_ok-edge.ensures.edge faithful kept (c.length.ensures ∙ long) keeps.holds in
-    let first : ArePartsOf kept c.as_slice.result.now =
-    subst (λ (ts : List (StoredTile Sha256 Global)). ArePartsOf kept ts) (sym c.as_slice.ensures.value) are in
-    let again : ArePartsOf kept c.as_slice-2.result.now =
-    subst (λ (ts : List (StoredTile Sha256 Global)). ArePartsOf kept ts) (sym c.as_slice-2.ensures.value) are in
-    let edge_read = c.read_edge.ensures.read faithful in
-    let last_read = c.read_last_bundle.ensures.read faithful in
-    let last = last_read.found ∙ edge_read.found in
+    let long = c.checkpoint-checkpoint.ensures.length in
+    let read = c.read_end.ensures.read faithful in
+    let end = c.in_ok-log.ensures.end faithful kept keeps.can (long ∙ ap (λ (s : Said). s.length) found.0) keeps.holds in
     let nothing = beside_state (seen c.recover.new.folder) (seen c.kept_text.new.folder)
     (c.in_ok-text.ensures.beside faithful) (c.in_default.ensures.empty faithful) in
     subst (Has seen g.F.Folder.may_leave served kept kept) (sym c.with.ensures)
-    (opened_has seen g.F.Folder.may_leave served kept c.read_last_bundle.new.folder c.in_ok-text.text c.in_ok-log.log
-    c.in_ok-bundle.bundle.items _ found.0
-    (subst (Keeps served kept) (sym last) keeps) (subst NothingStaged (sym last) nothing)
-    (staging_kept _ _ _ _ last_read.found last_read.crash (staging_kept _ _ _ _ edge_read.found edge_read.crash
-    (c.in_ok-text.ensures.ready faithful (c.in_default.ensures.ready faithful))))
-    (c.in_ok-log.ensures.length.0 ∙ c.checkpoint-checkpoint.ensures.length)
-    (c.in_ok-log.ensures.length.1 ∙ c.checkpoint-checkpoint.ensures.length)
-    (c.in_ok-log.ensures.stands kept long first)
-    (c.in_ok-bundle.ensures.bundle faithful kept keeps.can (subst (HasFiles kept) (sym edge_read.found) keeps.holds)
-    again)
-    (omega (arith, c.length-held.ensures, c.checkpoint-checkpoint.ensures.length)))
+    (opened_has seen g.F.Folder.may_leave served kept c.read_end.new.folder c.in_ok-text.text _ _ _ found.0
+    (subst (Keeps served kept) (sym read.found) keeps) (subst NothingStaged (sym read.found) nothing)
+    (staging_kept _ _ _ _ read.found read.crash
+    (c.in_ok-text.ensures.ready faithful (c.in_default.ensures.ready faithful)))
+    (c.in_ok-log.ensures.length.0 ∙ long) (c.in_ok-log.ensures.length.1 ∙ long) end.0 end.1
+    (omega (arith, c.length-held.ensures, long)))
 
 pub returns-in-Err-clause-opens : goal.returns-in-Err-clause-opens
 returns-in-Err-clause-opens g c = λ faithful served kept has.
@@ -68,22 +53,17 @@ returns-clause-any_moment g c = λ faithful.
     (c.in_ok-text.ensures.any_moment faithful (c.in_default.ensures.durable faithful)) (λ f was. was)
     (λ f. ⊎_elim (λ same. subst R (sym same) here)
     (λ taken. inr (inr (subst (λ (s : Files). IsTakenOver s f) (c.in_default.ensures.opened faithful) taken)))) in
-    let reads : (old new : g.row.F.Denot) → IsRead g.F.Folder.seen may moment since old new
-    → LeavesOnly moment since old new (may old) = λ old new read.
-    read_leaves _ may moment since old new (may old) (g.met.F.Folder.only_now old) (λ f left. left) read in
-    let edge = then_reads moment since may counts c.args.folder c.kept_text.new.folder c.read_edge.new.folder R kept
-    (reads c.kept_text.new.folder c.read_edge.new.folder (c.read_edge.ensures.read faithful)) in
     subst (λ (l : LogIn g.row.F.Denot). LeavesOnly moment since c.args.folder l.folder R) (sym c.with.ensures)
-    (then_reads moment since may counts c.args.folder c.read_edge.new.folder c.read_last_bundle.new.folder R edge
-    (reads c.read_edge.new.folder c.read_last_bundle.new.folder (c.read_last_bundle.ensures.read faithful)))
+    (then_reads moment since may counts c.args.folder c.kept_text.new.folder c.read_end.new.folder R kept
+    (read_leaves _ may moment since c.kept_text.new.folder c.read_end.new.folder (may c.kept_text.new.folder)
+    (g.met.F.Folder.only_now c.kept_text.new.folder) (λ f left. left) (c.read_end.ensures.read faithful)))
 
 pub returns-clause-ready : goal.returns-clause-ready
 returns-clause-ready g c = λ faithful.
+    let read = c.read_end.ensures.read faithful in
     subst (IsReady g.F.Folder.seen g.F.Folder.may_leave) (sym c.with.ensures)
-    (λ is. staging_kept _ _ _ _ (c.read_last_bundle.ensures.read faithful).found
-    (c.read_last_bundle.ensures.read faithful).crash
-    (staging_kept _ _ _ _ (c.read_edge.ensures.read faithful).found (c.read_edge.ensures.read faithful).crash
-    (c.in_ok-text.ensures.ready faithful (c.in_default.ensures.ready faithful))))
+    (λ is. staging_kept _ _ _ _ read.found read.crash
+    (c.in_ok-text.ensures.ready faithful (c.in_default.ensures.ready faithful)))
 
 pub returns-clause-agrees : goal.returns-clause-agrees
 returns-clause-agrees g c = λ faithful served behind can there.

@@ -1,4 +1,4 @@
-use Rattle.std.proofs.Common.{◌≡◌, [], ◌∷◌, ◌++◌, ◌∙◌, ap}
+use Rattle.std.proofs.Common.{◌≡◌}
 use Rattle.std.proofs.lemmas.Result.{IfOk-weaker}
 use Rattle.warg_map.specs.Bits.{key_bits}
 use Rattle.warg_map.specs.Last.{last_under}
@@ -6,12 +6,11 @@ use Rattle.warg_map.specs.Sparse.{pair_bytes}
 use Rattle.warg_witness.specs.ChangeClaims.{IsChangeMet}
 use Rattle.warg_witness.specs.MapClaims.{IsKeyMet}
 use Rattle.warg_witness.specs.Private.MapMeeting.{IsKeyMeeting, lent_pair}
-use Rattle.warg_witness.specs.declared.map.plain.Lent.{Lent}
 use Rattle.warg_witness.proofs.AgreementLemmas.{finds_shown}
-use Rattle.warg_witness.proofs.ChangeLemmas.{found_before, found_step, step_parts, with_one}
+use Rattle.warg_witness.proofs.ChangeLemmas.{found_before, found_step, step_parts}
 use Rattle.warg_witness.proofs.KeyLemmas.{key_shown}
 use Rattle.warg_witness.proofs.map.change.witness_change.Goals as goal
-use Rattle.warg_witness.proofs.map.change.witness_change.Goals.{In-Some, Else-not-branch, After-deref-2}
+use Rattle.warg_witness.proofs.map.change.witness_change.Goals.{In-Some, Else-not-branch}
 
 -- the old insertions, as the proof meets them
 meeting : (g : _) (c : In-Some g)
@@ -32,22 +31,6 @@ met_both : (g : _) (c : Else-not-branch g)
     (pair_bytes g.K.VisitBytes.bytes g.V.VisitBytes.bytes c.args.new.now)
 met_both g c before = record { before = before; after = c.in_ok-leads_to.ensures.0 c.if-not-branch.false }
 
--- the lists that are compared
-compared : (g : _) (c : After-deref-2 g)
-    → let kb = λ (k : Lent _). g.K.VisitBytes.bytes k.0.now in
-    let vb = λ (v : Lent _). g.V.VisitBytes.bytes v.0.now in
-    (pair_bytes kb vb c.deref.result.now ≡ pair_bytes g.K.VisitBytes.bytes g.V.VisitBytes.bytes c.args.old.now
-    ++ (g.K.VisitBytes.bytes c.args.key.now, g.V.VisitBytes.bytes c.args.new_value.now) ∷ [])
-    × (pair_bytes kb vb c.deref-2.result.now ≡ pair_bytes g.K.VisitBytes.bytes g.V.VisitBytes.bytes c.args.new.now)
-compared g c =
-    let kb = λ (k : Lent _). g.K.VisitBytes.bytes k.0.now in
-    let vb = λ (v : Lent _). g.V.VisitBytes.bytes v.0.now in
-    let xs = pair_bytes g.K.VisitBytes.bytes g.V.VisitBytes.bytes c.args.old.now in
-    let one = c.deref.ensures.value ∙ c.in_ok-push.ensures.items in (
-      with_one kb vb _ _ _ xs one c.in_ok-updated.ensures,
-      ap (pair_bytes kb vb) c.deref-2.ensures.value ∙ c.in_ok-given.ensures,
-    )
-
 pub find_key-requires : goal.find_key-requires
 find_key-requires g c =
     let met = meeting g (goal.at.find_key-requires g c).In-Some in
@@ -63,20 +46,17 @@ returns-in_default-2 g c =
     c.in_ok-lie.lie c.in_ok-lie.ensures in
     record { found = found_before _ _ _ _ _ _ _ met c.in_ok-lie.lie c.in_default-2.not-Holds found }
 
-pub find_step-requires : goal.find_step-requires
-find_step-requires g c =
-    let at = goal.at.find_step-requires g c in
+pub find_change-requires : goal.find_change-requires
+find_change-requires g c =
+    let at = goal.at.find_change-requires g c in
     let old = meeting g at.In-Some in
-    let met = met_both g at.Else-not-branch old.1.met in
-    let lists = compared g c in
-    rw (lists.0, lists.1) (step_parts _ _ _ _ _ _ _ met c.in-Some.met.divergence old.1.diverges)
+    step_parts _ _ _ _ _ _ _ (met_both g at.Else-not-branch old.1.met) c.in-Some.met.divergence old.1.diverges
 
 pub returns : goal.returns
 returns g c =
     let at = goal.at.returns g c in
     let old = meeting g at.In-Some in
     let met = met_both g at.Else-not-branch old.1.met in
-    let lists = compared g at.After-deref-2 in
     let before = (rw c.in-Holds.is at c.in_ok-lie.ensures).1 in
     let found = found_step _ _ _ _ _ _ _ met c.in-Some.met.divergence old.1.diverges before in
-    record { found = IfOk-weaker c.find_step.result _ _ found (rw (lists.0, lists.1) at c.find_step.ensures) }
+    record { found = IfOk-weaker c.find_change.result _ _ found c.find_change.ensures }
