@@ -11,7 +11,10 @@ use warg_crypto::Sha256;
 use warg_explorer::PAGE;
 use warg_log::Checkpoint;
 use warg_registry::{RegistryFolder, RegistryReader};
-use warg_store::{CreateError, Folder, FolderLock, LogError, LogFolder, Path, Progress, SignError};
+use warg_store::{
+    CreateError, Folder, FolderLock, LogError, LogFolder, LogReader, Path, Progress, SignError,
+    SystemFolder,
+};
 use warg_tiles::CheckpointText;
 
 // A signed note has fewer bytes.
@@ -168,22 +171,25 @@ impl Session<'_> {
 
     /// Reads every entry and makes each tile again, of a registry also its map, and says what is as the entries have it.
     pub fn audit(&self) -> Result<(), Refusal> {
-        let mut log = self.reader()?;
-        let mut counted = Counted(self.rt, 0);
-        let (audited, pages) = if names_map(log.text()) {
-            let registry = RegistryReader::open(self.rt.alloc(), log.into_folder());
-            (
-                self.opened(registry)?.audit(&mut counted),
-                " and each page of the map",
-            )
-        } else {
-            (log.audit(&mut counted), "")
-        };
-        let checkpoint = self.done(audited)?;
+        let (checkpoint, pages) = self.audited(self.reader()?)?;
         let (length, root) = (checkpoint.length(), checkpoint.root());
         said(println!(self.rt;
             "{length} entries, root {root}: each file, partial ones of older lengths too,{pages} is as the entries have it"
         ))
+    }
+
+    // The checkpoint of a log that is as its entries have it, and what it has beside its tiles.
+    fn audited(
+        &self,
+        mut log: LogReader<SystemFolder<'_>>,
+    ) -> Result<(Checkpoint<Sha256>, &'static str), Refusal> {
+        let mut counted = Counted(self.rt, 0);
+        if !names_map(log.text()) {
+            return Ok((self.done(log.audit(&mut counted))?, ""));
+        }
+        let registry = RegistryReader::open(self.rt.alloc(), log.into_folder());
+        let audited = self.opened(registry)?.audit(&mut counted);
+        Ok((self.done(audited)?, " and each page of the map"))
     }
 }
 
