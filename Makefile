@@ -1,5 +1,6 @@
 # Entry points; 'make' alone lists them. The first line of a target's comment is its help.
 .PHONY: help run verdict tlog try test wrong-bodies bench definitions ffi ffi-test install dist interop
+.NOTPARALLEL:
 
 PROVE = python3 scripts/prove_all.py $(if $(V),--notes) $(if $(CPU),--cpu $(CPU))
 
@@ -52,7 +53,7 @@ definitions:
 ffi:
 	@ffi/build.sh
 
-# Runs the examples in C, Python and Rust on every check line of the vectors, and a hostile caller.
+# Runs the examples in C, Python, Rust and Go on every check line of the vectors, and a hostile caller.
 ffi-test: ffi
 	@ffi/test.sh
 

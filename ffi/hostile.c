@@ -95,10 +95,10 @@ static int mutate(unsigned long rounds)
 {
     read_bundles();
     if (bundle_count == 0 || !answers(root, 0, 0, 32) || !answers(root, 0, 0, 0))
-        return 1;
+        return puts("no bundle was read, or a wrong answer for one of no bytes"), 1;
     for (unsigned long i = 0; i < rounds; i++)
         if (!round_holds()) {
-            printf("round %lu: an answer that isn't named\n", i);
+            printf("round %lu: an answer that isn't named or doesn't fit the root's length\n", i);
             return 1;
         }
     printf("%lu mutated bundles, and each answer is one that the header names\n", rounds);

@@ -1,7 +1,7 @@
 #!/usr/bin/env bash
 # Runs the four examples on every check line of the vectors, and compares their answers, and then a hostile
 # caller. Says which examples were run: one whose compiler or interpreter isn't there is left out.
-set -eu
+set -euo pipefail
 cd "$(dirname "$0")/.."
 work="$(mktemp -d)"
 trap 'rm -rf "$work"' EXIT
@@ -27,7 +27,7 @@ if command -v python3 > /dev/null; then
     ran=$((ran + 1))
 fi
 if command -v rustc > /dev/null; then
-    rustc --edition 2024 -O ffi/examples/check.rs -L native=ffi -l static=warg -o "$work/check_rs"
+    rustc --edition 2021 -O ffi/examples/check.rs -L native=ffi -l static=warg -o "$work/check_rs"
     try rs "$work/check_rs"
     ran=$((ran + 1))
 fi

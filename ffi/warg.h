@@ -40,7 +40,7 @@ enum {
     WARG_OUT_OF_MEMORY = -1,
     /* The bundle has no proof of the kind at the place. */
     WARG_NO_SUCH_PROOF = -2,
-    /* A root isn't 32 bytes. It is looked at before the bundle. */
+    /* A root isn't 32 bytes. It is checked before the bundle or path. */
     WARG_ROOT_LENGTH = -3,
 
     /* The first fault of the bundle's bytes as a message. */
@@ -84,7 +84,7 @@ static inline const char *warg_text(int32_t number)
     case WARG_HASH_LENGTH: return "digest is not 32 bytes";
     case WARG_NOT_ASCENDING: return "nodes do not ascend";
     case WARG_TOO_MANY_PEERS: return "more than 256 peers";
-    default: return "no number of this library";
+    default: return "unknown number";
     }
 }
 
@@ -151,7 +151,8 @@ int32_t warg_check_record(const uint8_t *path, size_t path_bytes, size_t index,
                           const uint8_t *root, size_t root_bytes);
 
 /* Whether a consistency path shows that the log of the old length and root is a beginning of the log of the new
- * ones (RFC 6962, section 2.1.2). From an empty log it is false: no path is made of it. */
+ * ones (RFC 6962, section 2.1.2). Bytes that are no multiple of 32 are WARG_HASH_LENGTH, before allocating. From an
+ * empty log it is false: no path is made of it. */
 int32_t warg_check_tree(const uint8_t *path, size_t path_bytes, size_t old_length,
                         const uint8_t *old_root, size_t old_root_bytes, size_t new_length,
                         const uint8_t *new_root, size_t new_root_bytes);

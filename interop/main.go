@@ -44,7 +44,7 @@ func stop(err error) {
 	}
 }
 
-// Whether a call of Go's side was refused, as it is to be.
+// Returns nil if a call of Go's side was refused, as it has to be, and else an error.
 func errs[T any](_ T, err error) error {
 	if err == nil {
 		return fmt.Errorf("tlog gives a path of no place")

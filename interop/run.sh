@@ -22,4 +22,4 @@ if [ $# = 0 ]; then
     python3 scripts/prove_all.py "${names[@]}"
     for name in "${names[@]}"; do programs+=("crates/$name/out/proved/$name"); done
 fi
-"$work/interop" "${programs[@]}"
+TMPDIR="$work" "$work/interop" "${programs[@]}"

@@ -34,8 +34,8 @@ def counted(part, call, times):
     """Returns the compressions and the instructions of a run that makes a call so often."""
     with tempfile.NamedTemporaryFile() as file:
         program = kit.ROOT / "crates/warg_bench/out/proved/warg_bench"
-        words = ["valgrind", "--tool=callgrind", f"--callgrind-out-file={file.name}", program, part, call, times]
-        subprocess.run(words, check=True, stderr=subprocess.DEVNULL)
+        words = ["valgrind", "-q", "--tool=callgrind", f"--callgrind-out-file={file.name}", program, part, call, times]
+        subprocess.run(words, check=True)
         text = pathlib.Path(file.name).read_text()
     names = dict(re.findall(r"^c?fn=(\(\d+\)) (.+)$", text, re.M))
     calls = re.findall(r"^cfn=(\(\d+\)).*\n(?:.*\n)??calls=(\d+)", text, re.M)

@@ -3,6 +3,7 @@
 import json
 import os
 import shutil
+import signal
 import subprocess
 
 SETTINGS = ["--headless", "--remote-debugging-pipe", "--no-sandbox", "--no-first-run", "--disable-gpu", "--disable-dev-shm-usage",
@@ -18,7 +19,8 @@ class Browser:
         (out, self.into), (self.out, into) = os.pipe(), os.pipe()
         # It reads messages from 3 and writes them to 4.
         words = ["sh", "-c", f'exec 3<&{out} 4>&{into}; exec "$@"', "sh", PROGRAM, *SETTINGS, f"--user-data-dir={profile}"]
-        self.process = subprocess.Popen(words, pass_fds=(out, into), stdout=subprocess.DEVNULL, stderr=subprocess.DEVNULL)
+        self.process = subprocess.Popen(words, pass_fds=(out, into), stdout=subprocess.DEVNULL, stderr=subprocess.DEVNULL,
+                                        start_new_session=True)
         for end in (out, into):
             os.close(end)
         self.count, self.session, self.rest, self.errors = 0, {}, b"", []
@@ -31,7 +33,8 @@ class Browser:
         return self
 
     def __exit__(self, *_):
-        self.process.kill()
+        # Its own processes write to the profile, too.
+        os.killpg(self.process.pid, signal.SIGKILL)
         self.process.wait()
 
     def message(self):

@@ -74,7 +74,7 @@ def is_as(wanted, status, out, err):
 def of_runs(name, room, settings):
     """Yields each run of a file, and whether it came out."""
     def bash(command, folder):
-        words = ["bash", "-c", f". {FOLDER}/calls.sh\n{command}"]
+        words = ["bash", "-c", f'. "$TREE/scripts/programs/calls.sh"\n{command}']
         done = subprocess.run(words, input=b"", capture_output=True, timeout=1200, cwd=folder, env=settings)
         return done.returncode, done.stdout.decode(errors="replace"), done.stderr.decode(errors="replace")
 
@@ -102,7 +102,7 @@ def prepared(room, files):
         (room / "bin" / name).chmod(0o755)
     settings = {"PATH": f"{room}/bin:{os.environ['PATH']}", "TREE": str(kit.ROOT), "AS": "", "VERSION": kit.version(), **digests()}
     settings["NOBODY"] = "" if os.geteuid() else "setpriv --reuid 65534 --regid 65534 --clear-groups"
-    words = ["bash", "-ec", f". {FOLDER}/calls.sh\n{GIVEN}"]
+    words = ["bash", "-ec", f'. "$TREE/scripts/programs/calls.sh"\n{GIVEN}']
     subprocess.run(words, cwd=room / "given", env=settings, check=True, stdout=subprocess.DEVNULL)
     return settings
 

@@ -1,8 +1,8 @@
 #!/usr/bin/env bash
-# Packs what users take home without the toolchain: dist/warg-VERSION.tar.gz, and its sum beside it. The version is that of
+# Packs what users take home without the toolchain: dist/warg-VERSION-x86_64-linux.tar.gz, and its sum beside it. The version is that of
 # CHANGELOG.md's first heading. The same files give the same bytes, whenever and by whomever they are packed. It tries what is
 # in it last. With --as-proved it takes the programs that the gate has just proved, and proves the library over those below it.
-set -eu
+set -euo pipefail
 cd "$(dirname "$0")/.."
 version="$(sed -n '/^## /{s/^## \([^,]*\).*/\1/p;q}' CHANGELOG.md)"
 name="warg-$version-x86_64-linux"
@@ -30,12 +30,12 @@ for crate in "${programs[@]}"; do
     [ "$said" = "$program $version" ] || { echo "$program --version says $said, and CHANGELOG.md $version"; exit 1; }
 done
 install -m 644 ffi/examples/check.* "$tree/examples"
-install -m 644 ffi/examples/go/* "$tree/examples/go"
+install -m 644 ffi/examples/go/go.mod ffi/examples/go/main.go "$tree/examples/go"
 ffi/lines.sh "$tree/examples"
 install -m 644 LICENSE docs/warg.proto "$tree"
 install -m 644 docs/ARCHIVE.md "$tree/README.md"
 echo "$version" > "$tree/VERSION"
-(cd "$tree" && find . -type f ! -name SHA256SUMS -printf '%P\0' | sort -z | xargs -0 sha256sum > "$work/sums" && mv "$work/sums" SHA256SUMS)
+(cd "$tree" && find . -type f ! -name SHA256SUMS -printf '%P\0' | LC_ALL=C sort -z | xargs -0 sha256sum > "$work/sums" && mv "$work/sums" SHA256SUMS)
 
 mkdir -p dist
 tar --format=ustar --sort=name --owner=0 --group=0 --numeric-owner --mtime="@${SOURCE_DATE_EPOCH:-0}" -C "$work" -c "$name" |

@@ -41,8 +41,8 @@ INSTALL = """type apt-get && [ "$(id -u)" = 0 ] && ! type go protoc strace chrom
 timeout 300 apt-get update
 for it in golang-go golang-golang-x-mod-dev protobuf-compiler strace chromium; do timeout 300 apt-get install -y "$it"; done"""
 # The files that git tracks, and the new ones that it does not ignore (whoever owns the checkout).
-COPY = """git -c safe.directory='*' ls-files -z --cached --others --exclude-standard |
-xargs -0 ls -d 2> /dev/null | tar -cT - | tar -xC "$0" """
+COPY = """set -o pipefail; git -c safe.directory='*' ls-files -z --cached --others --exclude-standard |
+(xargs -0r ls -d 2> /dev/null || true) | tar -cT - | tar -xC "$0" """
 COUNTED = re.compile(r"(?:[\w ]+: )?(\d+) (?:ok|refused|passed), (\d+) failed")
 # What rt ci says of each item that is proved and each library that is read.
 USUAL = re.compile(r"(?:fn|struct|enum|trait|impl|macro) .*: proved$|(?:statements|logic|by-macro:|crate) ")
@@ -61,11 +61,11 @@ def tried(tree, words):
     with subprocess.Popen(words, cwd=tree, stdout=subprocess.PIPE, text=True, errors="replace") as part:
         for line in part.stdout:
             print("" if USUAL.match(line) else line, end="", flush=True)
-            is_run = is_run and ": not run, " not in line
+            is_run = is_run and ": not run, " not in line and not line.startswith("0 of 0 ")
     counted = COUNTED.match(line)
     if counted and bool(int(counted[2])) == bool(part.returncode):
         return int(counted[1]), int(counted[2])
-    return (int(is_run), 0) if not part.returncode else (0, 1)
+    return (int(is_run), 0) if not part.returncode and not counted else (0, 1)
 
 
 def main():

@@ -224,7 +224,7 @@ def definition_faults():
 
 def link_faults():
     """Yields the links that lead nowhere, and the pages that are named without a link."""
-    for page in sorted(it for it in ROOT.rglob("*.md") if "out" not in it.parts):
+    for page in sorted(it for it in ROOT.rglob("*.md") if "out" not in it.relative_to(ROOT).parts):
         name, text = str(page.relative_to(ROOT)), re.sub(r"```.*?```", "", page.read_text(), flags=re.S)
         for target in re.findall(r"\]\(([^)#\s]+)", text):
             if ":" not in target and not (page.parent / target).exists():

@@ -17,4 +17,4 @@ seconds = collections.Counter()
 for (before, _), (at, name) in zip(files, files[1:]):
     for module in MODULE.findall(name) if at - before < 90 else ():
         seconds[module] += at - before
-print(*(f"{taken:6.1f}  {module}" for module, taken in [*seconds.most_common(20), ("all", seconds.total())]), sep="\n")
+print(*(f"{taken:6.1f}  {module}" for module, taken in [*seconds.most_common(20), ("all", sum(seconds.values()))]), sep="\n")

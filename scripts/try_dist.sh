@@ -1,7 +1,7 @@
 #!/usr/bin/env bash
 # Tries an archive of make dist as a new user does, in a folder of its own, without this repository and its environment: the
 # sums, the programs, and the example of each language that is there. try_dist.sh ARCHIVE.
-set -eu
+set -euo pipefail
 archive="$(realpath "$1")"
 room="$(mktemp -d "${TMPDIR:-/tmp}/a new user.XXXXXX")"
 trap 'chmod -R u+w "$room"; rm -rf "$room"' EXIT
@@ -39,6 +39,10 @@ if "${bare[@]}" sh -c 'command -v cc' > /dev/null; then
 fi
 if "${bare[@]}" sh -c 'command -v python3' > /dev/null; then
     try Python python3 examples/check.py
+fi
+if "${bare[@]}" sh -c 'command -v rustc' > /dev/null; then
+    "${bare[@]}" rustc --edition 2021 -O examples/check.rs -L native=lib -l static=warg -o check_rs
+    try Rust ./check_rs
 fi
 if "${bare[@]}" sh -c 'command -v go' > /dev/null; then
     (cd examples/go && "${bare[@]}" go build -o ../../check_go .)

@@ -4,10 +4,11 @@
 An edit is a line 'file: src/lib.rt' and then pairs of lines 'old: TEXT' and 'new: TEXT', each old text standing there once; 'old
 line: TEXT' stands for a whole line, and after a line 'behind: TEXT' the first one behind that text is meant. One check of a copy of
 the crate judges a round of edits (docs/ARCHITECTURE.md). An edit is refused exactly if the check names an open goal of its wrong
-body, or an error in the proof files, which is no lack of a name; what waits for a callee, or lacks names, goes to the next round.
-What is let through or never judged fails, and so does an edit that changes no one function. Edits in wrong-bodies/planted change no
-meaning, and show that this script can fail: each must come out as let through, and waits_* wait first for a broken method.
-Where all of a crate's came out, that is kept on this machine, by a sum of all that was read, and they aren't tried again.
+body, or an error in the proof files, which is no lack of a name; what waits for a callee goes to the next round. What is let through
+or never judged fails, as where an edit takes away a name that the answers cite, and so does an edit that changes no one function.
+Edits in wrong-bodies/planted change no meaning, and show that this script can fail: each must come out as let through, and waits_*
+wait first for a broken method. Where all of a crate's came out, that is kept on this machine, by a sum of all that was read, and they
+aren't tried again.
 
 Usage: wrong_bodies.py [--crate NAME] [--only WORD]
 """
@@ -26,7 +27,6 @@ import tempfile
 import items
 import kit
 
-RENAMED = "its goals have other names"
 KEPT = pathlib.Path(os.environ.get("XDG_CACHE_HOME") or pathlib.Path.home() / ".cache") / "warg-wrong-bodies"
 WAITS = re.compile(r"which (is|are) not proved")
 # What a check says of a function whose own proof has no open goal; the second and the third, of one beside holes.
@@ -38,7 +38,6 @@ LEMMA = re.compile(r"""^(?P<said>(?P<room>\ *)(?:pub\ )?(?P<name>[^\s:(){}=]+)(?
 CYCLE = re.compile(r"#\[cycle\((\w+)\)\]\s*(?:#\[[^\n]*\]\s*|//[^\n]*\n\s*)*(?:pub(?:\(\w+\))? )?\Z")
 WRAPPED = re.compile(r"^(?:\./)?proofs/\S+: error: .*(?:\n  .*)+", re.M)
 LACKS_A_GOAL = re.compile(r"^(?:\./)?proofs/(\S+)/\w+\.antt:\d+:\d+: error: `[^`]+`: `goal\.([^`]+)`: module", re.M)
-ASKS = re.compile(r"^help: `Goals` has no `([^`]+)`; rattle asks for ([^;]*)", re.M)
 OPEN = re.compile(r"^note: src/.*\(`([^`]+)`\)", re.M)
 LACKS_A_NAME = re.compile(r"has no field|is not in scope|has no `|was not admitted|is no name")
 
@@ -46,14 +45,13 @@ LACKS_A_NAME = re.compile(r"has no field|is not in scope|has no `|was not admitt
 @dataclasses.dataclass(eq=False)
 class Edit:
     """A wrong body: its pairs of texts by file, whether it is planted, the name of the function that it changes, its own name and
-    those of what has one proof with it, the words of its goals' names that it changes, and what its rounds told."""
+    those of what has one proof with it, and what its rounds told."""
 
     path: pathlib.Path
     pairs: list
     is_planted: bool
     changed: str = ""
     functions: list = ()
-    renamed: set = dataclasses.field(default_factory=set)
     told: list = dataclasses.field(default_factory=list)
 
     def fault(self):
@@ -96,20 +94,6 @@ def applied(edit, texts):
     return text
 
 
-def word_changed(old, new):
-    """Returns the word in which two names of goals differ behind the first, with the one before it; none where they differ in more."""
-    olds, news = old.split("-"), new.split("-")
-    at = [it for it in range(len(olds)) if len(olds) == len(news) and olds[it] != news[it]]
-    return (olds[at[0] - 1], olds[at[0]], news[at[0]]) if len(at) == 1 and at[0] > 0 else None
-
-
-def rename(folder, before, old, new):
-    """Writes the new word for the old one, where the word before it or a branch's stands there, in a folder's answers."""
-    names = re.compile(rf"\b({re.escape(before)}|then|else|if)-{re.escape(old)}(?!\w)", re.I)
-    for file in pathlib.Path(folder).glob("*.antt"):
-        file.write_text(names.sub(rf"\1-{new}", file.read_text()))
-
-
 def copy(room, folder, to):
     """Copies a function's proof for one of another name beside it."""
     if (room / folder).is_dir():
@@ -126,32 +110,16 @@ class Check:
         self.lines = dict(re.findall(r"^fn (\S+): (.*)$", said, re.M))
         found = re.findall(r"^(?:\./)?proofs/(\S*?)/?\w+\.antt:\d+:\d+: error: (.*)$", said, re.M)
         self.faults = {folder.replace("+", "") for folder, fault in found if not LACKS_A_NAME.search(fault)}
-        # Open goals stand above the line of their function, and what it asks for below.
+        # Open goals stand above the line of their function.
         parts = re.split(r"^fn (\S+): .*$", said, flags=re.M)
         self.open = {name: OPEN.findall(above) for above, name in zip(parts[::2], parts[1::2])}
-        self.asked = {name: dict(ASKS.findall(below)) for name, below in zip(parts[1::2], parts[2::2])}
-
-    def lacked(self, name):
-        """Returns the goals, each with its folder, that a function's answers name and that aren't there."""
-        own = "/".join(name.split("::")[1:])
-        return [(folder, goal) for folder, goal in LACKS_A_GOAL.findall(self.said) if folder.replace("+", "") == own]
 
     def is_broken(self, name):
         """Whether a function has an open goal of a kind that its answers don't lack, or an error in its proof that is no lack of a name."""
-        said, lacked = self.lines.get(name, "proved"), {goal.partition("-")[0] for _, goal in self.lacked(name)}
+        own, said = "/".join(name.split("::")[1:]), self.lines.get(name, "proved")
+        lacked = {goal.partition("-")[0] for folder, goal in LACKS_A_GOAL.findall(self.said) if folder.replace("+", "") == own}
         is_open = any(goal.partition("-")[0] not in lacked for goal in self.open.get(name, ()))
-        is_open = is_open or "did not prove" in said or "/".join(name.split("::")[1:]) in self.faults
-        return is_open and not said.startswith(PROVED)
-
-    def renamed(self, name):
-        """Returns the words of the names that a function's answers lack, and for each the one that stands there now."""
-        found = set()
-        for folder, old in self.lacked(name):
-            asked = re.findall(r"`([^`]+)`", self.asked.get(name, {}).get(old, ""))
-            words = next(filter(None, (word_changed(old, it) for it in asked)), None)
-            if words:
-                found.add((folder, *words))
-        return found
+        return (is_open or "did not prove" in said or own in self.faults) and not said.startswith(PROVED)
 
     def verdict(self, edit):
         """Returns refused, proved or waits, as it says of one of its edits; else nothing."""
@@ -165,11 +133,7 @@ class Check:
         """Returns what it says of one of its edits: refused, proved, or a word why it says nothing yet."""
         if not self.lines:
             return "unread: " + next((it for it in self.said.splitlines() if "error" in it), "")[:200]
-        name = edit.functions[0]
-        if self.verdict(edit) in ("", "waits") and self.renamed(name) - edit.renamed:
-            edit.renamed |= self.renamed(name)
-            return RENAMED
-        return self.verdict(edit) or f"unjudged: {self.lines.get(name, '')[:200]}"
+        return self.verdict(edit) or f"unjudged: {self.lines.get(edit.functions[0], '')[:200]}"
 
 
 class Crate:
@@ -252,8 +216,6 @@ class Crate:
             (room / file).write_text(self.text_of(file, edits))
         for edit in (it for it in edits if it.functions[0] != it.changed):
             copy(room, self.proofs_of(edit.changed), self.proofs_of(edit.functions[0]))
-        for folder, *words in {it for edit in edits for it in edit.renamed}:
-            rename(room / "proofs" / folder, *words)
         self.leave_out(room / "proofs", {it for edit in edits for it in edit.functions})
 
     def leave_out(self, proofs, judged):
@@ -310,7 +272,7 @@ class Crate:
 
 def main():
     asked = argparse.ArgumentParser()
-    asked.add_argument("--crate", action="append", default=[])
+    asked.add_argument("--crate", action="append", default=[], choices=[*kit.crates()])
     asked.add_argument("--only", default="")
     asked = asked.parse_args()
     crates = [Crate(it, asked.only) for it in kit.crates() if it in (asked.crate or kit.crates())]
@@ -318,7 +280,7 @@ def main():
     with concurrent.futures.ThreadPoolExecutor(len(os.sched_getaffinity(0))) as pool:
         failed = sum(map(len, pool.map(Crate.try_all, crates)))
     print(f"wrong bodies: {sum(it.refused for it in crates)} refused, {failed} failed")
-    sys.exit(bool(failed))
+    sys.exit(bool(failed) or not crates)
 
 
 if __name__ == "__main__":

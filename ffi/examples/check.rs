@@ -4,7 +4,7 @@
 
 use std::io::{self, BufRead, Write};
 
-unsafe extern "C" {
+extern "C" {
     fn warg_check_entry(
         bundle: *const u8, bundle_bytes: usize, at: usize, index: usize,
         value: *const u8, value_bytes: usize, length: usize,

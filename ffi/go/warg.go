@@ -76,7 +76,7 @@ func CheckEntry(bundle []byte, place, index uint64, value []byte, log Checkpoint
 }
 
 // CheckGrowth says whether the consistency proof at a place of a log bundle shows that the log with the old checkpoint is
-// a beginning of the one with the new checkpoint.
+// a beginning of the one with the new checkpoint. From an empty log it is false.
 func CheckGrowth(bundle []byte, place uint64, old, new Checkpoint) (bool, error) {
 	return verdict(C.warg_check_growth(at(bundle), count(bundle), C.size_t(place),
 		C.size_t(old.Length), at(old.Root), count(old.Root), C.size_t(new.Length), at(new.Root), count(new.Root)))
@@ -132,8 +132,13 @@ func CheckRecord(path []byte, index uint64, value []byte, log Checkpoint) (bool,
 }
 
 // CheckTree says whether a consistency path shows that the log with the old checkpoint is a beginning of the one with the
-// new checkpoint (RFC 6962, section 2.1.2).
+// new checkpoint (RFC 6962, section 2.1.2). From an empty log it is false.
 func CheckTree(path []byte, old, new Checkpoint) (bool, error) {
 	return verdict(C.warg_check_tree(at(path), count(path), C.size_t(old.Length), at(old.Root), count(old.Root),
 		C.size_t(new.Length), at(new.Root), count(new.Root)))
+}
+
+// Version returns the library's version, a byte for each number: 0.9.2-rattle.1 is 0x00090201.
+func Version() uint32 {
+	return uint32(C.warg_version())
 }

@@ -179,7 +179,7 @@ class Warg:
 def _number(name, number):
     """Returns a number as the library takes it."""
     if not isinstance(number, int) or isinstance(number, bool):
-        raise TypeError(f"{name} is to be an int, and is of type {type(number).__name__}")
+        raise TypeError(f"{name} must be an int, not {type(number).__name__}")
     if not 0 <= number < 1 << 64:
         raise ValueError(f"{name} is {'below 0' if number < 0 else 'above 2^64 - 1'}")
     return [ctypes.c_uint64(number)]
@@ -188,6 +188,6 @@ def _number(name, number):
 def _bytes(name, given):
     """Returns bytes as the library takes them: a pointer and a length."""
     if not isinstance(given, (bytes, bytearray, memoryview)):
-        raise TypeError(f"{name} is to be bytes, and is of type {type(given).__name__}")
+        raise TypeError(f"{name} must be bytes, bytearray or memoryview, not {type(given).__name__}")
     given = bytes(given)
     return [ctypes.c_char_p(given), ctypes.c_size_t(len(given))]

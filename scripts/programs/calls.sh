@@ -190,6 +190,7 @@ each_call() {
         [ "$status" = 137 ] || grep -q INJECTED trace || break
         [ "$found" != stood ] || stood=$((stood + 1))
     done
+    [ "$turn" -gt 1 ] || echo "none of $calls was harmed"
     echo "seen: $calls: $((turn - 1)) were harmed by ${harms[*]}, and $stood batches stood"
 }
 
@@ -266,7 +267,8 @@ forced() {
         awk -v "log_folder=$PWD/log" -f "$TREE/scripts/programs/forced.awk" traces
         [ "$call" = 0 ] || [ "$killed" = 137 ] || break
     done
-    echo "seen: all that a commit needs is forced before it stands, also behind kills before $((call - 1)) calls that force"
+    [ "$call" -gt 1 ] || echo "no call forces"
+    echo "seen: all that a commit needs is forced before it stands, also after kills before $((call - 1)) calls that force"
 }
 
 # Halts an append, copies the disk's file as it is at one moment, until two copies in a row are alike, lets the append end, and mounts

@@ -74,6 +74,9 @@ fn continues(
     old: &Checkpoint<Sha256>,
     newest: &Checkpoint<Sha256>,
 ) -> Result<bool> {
+    if old.length() > newest.length() {
+        return Ok(false);
+    }
     let path = log.consistency_path(old.length(), newest.length())?;
     Ok(check_tree(old, newest, path.as_slice()))
 }

@@ -2,7 +2,8 @@
 //! the root of their map. Then it reads the folder as a client does, and prints what stands under each key that the command
 //! line names: the value and the entry that put it there, or that nothing does, and how many digests the map's proof of that has.
 //!
-//! The folder is `registry`, which isn't there before. Any web server may serve it.
+//! The folder is `registry`, which must not exist yet; any web server may serve it. Nothing else may write to it
+//! meanwhile: a program that may run twice takes a `FolderLock` first.
 #![tactic(auto)]
 
 use anyhow::{Result, bail};

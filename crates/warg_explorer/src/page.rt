@@ -6,7 +6,7 @@ pub const PAGE: &str = r##"<!doctype html>
 <head>
 <meta charset="utf-8">
 <!-- The policy allows this very style and script: after an edit, the browser's console names the new digests. -->
-<meta http-equiv="Content-Security-Policy" content="default-src 'none'; connect-src 'self'; img-src data:; style-src 'sha256-dqPXGG7H82qhdPD09hfjgGO5R9E0zJkRtDk/UEUFH0M='; script-src 'sha256-JnyeZHVj1RpXWJ6xWsz5iDBo4PRlyy/JGjAUxBUELMQ='; base-uri 'none'; form-action 'none'; require-trusted-types-for 'script'; trusted-types 'none'">
+<meta http-equiv="Content-Security-Policy" content="default-src 'none'; connect-src 'self'; img-src data:; style-src 'sha256-dqPXGG7H82qhdPD09hfjgGO5R9E0zJkRtDk/UEUFH0M='; script-src 'sha256-wUZV2TBUwyrZnVeU7V7/+PfzwWTxalbG8OPvTDxK1TI='; base-uri 'none'; form-action 'none'; require-trusted-types-for 'script'; trusted-types 'none'">
 <meta name="viewport" content="width=device-width, initial-scale=1">
 <meta name="color-scheme" content="light dark">
 <title>A transparency log</title>
@@ -306,27 +306,21 @@ async function bodyUpTo(response, most) {
   return joined(...parts);
 }
 
+const unread = (file, why) => error => {
+  throw new Fault('unread', file, error.name === 'TimeoutError' ? 'The server took more than 30 seconds.' : why);
+};
+
 class Files {
   count = 0;
   size = 0;
 
-  async answer(file) {
-    try {
-      return await fetch(file, {cache: 'no-store', redirect: 'error', signal: AbortSignal.timeout(30000)});
-    } catch (error) {
-      const why = error.name === 'TimeoutError' ? 'The server took more than 30 seconds.' : 'The server doesn’t answer.';
-      throw new Fault('unread', file, why);
-    }
-  }
-
   // A file's bytes and the time of its last change, or null where there is no such file.
   async read(file, most) {
-    const response = await this.answer(file);
+    const signal = AbortSignal.timeout(30000);
+    const response = await fetch(file, {cache: 'no-store', redirect: 'error', signal}).catch(unread(file, 'The server doesn’t answer.'));
     if (response.status === 404 || response.status === 410) return null;
     if (!response.ok) throw new Fault('unread', file, `The server answers with status ${response.status}.`);
-    const bytes = await bodyUpTo(response, most).catch(() => {
-      throw new Fault('unread', file, 'The server stopped in the middle of it.');
-    });
+    const bytes = await bodyUpTo(response, most).catch(unread(file, 'The server stopped in the middle of it.'));
     this.count += 1;
     this.size += bytes.length;
     if (bytes.length > most) throw new Fault('longer', file, `It has more than ${bytesText(most)}.`);
@@ -363,11 +357,11 @@ function entriesOf(file, bytes, count) {
   let at = 0;
   while (entries.length < count) {
     const end = at + 2 + bytes[at] * 256 + bytes[at + 1];
-    if (!(end <= bytes.length)) throw new Fault('cut', file, `It ends within the entry ${entries.length} of its ${count}.`);
+    if (!(end <= bytes.length)) throw new Fault('cut', file, `It ends within entry ${entries.length} of its ${count}, from 0.`);
     entries.push(bytes.subarray(at + 2, end));
     at = end;
   }
-  if (at < bytes.length) throw new Fault('longer', file, `${bytesText(bytes.length - at)} stand behind its ${count} entries.`);
+  if (at < bytes.length) throw new Fault('longer', file, `${bytesText(bytes.length - at)} follow its ${count} entries.`);
   return entries;
 }
 
@@ -867,7 +861,7 @@ async function viewCheckpoint({log, growth}) {
         [map ? 'Insertions' : 'Entries', countText(length)],
         ['Root', ...bothWays(root)],
         map && ['Root of the map', ...bothWays(map)],
-        ...others.map(line => ['Further line', mono(line)]),
+        ...others.map(line => ['Further line', ...visible(line)]),
         ['Written', ageText(log.changed)],
         ['Checked by', mono([...edge, rootPage.made?.file].filter(Boolean).join(', ') || 'itself')],
         ['Signatures', ...(signatures ? [element('pre', {}, ...visible(signatures)), element('span', {class: 'small'}, 'as they stand in the file; this page doesn’t check them')] : ['none'])],
@@ -1175,8 +1169,8 @@ function showReading({files, log}, {count, size, time}) {
 
 // Why this browser can't check anything here, or nothing.
 function obstacle() {
-  if (location.protocol === 'file:') return 'It was opened as a file, and then a browser reads no other file for it. Serve the folder, as by python3 -m http.server.';
-  if (!globalThis.crypto?.subtle) return 'SHA-256 of the browser (WebCrypto) is missing: it is there behind https or localhost alone.';
+  if (location.protocol === 'file:') return 'It was opened as a file, and then browsers let it read no other file. Serve the folder, for instance with python3 -m http.server.';
+  if (!globalThis.crypto?.subtle) return 'The browser’s SHA-256 (WebCrypto) is missing: it is there only over https or on localhost.';
   return null;
 }
 
@@ -1185,6 +1179,7 @@ async function readLog() {
   const files = new Files(), why = obstacle();
   const state = {files, began: turn && performance.now(), log: null, growth: null, fault: why && new Fault('obstacle', 'This page', why)};
   current = null;
+  turn += 1;
   byId('main').ariaBusy = 'true';
   try {
     if (!why) state.log = await Log.at(files);

@@ -3,7 +3,7 @@
 use std::process::Abort;
 use warg_store::{Call, Folder, FolderError, MemoryFolder};
 
-// How many of the calls are behind none of whose changes was forced.
+// How many calls come after the last sync.
 fn unforced(calls: &[Call]) -> usize {
     calls
         .iter()

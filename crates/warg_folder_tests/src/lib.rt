@@ -1,5 +1,5 @@
 //! What the vectors can't say of logs and registries in folders: what is read beside a log or a map in memory, at each
-//! moment of a run too, what is refused by name, and what stands behind a refusal.
+//! moment of a run too, what is refused by name, and what stands after a refusal.
 #![tactic(auto)]
 
 #[cfg(test)]

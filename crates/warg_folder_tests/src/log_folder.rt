@@ -147,7 +147,7 @@ pub(crate) fn is_file<F: Folder>(
     }
 }
 
-// Whether a log of 259 entries has this origin, this length, its last entry and none behind it.
+// Whether a log of 259 entries has this origin, this length, its last entry and none after it.
 fn has_last_entry<F: Folder + Drop>(rt: &impl Abort, log: &mut LogFolder<F>) -> bool {
     let last = log.entry(258).expect(rt, "an entry");
     let is_log = log.length() == 259 && log.origin() == ORIGIN.as_slice();
@@ -179,7 +179,6 @@ fn a_commit_fills_tiles_and_keeps_those_before(rt: HostRuntime) {
     let mut log = opened(&rt, folder);
     assert!(rt; log.checkpoint() == checkpoint_of(&rt, 259));
     assert!(rt; is_whole(&rt, &mut log));
-    assert!(rt; log.into_folder().calls().len() > 0);
 }
 
 // Whether these are the entries that were pushed, from a number on.
@@ -242,7 +241,7 @@ fn what_is_not_committed_is_dropped(rt: HostRuntime) {
     let mut folder = uncommitted(&rt, MemoryFolder::new(rt.alloc()));
     assert!(rt; count(&rt, &mut folder, ".log/staged/") == 2);
     let mut folder = with_nothing(&rt, folder);
-    assert!(rt; count(&rt, &mut folder, "") < 6);
+    assert!(rt; count(&rt, &mut folder, ".log/staged/") == 0);
 }
 
 #[test]

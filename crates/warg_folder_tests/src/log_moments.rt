@@ -52,7 +52,7 @@ fn each_crash_leaves_one_log_or_the_next(rt: HostRuntime) {
     }
 }
 
-// Asserts so of what a crash may leave at each moment of an opening of the folder that one after these calls leaves.
+// Asserts the same of what a crash may leave at each moment of an opening, after a crash at the end of these calls.
 fn assert_each_opening(rt: &(impl AllocGlobal + Abort), calls: &[Call], logs: &Logs) {
     let mut left = crashed(rt, calls, 0);
     let before = left.calls().len();
@@ -116,7 +116,7 @@ fn mirror_file<F: Folder>(
     }
 }
 
-// Asserts so of each tile and bundle of a folder.
+// Asserts the same of each tile and bundle of a folder.
 fn mirror_tiles(
     rt: &(impl AllocGlobal + Abort),
     folder: &mut MemoryFolder,
@@ -128,7 +128,7 @@ fn mirror_tiles(
     }
 }
 
-// The number of calls at a moment behind the first ones.
+// The number of calls at a moment after the first ones.
 fn moment(random: &mut Random, before: usize, calls: usize) -> usize {
     let later = calls.saturating_sub(before).saturating_add(1);
     before.saturating_add(random.below(later)).min(calls)
@@ -167,7 +167,7 @@ fn crashed_batch(
 }
 
 #[test]
-fn random_runs_go_on_behind_each_crash(rt: HostRuntime) {
+fn random_runs_go_on_after_each_crash(rt: HostRuntime) {
     let mut random = Random { state: 1 };
     for _ in 0..RUNS {
         let mut folder = new_log(&rt, MemoryFolder::new(rt.alloc())).into_folder();

@@ -67,7 +67,7 @@ fn has_page<F: Folder + Drop>(
     }
 }
 
-// Whether a reader has so.
+// Whether a reader finds a page with these bytes.
 fn serves_page<F: Folder + Drop>(reader: &mut LogReader<F>, path: &str, bytes: &[u8]) -> bool {
     match reader.page(path, 9) {
         Ok(Some(page)) => page.as_slice() == bytes,

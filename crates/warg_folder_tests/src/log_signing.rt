@@ -42,6 +42,12 @@ fn a_signed_checkpoint_stays_until_another_is_signed(rt: HostRuntime) {
     let mut log = opened(&rt, reader.into_folder());
     assert!(rt; log.checkpoint() == checkpoint_of(&rt, 3));
     assert!(rt; log.sign(note.as_slice()) == Err(SignError::Text) && log.prune() == Ok(0));
+    let mut newest = log.text().write(rt.alloc()).expect(&rt, "memory");
+    newest
+        .extend_from_slice(b"\nsigned\n")
+        .expect(&rt, "memory");
+    assert!(rt; log.sign(newest.as_slice()) == Ok(()));
+    assert!(rt; reader_of(&rt, log.into_folder()).checkpoint() == checkpoint_of(&rt, 3));
 }
 
 #[test]

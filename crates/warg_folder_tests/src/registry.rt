@@ -143,13 +143,13 @@ fn the_root_that_a_text_names(rt: HostRuntime) {
     }
 }
 
-// Whether memory lacks for an entry.
-fn lacks_for_entry<A: Allocator + Copy>(alloc: A) -> bool {
+// Whether memory runs out for an entry.
+fn runs_out_for_entry<A: Allocator + Copy>(alloc: A) -> bool {
     write_insertion(alloc, b"left-pad", b"1.1.0").err() == Some(EntryError::Memory)
 }
 
-// Whether memory lacks for a line.
-fn lacks_for_line<A: Allocator + Copy>(alloc: A, root: &Hash<Sha256>) -> bool {
+// Whether memory runs out for a line.
+fn runs_out_for_line<A: Allocator + Copy>(alloc: A, root: &Hash<Sha256>) -> bool {
     map_line(alloc, root).is_err()
 }
 
@@ -158,9 +158,9 @@ fn each_growth_is_refused_in_turn(rt: HostRuntime) {
     let root = hash(&rt, ROOT);
     for growths in 0..9u64 {
         let memory = Refusing::after(rt.alloc(), growths);
-        assert!(rt; lacks_for_entry(&memory) == memory.has_refused());
+        assert!(rt; runs_out_for_entry(&memory) == memory.has_refused());
         let memory = Refusing::after(rt.alloc(), growths);
-        assert!(rt; lacks_for_line(&memory, &root) == memory.has_refused());
+        assert!(rt; runs_out_for_line(&memory, &root) == memory.has_refused());
     }
 }
 

@@ -74,7 +74,7 @@ fn a_reader_names_a_page_that_is_missing(rt: HostRuntime) {
     assert!(rt; is_missing(&mut reader_of(&rt, folder), b"a"));
 }
 
-// A key is held by a registry without the tile of its log, which shows that it isn't damaged otherwise.
+// Without the log's tile, `get` still finds a key, and `get_logged` is refused.
 #[test]
 fn a_key_is_got_without_tiles(rt: HostRuntime) {
     let mut folder = first(&rt);

@@ -72,7 +72,8 @@ impl<F: Folder + Drop> RegistryReader<F> {
     /// Shows that the map is the one that the log's entries make, and audits the log as [`LogReader::audit`] does. Each page
     /// that the map's root leads to has the digest of the slot that names it; each entry is an insertion whose key stands
     /// alone in a slot of a version above the entry's index, and where it is the next version, with the entry's value; and
-    /// there are no other keys. `Damaged` names the file at fault.
+    /// there are no other keys. `Damaged` names the file at fault. `progress` counts the entries as the log's audit reads them,
+    /// which comes after the map's.
     ///
     /// It reads each page once, and for each entry those on the way of its key; each entry bundle twice, and each tile. Its
     /// memory is that of one bundle, and a page for each byte that two keys' digests share.
@@ -272,7 +273,7 @@ impl<F: Folder + Drop> RegistryReader<F> {
     }
 }
 
-// Whether the version under a key digest is the one behind an index; `None` where it is an earlier one, or the leaf digest
+// Whether the version under a key digest is the one after an index; `None` where it is an earlier one, or the leaf digest
 // isn't that of the value.
 fn is_next(held: &Option<HeldInPages<Sha256>>, index: u64, value: &[u8]) -> Option<bool>
     requires { index < GREATEST_LENGTH }

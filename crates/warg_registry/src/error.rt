@@ -18,8 +18,8 @@ pub enum InsertionFault {
     /// The bytes end within the value or its length.
     #[error("entry ends within the value")]
     Value,
-    /// Bytes stand behind the value.
-    #[error("entry goes on behind the value")]
+    /// Bytes follow the value.
+    #[error("entry goes on after the value")]
     Longer,
 }
 

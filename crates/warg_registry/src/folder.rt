@@ -111,10 +111,10 @@ impl<F: Folder + Drop> RegistryFolder<F> {
     /// with the map's root. All of it or nothing, whatever happens at whatever moment; no file below `tile/` or `map/` changes
     /// its bytes.
     ///
-    /// `TooLong` where an entry has more than 65,535 bytes, `Full` where there would be more than 2^63 entries, and `Damaged` for a
-    /// page that is missing or corrupt come before anything is written, and the registry is as it was. After another error it
-    /// takes no more (`Closed`), and the folder is opened again: so after `Full` where the checkpoint's text would have more than
-    /// 2^20 bytes. A registry that takes insertions is refused only so, or for want of memory or by its device.
+    /// `TooLong` where an entry has more than 65,535 bytes, `Full` where there would be more than 2^63 entries, and `Damaged`
+    /// for a page that is missing or corrupt come before anything is written, and the registry is as it was. `Full` also comes
+    /// where the checkpoint's text would have more than 2^20 bytes: then, or where memory is refused or the device fails, the
+    /// registry may take no more (`Closed`), and the folder is opened again. It is refused for nothing else.
     pub fn publish(&mut self, insertions: &[(&[u8], &[u8])]) -> Result<(), PublishError>
         requires { F.IsFaithful → IsReady F.seen F.may_leave self.old.log }
         ensures published { F.IsFaithful → OnOk result ((origin : List ℕ) (served kept : List (List ℕ × List ℕ))
@@ -202,7 +202,8 @@ impl<F: Folder + Drop> RegistryFolder<F> {
 
     /// Removes what neither the newest state nor the served checkpoint needs: pages of older versions, and of the log what
     /// [`LogFolder::prune`] removes. First it visits all pages of both: where one is missing, or hasn't the digest that names it,
-    /// `Damaged` names it, and nothing is removed. Returns how many files it removed. After an error, open the folder again.
+    /// `Damaged` names it, and nothing is removed. Returns how many files it removed. After an error, of `publish` too, open
+    /// the folder again.
     ///
     /// It reads each page that is needed once, or twice where two states have it, hashes its branches but no lone key's way
     /// down, and keeps the names of all.
@@ -243,7 +244,7 @@ impl<F: Folder + Drop> RegistryFolder<F> {
         self.pages.log.checkpoint()
     }
 
-    /// The root of the map.
+    /// The root of the map; after a `publish` that has closed the registry, that of the map with its insertions.
     pub fn root(&self) -> &Hash<Sha256>
         ensures { result.now ≡ self.now.root }
     {

@@ -20,7 +20,7 @@ pub struct Insertion<'a> {
     pub value: &'a [u8],
 }
 
-/// The entry of an insertion: the key and then the value, each behind its length, 8 bytes, the greatest first.
+/// The entry of an insertion: the key and then the value, each after its length in 8 bytes, big-endian.
 /// `TooLong` exactly if the entry has more than 65,535 bytes, before allocating; else it fails only if allocation
 /// fails.
 pub fn write_insertion<A: Allocator>(
@@ -58,7 +58,7 @@ pub fn read_insertion(entry: &[u8]) -> Result<Insertion<'_>, InsertionFault>
     Ok(Insertion { key, value })
 }
 
-// The part that bytes begin with, behind its length, and the bytes behind it.
+// The part that bytes begin with, after its length, and the bytes after it.
 fn first_part(bytes: &[u8]) -> Option<(&[u8], &[u8])>
     ensures { MatchOption result (HasNoPart bytes.now)
         (λ found. IsPart found.0.now × (bytes.now ≡ framed_part found.0.now ++ found.1.now)) }

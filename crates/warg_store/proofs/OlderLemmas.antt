@@ -50,8 +50,10 @@ begins_partial (Bundle number entries) t is =
     let here : TileAt = record t { width = 256 } in
     let same : here ≡ full = same_tile here full is.level is.number refl in
     let prefix : List ℕ = entries_path full ++ codes ".p/" in
-    (starts_is Decides-eqb (entries_path t) prefix (starts_with nat_eq (entries_path t) prefix) refl).1 (decimal t.width)
-    (entries_behind t is.partial ∙ ap (λ (u : TileAt). (entries_path u ++ codes ".p/") ++ decimal t.width) same)
+    (starts_is Decides-eqb (entries_path t) prefix (starts_with nat_eq (entries_path t) prefix) refl).1
+    (decimal t.width)
+    (entries_behind t is.partial
+    ∙ ap (λ (u : TileAt). (entries_path u ++ codes ".p/") ++ decimal t.width) same)
 
 -- an option that has a value has this one, where each has
 some_is : (o : Option (List ℕ)) (value : List ℕ) → ((bytes : List ℕ) → o ≡ Some bytes → bytes ≡ value) → IsSome o
@@ -211,7 +213,8 @@ pub placed : (m n : ℕ) (t : TileAt) → m ≤ n → n ≤ 2 ^ 63 → t.level <
 placed m n t longer most level of =
     let p = 2 ^ (8 * t.level) in
     let one : 1 ≤ p = omega (arith, pow_pos (8 * t.level)) in
-    let more : m / p ≤ n / p = le-div (m / p) n p (pow_pos (8 * t.level)) (omega (arith, div-mul-le_self m p, longer)) in
+    let more : m / p ≤ n / p = le-div (m / p) n p (pow_pos (8 * t.level))
+    (omega (arith, div-mul-le_self m p, longer)) in
     record {
       is = record {
         level = omega (arith, level);

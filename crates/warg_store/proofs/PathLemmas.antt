@@ -94,11 +94,12 @@ dotless_groups zero n = tt
 dotless_groups (suc steps) n =
     elim (n == 0) as (λ b. Without 46 (cond b [] (groups_within steps (n / 1000) ++ group_of (n % 1000)))) [
       | true ↦ tt
-      | false ↦ without_append 46 (groups_within steps (n / 1000)) (group_of (n % 1000)) (dotless_groups steps (n / 1000)) (
-        (λ e. omega (arith, e)),
-        without_append 46 (three_digits (n % 1000)) (47 ∷ []) (dotless_three (n % 1000))
-            ((λ e. omega (arith, e)), tt),
-      )
+      | false ↦ without_append 46 (groups_within steps (n / 1000)) (group_of (n % 1000))
+          (dotless_groups steps (n / 1000)) (
+            (λ e. omega (arith, e)),
+            without_append 46 (three_digits (n % 1000)) (47 ∷ []) (dotless_three (n % 1000))
+                ((λ e. omega (arith, e)), tt),
+          )
     ]
 
 dotless_path : (n : ℕ) → Without 46 (number_path n)

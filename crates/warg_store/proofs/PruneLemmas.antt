@@ -10,9 +10,9 @@ use Rattle.warg_tiles.specs.Tiles.{TileAt, IsTile}
 use Rattle.warg_tiles.specs.TilePaths.{tile_path, entries_path}
 use Rattle.warg_tiles.specs.Between.{IsTileOf}
 use Rattle.warg_folder.specs.Files.{Files, without, Either}
-use Rattle.warg_folder.specs.Moments.{Only, Within, Follows, Elapses, IsRead}
+use Rattle.warg_folder.specs.Moments.{Only, Within, Follows, Elapses, IsRead, LeavesOnly}
 use Rattle.warg_folder.specs.Names.{checkpoint, state, mark, staged, is_staged, is_served, page_name}
-use Rattle.warg_folder.specs.Commits.{IsBeside, opened}
+use Rattle.warg_folder.specs.Commits.{IsBeside, IsStaging, opened}
 use Rattle.warg_store.specs.Log.{LogOf, IsFileOf, Keeps, IsOneOf}
 use Rattle.warg_store.specs.Growing.{LogIn, Has}
 use Rattle.warg_store.specs.Pruned.{HasFull, full_of, IsSpare, IsPruned}
@@ -52,6 +52,20 @@ one_full n t u f g it iu (inr a) (inr b) =
     let same = entries_path_once t u a.0 b.0 it.most iu.most (a.1 ∙ sym b.1) in
     (same, sym a.2 ∙ ap (λ (x : TileAt). entries_path (full_of x)) same ∙ b.2)
 
+-- a name that is spare in one folder is so in another that has the full file
+spare_in : {kept served : ℕ} {a b : Files} (n : List ℕ) (spare : IsSpare kept served a n) → IsSome (b spare.full)
+    → IsSpare kept served b n
+spare_in n spare there = record {
+  tile = spare.tile;
+  full = spare.full;
+  is = spare.is;
+  paths = spare.paths;
+  partial = spare.partial;
+  exists = spare.exists;
+  unserved = spare.unserved;
+  there = there;
+}
+
 module _ (kept served : ℕ) (s : Files) where
   -- the full file in the place of a partial one isn't spare
   pub full_stays : (n full : List ℕ) (t : TileAt) → IsTile t → HasFull n t full → IsSpare kept served s full → ⊥
@@ -69,18 +83,9 @@ module _ (kept served : ℕ) (s : Files) where
   -- what is spare at first is so while others go
   pub spare_still : (now : Files) (n : List ℕ) → IsPruning kept served s now → IsSpare kept served s n
       → IsSpare kept served now n
-  spare_still now n was spare = record {
-    tile = spare.tile;
-    full = spare.full;
-    is = spare.is;
-    paths = spare.paths;
-    partial = spare.partial;
-    exists = spare.exists;
-    unserved = spare.unserved;
-    there = ⊎_elim (λ same. subst IsSome (sym same) spare.there)
-        (λ gone. absurd (full_stays n spare.full spare.tile spare.is spare.paths gone.1))
-        (was.outside spare.full (served_not_staged spare.full (path_served n spare.full spare.tile spare.paths).1));
-  }
+  spare_still now n was spare = spare_in n spare (⊎_elim (λ same. subst IsSome (sym same) spare.there)
+      (λ gone. absurd (full_stays n spare.full spare.tile spare.is spare.paths gone.1))
+      (was.outside spare.full (served_not_staged spare.full (path_served n spare.full spare.tile spare.paths).1)))
 
   -- a spare file goes where each name that has a file was looked at
   pub spare_gone : (now : Files) (n : List ℕ) (names : List (String Global)) → IsPruning kept served s now
@@ -92,10 +97,14 @@ module _ (kept served : ℕ) (s : Files) where
         | inl none ↦ same ∙ none
         | inr some ↦
             let at = listed some in
-            let low : at.0 < length names = omega (arith, at.1, length-map names (λ (x : String Global). string_bytes x)) in
+            let low : at.0 < length names = omega (
+              arith,
+              at.1,
+              length-map names (λ (x : String Global). string_bytes x),
+            ) in
             let d = get_or_any names at.0 low in
-            let is : string_bytes (get_or names at.0 d) ≡ n = sym (get_or-map (λ (x : String Global). string_bytes x) names
-            at.0 d n low) ∙ at.2 in
+            let is : string_bytes (get_or names at.0 d) ≡ n =
+            sym (get_or-map (λ (x : String Global). string_bytes x) names at.0 d n low) ∙ at.2 in
             subst (λ (m : List ℕ). now m ≡ None) is
             (each at.0 d low (subst (IsSpare kept served s) (sym is) spare))
       ])
@@ -135,16 +144,8 @@ module _ (kept served : ℕ) (s : Files) where
   -- what is spare later was so at first
   pub spare_first : (now : Files) (n : List ℕ) → IsPruning kept served s now → IsSpare kept served now n
       → IsSpare kept served s n
-  spare_first now n was spare = record {
-    tile = spare.tile;
-    full = spare.full;
-    is = spare.is;
-    paths = spare.paths;
-    partial = spare.partial;
-    exists = spare.exists;
-    unserved = spare.unserved;
-    there = was_there now spare.full (path_served n spare.full spare.tile spare.paths).1 was spare.there;
-  }
+  spare_first now n was spare = spare_in n spare
+      (was_there now spare.full (path_served n spare.full spare.tile spare.paths).1 was spare.there)
 
 -- a spare name is its tile's, whose full one's file is there
 pub spare_tile : {kept served : ℕ} {s : Files} (name : List ℕ) (tile : TileAt) (full : List ℕ) → IsTile tile
@@ -181,7 +182,8 @@ module _ {D : Type 0} (moment : D → ℕ) (left_since : D → ℕ → Files →
   -- no call
   pub prunes_none : (old : D) → PrunesOn moment left_since may_leave kept served old old
   prunes_none old = record {
-    any_moment = λ s before. leaves_none moment left_since old (IsPruning kept served s) (λ c left. before c (only old c left));
+    any_moment = λ s before. leaves_none moment left_since old (IsPruning kept served s)
+        (λ c left. before c (only old c left));
     crash = λ s before c left. before c left;
   }
 
@@ -196,7 +198,8 @@ module _ {D : Type 0} (moment : D → ℕ) (left_since : D → ℕ → Files →
 
   -- two runs, the second after the first
   pub prunes_then : (old mid new : D) → PrunesOn moment left_since may_leave kept served old mid
-      → PrunesOn moment left_since may_leave kept served mid new → PrunesOn moment left_since may_leave kept served old new
+      → PrunesOn moment left_since may_leave kept served mid new
+      → PrunesOn moment left_since may_leave kept served old new
   prunes_then old mid new one two = record {
     any_moment = λ s before.
         let P = IsPruning kept served s in
@@ -213,6 +216,11 @@ module _ {D : Type 0} (moment : D → ℕ) (left_since : D → ℕ → Files →
   prunes_behind old mid new last first time second later run = prunes_then old mid last (prunes_read old mid first time)
       (prunes_then mid new last (prunes_read mid new second later) run)
 
+  -- a run over a folder in which no commit stands
+  pub prunes_begun : (old new : D) (s : Files) → PrunesOn moment left_since may_leave kept served old new
+      → IsStaging s (may_leave old) → LeavesOnly moment left_since old new (IsPruning kept served s)
+  prunes_begun old new s run staging = run.any_moment s (λ c left. begun kept served s c (staging c left))
+
   -- a call that only reads, and the removal of a file that is spare
   pub prunes_gone : (seen : D → Files) (old mid new : D) (name : List ℕ) → may_leave old (seen old)
       → IsRead seen may_leave moment left_since old mid → IsSpare kept served (seen old) name
@@ -224,7 +232,8 @@ module _ {D : Type 0} (moment : D → ℕ) (left_since : D → ℕ → Files →
       let from = removed c left in
       let was = before from.0 (read.crash from.0 from.1) in
       either (IsPruning kept served s) (without name) from.0 c from.2 was
-      (pruned_one kept served s from.0 name (spare_first kept served s (seen old) name (before (seen old) stays) spare) was) in
+      (pruned_one kept served s from.0 name
+      (spare_first kept served s (seen old) name (before (seen old) stays) spare) was) in
       record {
         any_moment = λ s before. goes_on moment left_since may_leave old mid new (IsPruning kept served s)
             ((prunes_read old mid read.crash read.time).any_moment s before) time (after s before);

@@ -33,7 +33,7 @@ use warg_tiles::{CheckpointText, StoredTile, TileLog};
 
 /// Told how far a long run has come.
 pub trait Progress {
-    /// One entry more was read.
+    /// One more entry was read.
     fn step(&mut self);
 }
 
@@ -44,10 +44,11 @@ pub(crate) enum Use {
     Stage,
 }
 
-// The checkpoint, if every tile is the one over the entries, and their root is its root.
+// The checkpoint in this file, if every tile is the one over the entries, and their root is its root.
 pub(crate) fn audited<F: Folder, P: Progress>(
     alloc: Global,
     folder: &mut F,
+    name: &str,
     checkpoint: &Checkpoint<Sha256>,
     progress: &mut P,
 ) -> Result<Checkpoint<Sha256>, LogError>
@@ -61,14 +62,14 @@ pub(crate) fn audited<F: Folder, P: Progress>(
     ensures cause { HasLogCause F.IsFaithful (F.faults folder.old) (F.faults folder.new) result }
 {
     let log = replayed(alloc, folder, checkpoint.length(), Use::Compare, progress)?;
-    same_root(alloc, &log, checkpoint)
+    same_root(alloc, name, &log, checkpoint)
 }
 
 /// Makes each tile of a folder's log again, from its bundles, once they lead to the root of the log's state, and commits
 /// them with the state's text: where tiles are missing or corrupt and the entries are not. It may crash too, and is then
-/// called again. `NoLog` where there is no log; `Damaged` names the first bundle that is missing or corrupt, or the state
-/// where the bundles lead to another root. Where none is, it fails only if memory is refused or the device fails. All else
-/// that is served stays the same.
+/// called again. `NoLog` where there is no log; `Damaged` names the first bundle that is missing or corrupt, the state where
+/// it is corrupt or the bundles lead to another root, or the text of a commit that stands where that is too long. Else it
+/// fails only if memory is refused or the device fails. All else that is served stays the same.
 pub fn rebuild<F: Folder, P: Progress>(
     alloc: Global,
     folder: &mut F,
@@ -117,7 +118,7 @@ fn remade<F: Folder, P: Progress>(
 {
     let checkpoint = state.checkpoint();
     let log = replayed(alloc, folder, checkpoint.length(), Use::Stage, progress)?;
-    let found = same_root(alloc, &log, &checkpoint)?;
+    let found = same_root(alloc, STATE, &log, &checkpoint)?;
     commit_state(alloc, folder, state)?;
     Ok(found)
 }
@@ -147,6 +148,7 @@ fn commit_state<F: Folder>(
 // The log's checkpoint, if it is the one that its state says.
 fn same_root(
     alloc: Global,
+    name: &str,
     log: &TileLog<Sha256, Vec<u8>>,
     checkpoint: &Checkpoint<Sha256>,
 ) -> Result<Checkpoint<Sha256>, LogError>
@@ -164,7 +166,7 @@ fn same_root(
         return Ok(found);
     }
     let fault = "has another root than the log's entries";
-    Err(LogError::damaged(alloc, STATE, fault))
+    Err(LogError::damaged(alloc, name, fault))
 }
 
 // The log of so many entries, as the bundles have them. Each tile is used as soon as it is made.

@@ -14,7 +14,8 @@ use warg_folder::{Folder, FolderError};
 impl<F: Folder + Drop> LogFolder<F> {
     /// Drops what was pushed, and the pages that were put, since the last commit, by opening the folder again: returns the log
     /// that the folder keeps. A log whose commit has failed comes back as [`open`](Self::open) finds it. It fails as `open`
-    /// does, and over a folder that keeps a log only if memory is refused or the device fails. Unless a commit has failed, nothing that is served changes.
+    /// does, and over a folder that keeps a log only if memory is refused or the device fails. Unless a commit has failed,
+    /// nothing that is served changes.
     pub fn discard(self) -> Result<LogFolder<F>, LogError>
         ensures discarded { F.IsFaithful → IfOk result (λ log. (served old next : LogOf)
             → Has F.seen F.may_leave served old next self → Has F.seen F.may_leave served old old log) }

@@ -17,7 +17,7 @@ ghost use Rattle.warg_store.specs.Refusals.{IsNoFault, IsNoFailure, HasLogCause}
 use crate::error::LogError;
 use std::alloc::Global;
 use warg_crypto::{Hash, Sha256, hash_leaf};
-use warg_folder::{Folder, FolderError, STATE};
+use warg_folder::{Folder, FolderError};
 use warg_log::{Checkpoint, GREATEST_LENGTH, LogBuilder};
 use warg_paths::{HashesError, hashes_in};
 use warg_tiles::{EntriesError, OpenError, StoredTile, Tile, TileLog, read_entries};
@@ -91,9 +91,10 @@ pub(crate) fn read_edge<F: Folder>(
     Ok(edge)
 }
 
-/// The log that goes on from these partial tiles. `Damaged` where they don't lead to the checkpoint's root.
+/// The log that goes on from these partial tiles. `Damaged` names the checkpoint's file where they don't lead to its root.
 pub(crate) fn open_edge(
     alloc: Global,
+    name: &str,
     checkpoint: &Checkpoint<Sha256>,
     edge: &[StoredTile<Sha256>],
 ) -> Result<TileLog<Sha256, Vec<u8>>, LogError>
@@ -109,30 +110,30 @@ pub(crate) fn open_edge(
 {
     let log = match TileLog::open(alloc, checkpoint.length(), edge) {
         Ok(log) => log,
-        Err(error) => return Err(refused_edge(alloc, &error)),
+        Err(error) => return Err(refused_edge(alloc, name, &error)),
     };
     if log.checkpoint() != *checkpoint {
-        return Err(other_root(alloc));
+        return Err(other_root(alloc, name));
     }
     Ok(log)
 }
 
 // Why no log goes on from the partial tiles.
-fn refused_edge(alloc: Global, error: &OpenError) -> LogError
+fn refused_edge(alloc: Global, name: &str, error: &OpenError) -> LogError
     ensures memory { error.now ≡ OpenError.Memory → IsNoFault ⊥ result }
     ensures other { IsNoFailure result }
 {
     match error {
         OpenError::Memory => LogError::Folder(FolderError::Memory),
-        _ => other_root(alloc),
+        _ => other_root(alloc, name),
     }
 }
 
-// That the state's root isn't that of the last tiles.
-fn other_root(alloc: Global) -> LogError
+// That the root in this file isn't that of the last tiles.
+fn other_root(alloc: Global, name: &str) -> LogError
     ensures { IsNoFailure result }
 {
-    LogError::damaged(alloc, STATE, "has another root than the log's last tiles")
+    LogError::damaged(alloc, name, "has another root than the log's last tiles")
 }
 
 /// Reads a bundle of the entries below a tile of level 0. `Damaged` where its file is missing.
@@ -198,11 +199,12 @@ pub(crate) fn damaged_bundle(alloc: Global, tile: &Tile, fault: &'static str) ->
     }
 }
 
-/// Reads what the log of a checkpoint goes on from: its right edge, and the entries of the last bundle. `Damaged` names the
-/// first file that is missing or corrupt.
+/// Reads what the log of the checkpoint in this file goes on from: its right edge, and the entries of the last bundle.
+/// `Damaged` names the first file that is missing or corrupt.
 pub(crate) fn read_end<F: Folder>(
     alloc: Global,
     folder: &mut F,
+    name: &str,
     checkpoint: &Checkpoint<Sha256>,
 ) -> Result<(TileLog<Sha256, Vec<u8>>, Vec<u8>), LogError>
     requires { checkpoint.now.length ≤ GREATEST_LENGTH }
@@ -219,7 +221,7 @@ pub(crate) fn read_end<F: Folder>(
     ensures cause { HasLogCause F.IsFaithful (F.faults folder.old) (F.faults folder.new) result }
 {
     let edge = read_edge(alloc, folder, checkpoint.length())?;
-    let log = open_edge(alloc, checkpoint, edge.as_slice())?;
+    let log = open_edge(alloc, name, checkpoint, edge.as_slice())?;
     let bundle = read_last_bundle(alloc, folder, edge.as_slice())?;
     Ok((log, bundle))
 }

@@ -7,9 +7,10 @@ use thiserror::Error;
 use warg_folder::{FolderError, MARK, RecoverError};
 
 /// A file that is missing or corrupt.
-#[derive(Debug, PartialEq, Eq, Drop)]
+#[derive(Debug, PartialEq, Eq, Drop, Error)]
+#[error("{name} {fault}")]
 pub struct Damage {
-    /// The file's name below the folder.
+    /// The file's name below the folder; `tile` or `map` where it isn't known which file below is at fault.
     pub name: String,
     /// What is wrong with it.
     pub fault: &'static str,
@@ -22,12 +23,12 @@ pub enum LogError {
     #[error("no log")]
     NoLog,
     /// A file is missing or corrupt.
-    #[error("a file is damaged")]
+    #[error("{0}")]
     Damaged(Damage),
     /// The checkpoint is an older one than that of the log's state: how many entries each has.
     #[error("the checkpoint has {found} entries, and the log {newest}")]
     RolledBack { found: usize, newest: usize },
-    /// The log keeps no such entry, bundle or length. `bound` is the number that was passed.
+    /// The log keeps no such entry, bundle or length. `bound` is the limit: a length, or the number of bundles.
     #[error("out of range: the bound is {bound}")]
     OutOfRange { bound: usize },
     /// A call on the folder was refused.
@@ -80,11 +81,11 @@ impl LogError {
         }
     }
 
-    /// That tiles don't lead to the root of the log's state.
+    /// That tiles don't lead to the checkpoint's root.
     pub(crate) fn no_root(alloc: Global) -> LogError
         ensures { IsNoFailure result }
     {
-        LogError::damaged(alloc, "tile", "doesn't lead to the root of the log's state")
+        LogError::damaged(alloc, "tile", "doesn't lead to the checkpoint's root")
     }
 
     /// Why a folder wasn't recovered.

@@ -222,9 +222,10 @@ impl<F: Folder + Drop> LogFolder<F> {
         self.folder
     }
 
-    /// Adds an entry behind the others. Nothing that is served changes before a commit. `TooLong` exactly if the entry has more
-    /// than 65,535 bytes, else `Full` exactly if the log has 2^63 entries, else `Closed` exactly if a commit has failed: each leaves the
-    /// log as it was. Else it fails only if memory is refused or the device fails, and no entry is added.
+    /// Adds an entry after the others. Nothing that is served changes before a commit. `TooLong` exactly if the entry has
+    /// more than 65,535 bytes, else `Full` exactly if the log has 2^63 entries, else `Closed` exactly if a commit has failed:
+    /// each leaves the log as it was. Else it fails only if memory is refused or the device fails: no entry is added, and the
+    /// folder is then opened again.
     pub fn push(&mut self, entry: &[u8]) -> Result<(), PushError>
         requires { F.IsFaithful → IsReady F.seen F.may_leave self.old }
         ensures pushed { F.IsFaithful → OnOk result ((served old next : LogOf)
@@ -290,11 +291,12 @@ impl<F: Folder + Drop> LogFolder<F> {
 
     /// Keeps what was pushed, and serves it, unless the checkpoint is signed: that one is served until another is signed. All
     /// of it or nothing, whatever happens at whatever moment; after `Ok` a crash leaves all of it. The checkpoint's text keeps
-    /// its further lines. No file below `tile/` or `map/` changes its bytes. A commit of no new entry changes nothing, and keeps no
-    /// page.
+    /// its further lines. No file below `tile/` or `map/` changes its bytes. A commit of no new entry changes nothing, and
+    /// keeps no page.
     ///
-    /// `TooLong` where the checkpoint's text would have more than 2^20 bytes. It and `Memory` come only before anything is written,
-    /// and the log is as it was; after another error it takes no more, and the folder is opened again.
+    /// `Closed` exactly if an earlier commit has failed. `TooLong` where the checkpoint's text would have more than 2^20 bytes.
+    /// It and `Memory` come only before anything is written, and the log is as it was. After `Folder` it takes no more: open
+    /// the folder again.
     pub fn commit(&mut self) -> Result<(), CommitError>
         requires { F.IsFaithful → IsReady F.seen F.may_leave self.old }
         ensures ready { F.IsFaithful → IsReady F.seen F.may_leave self.new }
@@ -561,7 +563,7 @@ impl<F: Folder + Drop> LogFolder<F> {
     }
 }
 
-// The text with further lines behind its own.
+// The text with further lines after its own.
 pub(crate) fn with_lines(
     mut text: CheckpointText<Sha256>,
     lines: &[Vec<u8>],

@@ -13,7 +13,7 @@ ghost use Rattle.warg_store.specs.Opening.{CanBeServed, AgreesWith, IsAtRest, Is
 ghost use Rattle.warg_store.specs.Rebuilt.{IsStated};
 ghost use Rattle.warg_store.specs.Refusals.{IsNoFault, IsNoFailure, HasLogCause};
 
-use crate::edge::{open_edge, read_edge, read_end};
+use crate::edge::read_end;
 use crate::error::LogError;
 use crate::log_folder::{LogFolder, with_lines};
 use std::alloc::{AllocError, Global};
@@ -32,7 +32,7 @@ pub enum CreateError {
     /// The folder has files of a log.
     #[error("folder has files of a log")]
     Exists,
-    /// The origin isn't one line of text, or is too long, or the checkpoint's text would be.
+    /// The origin is empty, has a newline or more than 65,535 bytes, or the checkpoint's text would have more than 2^20 bytes.
     #[error("origin isn't one line of text, or is too long")]
     Origin,
     /// A call on the folder was refused.
@@ -63,7 +63,8 @@ impl From<AllocError> for CreateError {
 
 impl<F: Folder + Drop> LogFolder<F> {
     /// Makes a log of no entries in a folder. `Origin` where the origin is empty, has a newline or more than 65,535 bytes;
-    /// `Exists` where a file of a log is there; other files don't matter.
+    /// `Exists` where `checkpoint` or a file below `.log/` (but for the lock), `tile/` or `map/` is there; other files don't
+    /// matter. Both come before anything is written. Else it fails only if memory is refused or the device fails.
     pub fn create(alloc: Global, folder: F, origin: &[u8]) -> Result<LogFolder<F>, CreateError>
         ensures ready { F.IsFaithful → IfOk result (IsReady F.seen F.may_leave) }
         ensures empty { IfOk result (λ log. (log.edge.len ≡ 0) × (log.text.origin ≡ origin.now)) }
@@ -110,9 +111,10 @@ impl<F: Folder + Drop> LogFolder<F> {
         Ok(LogFolder::with(alloc, folder, text, TileLog::new(alloc), Vec::new(alloc), 0))
     }
 
-    /// Opens a folder's log. A commit that stands is finished, and what else is staged is dropped. `NoLog` where there is no
-    /// log; `RolledBack` where an older checkpoint was put back; `Damaged` names a file of the right edge, the state or the
-    /// checkpoint that is missing or corrupt.
+    /// Opens a folder's log. A commit that stands is finished, and what else is staged is dropped. Where the folder has a
+    /// checkpoint but no state, as a copy may, the checkpoint becomes the state. `NoLog` where neither is there; `RolledBack`
+    /// where the checkpoint is older than the state and isn't signed; `Damaged` names a file of the right edge, the state,
+    /// the checkpoint or the text of a commit that stands, if it is missing or corrupt or disagrees with another.
     pub fn open(alloc: Global, mut folder: F) -> Result<LogFolder<F>, LogError>
         ensures ready { F.IsFaithful → IfOk result (IsReady F.seen F.may_leave) }
         ensures all { IfOk result (λ log. log.edge.len ≡ log.text.length) }
@@ -138,7 +140,7 @@ impl<F: Folder + Drop> LogFolder<F> {
         }
         let text = kept_text(alloc, &mut folder)?;
         let checkpoint = text.checkpoint();
-        let (log, bundle) = read_end(alloc, &mut folder, &checkpoint)?;
+        let (log, bundle) = read_end(alloc, &mut folder, STATE, &checkpoint)?;
         let held = checkpoint.length() % 256;
         Ok(LogFolder::with(alloc, folder, text, log, bundle, held))
     }
@@ -168,7 +170,7 @@ fn first_text(
 }
 
 // What the log's state says, once the served checkpoint agrees. A folder without a state that serves a checkpoint is taken over:
-// its checkpoint becomes the state, once the last tiles lead to its root.
+// its checkpoint becomes the state, once its last tiles lead to its root and its last bundle has their entries.
 fn kept_text<F: Folder>(alloc: Global, folder: &mut F) -> Result<CheckpointText<Sha256>, LogError>
     ensures text { F.IsFaithful → IfOk result (λ text. (served log : LogOf)
         → HasLog served log (F.seen folder.old)
@@ -213,8 +215,7 @@ fn take_over<F: Folder>(alloc: Global, folder: &mut F) -> Result<CheckpointText<
         return Err(LogError::NoLog);
     };
     let checkpoint = served.checkpoint();
-    let edge = read_edge(alloc, folder, checkpoint.length())?;
-    open_edge(alloc, &checkpoint, edge.as_slice())?;
+    read_end(alloc, folder, CHECKPOINT, &checkpoint)?;
     let bytes = served.write(alloc)?;
     folder.replace(STATE, bytes.as_slice())?;
     Ok(served)
@@ -318,7 +319,8 @@ pub(crate) fn read_text<F: Folder>(
 }
 
 /// What the served checkpoint says, for those who only read. The state is read first: a commit replaces it before the
-/// checkpoint, so one that is newer means that a commit is under way, or that an older checkpoint was put back.
+/// checkpoint, so a newer state means that a commit is under way, that the checkpoint is signed, or that an older one was
+/// put back.
 pub(crate) fn read_newest<F: Folder>(
     alloc: Global,
     folder: &mut F,

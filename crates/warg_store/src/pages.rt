@@ -14,9 +14,9 @@ use std::alloc::Global;
 use warg_folder::{Folder, FolderError, is_page, page_name};
 
 impl<F: Folder + Drop> LogFolder<F> {
-    /// The bytes of the page at this path below `map/` as a reader finds it, but no more than one above `most`; none where there
-    /// is none. It changes nothing, and may be called after a commit has failed, too. It fails only if memory is refused or the
-    /// device fails.
+    /// The bytes of the page at this path below `map/` as a reader finds it, but at most `most` + 1 of them; `None` where there
+    /// is no page. It changes nothing, and may be called after a commit has failed, too. It fails only if memory is refused or
+    /// the device fails.
     pub fn page(&mut self, path: &str, most: usize) -> Result<Option<Vec<u8>>, FolderError>
         ensures found { F.IsFaithful → IfOk result (λ found. option_map (λ v. v.items) found
             ≡ option_map (take (most + 1)) (F.seen self.old.folder (page_name path.now))) }
@@ -28,8 +28,8 @@ impl<F: Folder + Drop> LogFolder<F> {
         read_page(self.alloc, &mut self.folder, path, most)
     }
 
-    /// The names below `map/` that have a file, in any order, each once. It changes nothing, and fails only if memory
-    /// is refused or the device fails.
+    /// The names of the files below `map/`, each once and in any order, with that prefix, as `remove_pages` takes them. It
+    /// changes nothing, and fails only if memory is refused or the device fails.
     pub fn pages(&mut self) -> Result<Vec<String>, FolderError>
         ensures there { F.IsFaithful → IfOk result (λ names. ArePagesIn (F.seen self.old.folder) names.items) }
         ensures all { F.IsFaithful → IfOk result (λ names. (n : List ℕ) → IsSome (F.seen self.old.folder n)

@@ -1,4 +1,4 @@
-//! Files that the log needs no more.
+//! Files that the log no longer needs.
 
 ghost use Rattle.std.specs.Prelude.{None, ◌≡◌, ◌≤◌, ◌<◌, ◌^◌, ◌↔◌, ℕ, true, List, length, if◌then◌else◌, All, IsSome, IsTrue, IfOk, IfErr, IfSome, OnOk, string_bytes};
 ghost use Rattle.warg_tiles.specs.Between.{IsTileOf};
@@ -29,9 +29,10 @@ struct Named {
 }
 
 impl<F: Folder + Drop> LogFolder<F> {
-    /// Removes each partial tile and bundle whose full one is there, and no other; a reader at an older length then reads the
-    /// full one. What the served checkpoint needs stays. Returns how many files were removed. After an error, open the folder
-    /// again.
+    /// Removes each partial tile and bundle whose full one is there, except those that the served checkpoint needs, and no
+    /// other file. Readers at an older length then read the full one, as C2SP's tlog-tiles has it; a `LogReader` at one finds
+    /// the partial one missing (`Damaged`): open a new one. Returns how many files were removed. `Damaged` where the served
+    /// checkpoint is missing or corrupt. After an error, open the folder again.
     pub fn prune(&mut self) -> Result<usize, LogError>
         ensures pruned { F.IsFaithful → OnOk result ((served old next : LogOf)
             → Has F.seen F.may_leave served old next self.old
@@ -138,7 +139,7 @@ fn prune_one<F: Folder>(
     Ok(is_spare)
 }
 
-// Whether a file is spare, which the folder is only read for.
+// Whether a file is spare. It only reads the folder.
 fn is_spare_file<F: Folder>(
     alloc: Global,
     folder: &mut F,

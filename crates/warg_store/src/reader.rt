@@ -24,7 +24,7 @@ use warg_log::Checkpoint;
 use warg_tiles::CheckpointText;
 
 /// A log as a folder serves it, for those who read: no call changes the folder, and none needs a lock. Whatever commits go on
-/// meanwhile, the files of the checkpoint that was read stay.
+/// meanwhile, the files of the checkpoint that was read stay, until a `prune` that follows a newer checkpoint.
 #[derive(Drop)]
 pub struct LogReader<F: Folder + Drop> {
     alloc: Global,
@@ -41,8 +41,9 @@ impl<F: Folder + Drop> Model for LogReader<F> {
 }
 
 impl<F: Folder + Drop> LogReader<F> {
-    /// Reads a folder's checkpoint. `NoLog` where there is none; `RolledBack` where the log's state, if that is there, is
-    /// newer, no commit is under way, and the checkpoint isn't signed; `Damaged` where the checkpoint is corrupt.
+    /// Reads a folder's checkpoint. `NoLog` where neither it nor the log's state is there; `RolledBack` where the state is
+    /// newer, no commit is under way, and the checkpoint isn't signed; `Damaged` where either is corrupt, the checkpoint
+    /// alone is missing, or it is older than the state and has another origin.
     pub fn open(alloc: Global, mut folder: F) -> Result<LogReader<F>, LogError>
         ensures reads { F.IsFaithful → IfOk result (λ reader. (log : LogOf) → Serves log (F.seen folder)
             → Reads F.seen log reader) }
@@ -65,9 +66,9 @@ impl<F: Folder + Drop> LogReader<F> {
         })
     }
 
-    /// Reads the checkpoint that a folder serves, and no other file: as [`open`](LogReader::open), but for the comparison with the
-    /// log's state, so an older checkpoint that was put back isn't noticed. `NoLog` where there is none; `Damaged` where it is
-    /// corrupt.
+    /// Reads the checkpoint that a folder serves, and no other file: as [`open`](LogReader::open), but for the comparison with
+    /// the log's state, so an older checkpoint that was put back isn't noticed. `NoLog` where there is none; `Damaged` where
+    /// it is corrupt.
     pub fn open_served(alloc: Global, mut folder: F) -> Result<LogReader<F>, LogError>
         ensures reads { F.IsFaithful → IfOk result (λ reader. (log : LogOf) → Serves log (F.seen folder)
             → Reads F.seen log reader) }
@@ -142,7 +143,7 @@ impl<F: Folder + Drop> LogReader<F> {
     {
         let checkpoint = self.text.checkpoint();
         let edge = read_edge(self.alloc, &mut self.folder, checkpoint.length())?;
-        open_edge(self.alloc, &checkpoint, edge.as_slice())?;
+        open_edge(self.alloc, CHECKPOINT, &checkpoint, edge.as_slice())?;
         Ok(self.text.write(self.alloc)?)
     }
 
@@ -245,6 +246,12 @@ impl<F: Folder + Drop> LogReader<F> {
         ensures cause { HasLogCause F.IsFaithful (F.faults self.old.folder) (F.faults self.new.folder) result }
     {
         let checkpoint = self.text.checkpoint();
-        audited(self.alloc, &mut self.folder, &checkpoint, progress)
+        audited(
+            self.alloc,
+            &mut self.folder,
+            CHECKPOINT,
+            &checkpoint,
+            progress,
+        )
     }
 }

@@ -27,7 +27,7 @@ use crate::fetched::{Fetched, fetch, fetch_leaf};
 use crate::log_folder::LogFolder;
 use std::alloc::Global;
 use warg_crypto::{Hash, Sha256};
-use warg_folder::{Folder, FolderError};
+use warg_folder::{Folder, FolderError, STATE};
 use warg_log::{Checkpoint, GREATEST_LENGTH, LeafRange, stored_root};
 use warg_paths::{
     PathError, check_record, check_tree, consistency_path, inclusion_path, root_of_inclusion,
@@ -57,8 +57,8 @@ impl<F: Folder + Drop> LogFolder<F> {
     }
 
     /// The inclusion path of the entry at `index`, from 0, in the log of the first `length` entries, once it leads to the root
-    /// of the log's state (RFC 6962, section 2.1.1). `OutOfRange` where the log keeps no such entry or length; `Damaged` where
-    /// a file that it needs is missing or corrupt.
+    /// of the log's state (RFC 6962, section 2.1.1). `OutOfRange` where the log keeps fewer than `length` entries, or `index`
+    /// isn't below `length`; `Damaged` where a file that it needs is missing or corrupt.
     pub fn inclusion_path(&mut self, index: usize, length: usize) -> Result<Path, LogError>
         ensures leads { IfOk result (λ path. IncludesBy (checkpoint_said self.old.text) index length path.items) }
         ensures own { F.IsFaithful → IfOk result (λ path. (served old next : LogOf)
@@ -93,8 +93,8 @@ impl<F: Folder + Drop> LogFolder<F> {
         growth(self.alloc, &mut self.folder, old, new, &checkpoint)
     }
 
-    /// Reads every entry that the log keeps, makes each tile again, and compares, also with the partial tiles and bundles of older
-    /// lengths that are still there. `Damaged` names the first file that differs. A checkpoint that passes is that of the
+    /// Reads every entry that the log keeps, makes each tile again, and compares, also with the partial tiles and bundles of
+    /// older lengths that are still there. `Damaged` names the first file that differs. A checkpoint that passes is that of the
     /// entries that were read, and the folder has each tile and bundle of a log with it, and of older lengths none with other
     /// bytes. Where no file differs, it fails only if memory is refused or the device fails. It changes nothing.
     pub fn audit<P: Progress>(&mut self, progress: &mut P) -> Result<Checkpoint<Sha256>, LogError>
@@ -109,7 +109,7 @@ impl<F: Folder + Drop> LogFolder<F> {
         ensures cause { HasLogCause F.IsFaithful (F.faults self.old.folder) (F.faults self.new.folder) result }
     {
         let checkpoint = self.checkpoint();
-        audited(self.alloc, &mut self.folder, &checkpoint, progress)
+        audited(self.alloc, &mut self.folder, STATE, &checkpoint, progress)
     }
 }
 
@@ -131,15 +131,15 @@ pub(crate) fn entry<F: Folder>(
     ensures cause { HasLogCause F.IsFaithful (F.faults folder.old) (F.faults folder.new) result }
 {
     let length = checkpoint.length();
-    let path = inclusion(alloc, folder, index, length, checkpoint)?;
     if index >= length {
         return Err(LogError::OutOfRange { bound: length });
     }
+    let path = inclusion(alloc, folder, index, length, checkpoint)?;
     let entry = read_entry(alloc, folder, index, length)?;
     if check_record(checkpoint, index, &entry, path.as_slice()) {
         Ok(entry)
     } else {
-        Err(damaged_entry(alloc, index))
+        Err(damaged_entry(alloc, index, length))
     }
 }
 
@@ -165,7 +165,7 @@ pub(crate) fn read_entry<F: Folder>(
     let entries = entries_of(alloc, &tile, bytes.as_slice())?;
     match entries.as_slice().get(index % 256) {
         Some(entry) => Ok(entry.to_vec(alloc)?),
-        None => Err(damaged_entry(alloc, index)),
+        None => Err(damaged_entry(alloc, index, log_length)),
     }
 }
 
@@ -207,14 +207,14 @@ fn copies(alloc: Global, entries: &[&[u8]]) -> Result<Vec<Vec<u8>>, FolderError>
     Ok(copies)
 }
 
-fn damaged_entry(alloc: Global, index: usize) -> LogError
+// That the bundle of an entry is corrupt.
+fn damaged_entry(alloc: Global, index: usize, log_length: usize) -> LogError
+    requires { index < log_length }
     ensures { IsNoFailure result }
 {
-    damaged_bundle(
-        alloc,
-        &Tile::new(0, index / 256, index % 256 + 1),
-        "has other entries than its tile",
-    )
+    let number = index / 256;
+    let tile = Tile::new(0, number, (log_length - 256 * number).min(256));
+    damaged_bundle(alloc, &tile, "has other entries than its tile")
 }
 
 /// The inclusion path of an entry at a length, once it leads to the checkpoint's root.
@@ -374,7 +374,7 @@ fn new_root(tiles: &Fetched, old: usize, new: usize, path: &[Hash<Sha256>]) -> O
     }
 }
 
-// Refuses a root of so many entries that isn't the checkpoint's, and at an older length one that isn't of its beginning.
+// Refuses a root that isn't the checkpoint's, or at an older length one that no consistency path leads from to it.
 fn check_root<F: Folder>(
     alloc: Global,
     folder: &mut F,

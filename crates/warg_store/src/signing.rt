@@ -21,7 +21,7 @@ use warg_tiles::CheckpointText;
 /// Why a signed note isn't served.
 #[derive(Debug, PartialEq, Eq, Drop, Error)]
 pub enum SignError {
-    /// The note's text isn't that of the log's state, or no signature is behind it.
+    /// The note's text isn't that of the log's state, or nothing follows its empty line.
     #[error("isn't a signed note over the log's newest checkpoint")]
     Text,
     /// The note has more than 2^20 bytes.
@@ -54,9 +54,10 @@ impl From<AllocError> for SignError {
 }
 
 impl<F: Folder + Drop> LogFolder<F> {
-    /// Serves a signed note as the log's checkpoint. From then on the folder serves this one until another is signed, while
-    /// commits go on. `Text` where the note isn't the text of the log's state, an empty line and something behind it;
-    /// `TooLong` above 2^20 bytes; both before anything is written.
+    /// Serves a signed note as the log's checkpoint; its signatures aren't checked. From then on the folder serves this one
+    /// until another is signed, while commits go on. `TooLong` exactly if the note has more than 2^20 bytes, else `Text` where
+    /// it isn't the text of the log's state, an empty line and at least one more byte; both before anything is written. Else
+    /// it fails only if memory is refused or the device fails: open the folder again then.
     pub fn sign(&mut self, note: &[u8]) -> Result<(), SignError>
         ensures signed { F.IsFaithful → OnOk result ((served old next : LogOf)
             → Has F.seen F.may_leave served old next self.old
@@ -102,7 +103,7 @@ impl<F: Folder + Drop> LogFolder<F> {
     }
 }
 
-// Whether a note is this text, an empty line and something behind it.
+// Whether a note is this text, an empty line and at least one more byte.
 fn is_signed_note(note: &[u8], text: &[u8]) -> bool
     ensures { IsTrue result ↔ IsNoteOf text.now note.now }
 {

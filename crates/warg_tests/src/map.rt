@@ -186,7 +186,7 @@ fn proofs_of_keys_as_bytes(rt: HostRuntime) {
     assert!(rt; passes_as_absent(&rt, &grown(&rt, &[]), "foo"));
 }
 
-// Whether bytes are there. Else memory lacks for them.
+// Whether there are bytes; where there are none, memory ran out.
 fn are_there<A: Allocator>(rt: &impl Abort, bytes: &Result<Vec<u8, A>, EncodeError>) -> bool {
     match bytes {
         Ok(bytes) => bytes.len() > 2,

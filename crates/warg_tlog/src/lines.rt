@@ -109,11 +109,11 @@ impl Lines {
         let length = match self.entry.as_slice() {
             [] => return Ok(None),
             [greater, less] => u16::from_be_bytes([*greater, *less]),
-            _ => return Err(self.refused("ends within an entry's length")),
+            _ => return Err(Refusal::Entry(self.number, "ends within its length")),
         };
         self.gather(length)?;
         if self.entry.len() < usize::from(length) {
-            return Err(self.refused("ends within an entry"));
+            return Err(Refusal::Entry(self.number, "is cut off"));
         }
         Ok(Some(self.entry.as_slice()))
     }

@@ -12,13 +12,13 @@ use warg_explorer::PAGE;
 use warg_log::Checkpoint;
 use warg_registry::{RegistryFolder, RegistryReader};
 use warg_store::{
-    CreateError, Folder, FolderLock, LogError, LogFolder, LogReader, Path, Progress, SignError,
-    SystemFolder,
+    CreateError, Folder, FolderLock, LogError, LogFolder, LogReader, MOST_TEXT, Path, Progress,
+    SignError, SystemFolder,
 };
 use warg_tiles::CheckpointText;
 
-// A signed note has fewer bytes.
-const MOST_NOTE: u64 = 1 << 20;
+// The most bytes of a signed note.
+const MOST_NOTE: u64 = MOST_TEXT as u64;
 
 const NO_ORIGIN: &str =
     "an origin has 1 to 65,535 bytes, and no space, plus sign or control character";
@@ -31,6 +31,12 @@ impl Session<'_> {
             return Err(Refusal::Argument(NO_ORIGIN.into()));
         }
         let _lock = self.locked(FolderLock::create(self.rt, self.folder))?;
+        // An init that was cut off may have left this file, which nothing reads.
+        self.done(
+            self.files()?
+                .remove(".log/replacing")
+                .map_err(LogError::Folder),
+        )?;
         let fault = "the origin isn't one line of text";
         match self.make(origin.as_bytes(), asked.get_flag("map")) {
             Ok(()) => Ok(()),

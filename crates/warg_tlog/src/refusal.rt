@@ -16,9 +16,11 @@ pub enum Refusal {
     Argument(CowStr<'static>),
     #[error("line {0} of standard input {1}")]
     Line(usize, &'static str),
+    #[error("entry {0} of standard input {1}")]
+    Entry(usize, &'static str),
     #[error("an entry on standard input has more than 65,535 bytes")]
     LongEntry,
-    #[error("{0} is the text to sign: standard input isn't it with signatures behind an empty line")]
+    #[error("{0} is the text to sign: standard input isn't it with signatures after an empty line")]
     Note(String),
     #[error("{0} has no log: make one there by warg_tlog init FOLDER ORIGIN")]
     NoLog(String),
@@ -28,25 +30,21 @@ pub enum Refusal {
     Locked(String),
     #[error("no such entry or length, the bound is {0}: see warg_tlog checkpoint FOLDER")]
     OutOfRange(usize),
-    #[error("{0} {1}: put it back from a copy of the log; warg_tlog audit FOLDER says which file differs, and warg_tlog rebuild FOLDER makes tiles again from bundles")]
-    Damaged(String, &'static str),
-    #[error("{0} {1}: put it back from a copy of the registry; warg_tlog audit FOLDER says which file differs")]
-    DamagedPage(String, &'static str),
-    #[error("{0} {1}: in a log without signatures put it back from {2}, else from a copy of the log")]
-    DamagedText(String, &'static str, &'static str),
+    #[error("{0} {1}: {2}")]
+    Damaged(String, &'static str, &'static str),
     #[error("{0} has {1} entries where the log has {2}: put back what .log/state has")]
     RolledBack(String, usize, usize),
     #[error("the log is at another checkpoint, of {0} entries")]
     Elsewhere(usize),
-    #[error("{0} can't be written, as there is no room: make room and run the command again, the log is as it was")]
+    #[error("{0} can't be written, as there is no room: make room; what was to be added may be in the log, whose length warg_tlog append FOLDER < /dev/null (publish for a registry) prints")]
     NoRoom(CowStr<'static>),
-    #[error("{0} can't be written: {1}; the log is as it was, or has all that was to be added: see warg_tlog checkpoint FOLDER")]
+    #[error("{0} can't be written: {1}; what was to be added may be in the log, whose length warg_tlog append FOLDER < /dev/null (publish for a registry) prints")]
     Unwritable(CowStr<'static>, io::Error),
     #[error("{0} can't be written any more by this run: run the command again")]
     Lost(String),
     #[error("{0} can't be read: {1}")]
     Unreadable(CowStr<'static>, io::Error),
-    #[error("out of memory: run the command again with more, the log is as it was")]
+    #[error("out of memory: run the command again with more; what was to be added may be in the log, whose length warg_tlog append FOLDER < /dev/null (publish for a registry) prints")]
     Memory(#[from(alloc)] AllocError),
     #[error("the log has 2^63 entries and takes no more: make another by warg_tlog init FOLDER ORIGIN")]
     Full,
@@ -61,12 +59,12 @@ impl Refusal {
     pub fn status(&self) -> u8 {
         match self {
             Refusal::Argument(_) => 2,
-            Refusal::Line(..) | Refusal::LongEntry | Refusal::Note(_) => 3,
+            Refusal::Line(..) | Refusal::Entry(..) | Refusal::LongEntry | Refusal::Note(_) => 3,
             Refusal::NoLog(_) => 4,
             Refusal::Exists(_) => 5,
             Refusal::Locked(_) => 6,
             Refusal::OutOfRange(_) => 7,
-            Refusal::Damaged(..) | Refusal::DamagedPage(..) | Refusal::DamagedText(..) => 8,
+            Refusal::Damaged(..) => 8,
             Refusal::RolledBack(..) | Refusal::Elsewhere(_) => 9,
             Refusal::NoRoom(_) => 10,
             Refusal::Unwritable(..) | Refusal::Lost(_) => 11,
@@ -157,14 +155,19 @@ impl Session<'_> {
         })
     }
 
-    // The refusal for a file that isn't what it is to be.
+    // The refusal for a file that is missing or corrupt.
     fn of_damage(&self, damage: &Damage) -> Result<Refusal, AllocError> {
         let path = self.path(damage.name.as_str())?;
-        Ok(match damage.name.as_str() {
-            "checkpoint" => Refusal::DamagedText(path, damage.fault, ".log/state"),
-            ".log/state" => Refusal::DamagedText(path, damage.fault, "checkpoint"),
-            name if name.starts_with("map") => Refusal::DamagedPage(path, damage.fault),
-            _ => Refusal::Damaged(path, damage.fault),
-        })
+        let remedy = match damage.name.as_str() {
+            "checkpoint" =>
+                "in a log without signatures copy it over .log/state if warg_tlog checkpoint FOLDER succeeds, else copy .log/state over it; in a signed log put it back from a copy of the log",
+            ".log/state" =>
+                "in a log without signatures copy checkpoint over it; in a signed log put it back from a copy of the log",
+            name if name.starts_with("map") =>
+                "put it back from a copy of the registry; warg_tlog audit FOLDER says which file differs",
+            _ =>
+                "put it back from a copy of the log; warg_tlog audit FOLDER says which file differs, and warg_tlog rebuild FOLDER makes tiles again from bundles",
+        };
+        Ok(Refusal::Damaged(path, damage.fault, remedy))
     }
 }

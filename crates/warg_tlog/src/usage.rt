@@ -15,8 +15,8 @@ another run holds the lock, 7 no such entry or length, 8 a file that is missing 
 log's, 10 a full disk, 11 a file that can't be written, 12 one that can't be read, 13 memory ran out, 14 the log is full, 15 a
 registry where a log without a map is asked for, or the reverse.";
 
-// The commands, in the order of the help: behind a star a command's name, its arguments, and what it does, and below that what
-// more its own help says.
+// The commands, in the order of the help: after a star a command's name, its arguments and what it does, and below that what
+// its own help adds.
 const COMMANDS: &str = "
 * init FOLDER ORIGIN map: Makes a log of no entries
 * append FOLDER from every binary: Adds entries
@@ -43,7 +43,7 @@ takes with --hex. Or prints that the key is absent, and the proof that warg_verd
 The first line of standard input is the claim:
   inclusion INDEX LENGTH ROOT           and then a line with the entry's hexadecimal digits
   consistency OLD OLD_ROOT NEW NEW_ROOT
-The path is behind it, a line of 64 hexadecimal digits for each digest, as prove and consistency write it. A root is as in a
+The path follows, a line of 64 hexadecimal digits for each digest, as prove and consistency write it. A root is as in a
 checkpoint, or 64 hexadecimal digits. Prints true or false, with the exit status 0 or 1.
 * audit FOLDER: Reads every entry and a map's pages, makes each tile again, and says what differs";
 
@@ -84,16 +84,22 @@ fn argument<'a>(alloc: Global, name: &str) -> Arg<'a> {
         "FOLDER" => arg!(in alloc; <FOLDER> "The log's folder"),
         "ORIGIN" =>
             arg!(in alloc; <ORIGIN> "The log's name in its checkpoints, as example.com/log"),
-        "map" => arg!(in alloc; --map "Makes a registry: a log of insertions, with their map"),
-        "from" => arg!(in alloc; --from <"LENGTH:ROOT"> "The checkpoint that the log has to be at"),
-        "every" => count(arg!(in alloc; --every <N> "Commits each N entries, and at the end")),
-        "binary" =>
-            arg!(in alloc; --binary "Reads entries as bundles have them, behind two bytes of length"),
+        "KEY" => arg!(in alloc; <KEY> "The key's hexadecimal digits, or - for no bytes"),
         "INDEX" => count(arg!(in alloc; <INDEX> "The entry's index, from 0")),
         "LENGTH" => count(arg!(in alloc; [LENGTH] "The log's length, if not the checkpoint's")),
         "OLD" => count(arg!(in alloc; <OLD> "The old length, from 1")),
         "NEW" => count(arg!(in alloc; [NEW] "The new length, if not the checkpoint's")),
-        _ => arg!(in alloc; <KEY> "The key's hexadecimal digits, or - for no bytes"),
+        _ => option(alloc, name),
+    }
+}
+
+fn option<'a>(alloc: Global, name: &str) -> Arg<'a> {
+    match name {
+        "map" => arg!(in alloc; --map "Makes a registry: a log of insertions, with their map"),
+        "from" => arg!(in alloc; --from <"LENGTH:ROOT"> "The checkpoint that the log has to be at"),
+        "every" => count(arg!(in alloc; --every <N> "Commits every N entries, and at the end")),
+        _ =>
+            arg!(in alloc; --binary "Reads entries as bundles have them, each after two bytes of length"),
     }
 }
 

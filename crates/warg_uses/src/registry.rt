@@ -23,8 +23,8 @@ use warg_registry::{
 use warg_store::Folder;
 use warg_tiles::CheckpointText;
 
-/// The log's entry of a package's newest version, for the registry to push; the text of the checkpoint after it says
-/// the root of the map that has it.
+/// The log's entry of a package's newest version, for the registry to push. Adds the line of the map's root to the text of
+/// the checkpoint after it; on an error the text is as it was.
 pub fn announced(
     alloc: Global,
     text: &mut CheckpointText<Sha256>,
@@ -80,7 +80,7 @@ pub fn newest<'a, P: Pages<Global>>(
 }
 
 /// Opens a folder's registry and publishes a package's newest version: the registry that the folder stood for, with one
-/// insertion more.
+/// more insertion.
 pub fn published<F: Folder + Drop>(
     alloc: Global,
     folder: F,

@@ -9,7 +9,7 @@ use anyhow::Result;
 use std::alloc::Global;
 use warg_store::{Folder, LogError, LogFolder, LogReader};
 
-/// Opens a folder's log, adds a release and commits: the log that the folder stood for, with one entry more.
+/// Opens a folder's log, adds a release and commits: the log that the folder stood for, with one more entry.
 pub fn released<F: Folder + Drop>(alloc: Global, folder: F, release: &[u8]) -> Result<LogFolder<F>>
     ensures { F.IsFaithful → IfOk result (λ log. (served kept : LogOf)
         → HasLog served kept (opened (F.seen folder))

@@ -21,7 +21,8 @@ with_digests t = (t.tile, t.digests.items)
 pub tiles-preserved : goal.tiles-preserved
 tiles-preserved g c = record {
   faults = omega (arith, c.tiles.invariant.faults, c.compare_tile.ensures.cause.later);
-  read = λ faithful. read_then _ _ _ _ _ _ _ (g.met.F.Folder.counts_now c.args.folder.now) (c.tiles.invariant.read faithful)
+  read = λ faithful. read_then _ _ _ _ _ _ _ (g.met.F.Folder.counts_now c.args.folder.now)
+      (c.tiles.invariant.read faithful)
       (c.compare_tile.ensures.read faithful);
   files = λ faithful.
       let first = g.F.Folder.seen c.args.folder.now in

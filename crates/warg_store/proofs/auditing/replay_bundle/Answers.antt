@@ -45,7 +45,8 @@ returns-clause-files g c = λ faithful.
     (λ ds stands. subst (λ (l : List (StoredTile Sha256 Global)). AreTilesOf sha256 ds
     (full_between mid.taken mid.len) (map with_digests l)) (sym c.as_slice-3.ensures.value)
     (c.take_full.ensures.tiles ds stands)) c.take_full.ensures.rest c.take_full.ensures.stands
-    (λ compared. subst (λ (f : Files). HasNarrowerBundles f c.args.number xs) (sym (c.use_bundle.ensures.read faithful).found)
+    (λ compared. subst (λ (f : Files). HasNarrowerBundles f c.args.number xs)
+    (sym (c.use_bundle.ensures.read faithful).found)
     (subst (λ (l : List (Vec ℕ Global)). HasNarrowerBundles (seen c.read_entries.new.folder) c.args.number
     (map (λ e. e.items) l)) c.as_slice-2.ensures.value (c.in_ok-use_bundle.ensures.older faithful compared))) used
     (subst (λ (f : Files). HasUsed c.args.use_as first f (256 * c.args.number) c.args.log.now) (sym here) was))

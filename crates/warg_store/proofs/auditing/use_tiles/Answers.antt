@@ -38,7 +38,8 @@ returns-in-Compare-clause-tiles g c = λ faithful.
     (map (λ (t : StoredTile Sha256 Global). (t.tile, t.digests.items)) c.args.tiles.now)
     (g.F.Folder.seen c.args.folder.now) (g.F.Folder.seen c.compare_tiles.new.folder)) (sym c.in-Compare.is)
     ((c.compare_tiles.ensures.read faithful).found, both.0, both.1))
-    (ok_and c.compare_tiles.result _ _ (c.compare_tiles.ensures.files faithful) (c.compare_tiles.ensures.older faithful))
+    (ok_and c.compare_tiles.result _ _ (c.compare_tiles.ensures.files faithful)
+    (c.compare_tiles.ensures.older faithful))
 
 pub returns-in-Compare-clause-used : goal.returns-in-Compare-clause-used
 returns-in-Compare-clause-used g c = λ faithful.

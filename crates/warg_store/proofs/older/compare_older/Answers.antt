@@ -16,11 +16,13 @@ use Rattle.warg_store.proofs.older.compare_older.Goals as goal
 pub names-preserved : goal.names-preserved
 names-preserved g c = record {
   faults = omega (arith, c.names.invariant.faults, c.compare_named.ensures.cause.later);
-  read = λ faithful. read_then _ _ _ _ _ _ _ (g.met.F.Folder.counts_now c.args.folder.now) (c.names.invariant.read faithful)
+  read = λ faithful. read_then _ _ _ _ _ _ _ (g.met.F.Folder.counts_now c.args.folder.now)
+      (c.names.invariant.read faithful)
       (c.compare_named.ensures.read faithful);
   older = λ faithful. all_more
-      (IsBeginning c.args.newer.now (g.F.Folder.seen c.args.folder.now)) (λ s. string_bytes s) c.as_slice-name-items.result.now
-      c.names.name-index c.name-item.result (omega arith) c.name-item.is (c.names.invariant.older faithful)
+      (IsBeginning c.args.newer.now (g.F.Folder.seen c.args.folder.now)) (λ s. string_bytes s)
+      c.as_slice-name-items.result.now c.names.name-index c.name-item.result (omega arith) c.name-item.is
+      (c.names.invariant.older faithful)
       (subst (λ (f : Files). IsBeginning c.args.newer.now f (string_bytes c.name-item.result))
       (c.names.invariant.read faithful).found
       (subst (λ (n : List ℕ). IsBeginning c.args.newer.now (g.F.Folder.seen c.names.folder) n)

@@ -13,5 +13,6 @@ returns-clause-any_moment g c = λ faithful. goes_on _ _ _ c.args.folder.now c.r
 
 pub returns-clause-removed : goal.returns-clause-removed
 returns-clause-removed g c = λ faithful. ok_holds c.sync.result _
-    (subst (λ (s : Files). All (λ name. is_page (string_bytes name) ≡ true → s (string_bytes name) ≡ None) c.args.names.now)
+    (subst (λ (s : Files). All (λ name. is_page (string_bytes name) ≡ true → s (string_bytes name) ≡ None)
+    c.args.names.now)
     (sym (c.sync.ensures.seen faithful)) (c.in_ok-remove_each.ensures.removed faithful))

@@ -58,7 +58,8 @@ names-preserved g c =
           (there i it (omega arith)).1 in
           let is = c.in_ok-remove_one.ensures.gone faithful page in (
             gone_more i (g.F.Folder.seen c.args.folder.now) old new name was.0
-                (first_left c.args.names.now i it name old (omega arith) c.name-item.is c.as_str.ensures.value was.1) is,
+                (first_left c.args.names.now i it name old (omega arith) c.name-item.is c.as_str.ensures.value was.1)
+                is,
             left_behind c.args.names.now i it name old new (omega arith) c.name-item.is c.as_str.ensures.value apart
                 was.1 is,
           );

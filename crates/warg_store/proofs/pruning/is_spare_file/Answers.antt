@@ -1,9 +1,8 @@
-use Rattle.std.proofs.Common.{◌≡◌, ◌<◌, true, false, take, Vec, ℕ, Global, Option, Some, None, IsSome, string_bytes, sym, ap, subst, ◌∙◌}
+use Rattle.std.proofs.Common.{◌≡◌, true, false, take, Option, string_bytes, sym, ap, subst, ◌∙◌}
 use Rattle.std.specs.Prelude.{option_map, IfSome}
-use Rattle.warg_tiles.specs.Between.{IsTileOf}
-use Rattle.warg_tiles.specs.Tiles.{TileAt, IsTile}
+use Rattle.warg_tiles.specs.Tiles.{IsTile}
 use Rattle.warg_store.specs.declared.pruning.Named.{Named}
-use Rattle.warg_store.specs.Pruned.{HasFull, IsSpare, full_of}
+use Rattle.warg_store.specs.Pruned.{HasFull}
 use Rattle.warg_store.proofs.PruneLemmas.{spare_tile, there_if_read}
 use Rattle.warg_store.proofs.pruning.is_spare_file.Goals as goal
 

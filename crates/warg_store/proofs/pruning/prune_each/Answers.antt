@@ -70,8 +70,8 @@ names-preserved g c = record {
             )
         | else-branch w ↦
             let same : old ≡ new = sym (rw w.if-branch.false at is) in (
-              subst (λ n. AreGone n first new) (sym w.removed-is) (subst (λ (f : Files). AreGone c.names.removed first f)
-                  same was.0),
+              subst (λ n. AreGone n first new) (sym w.removed-is)
+                  (subst (λ (f : Files). AreGone c.names.removed first f) same was.0),
               subst (λ (f : Files). AreLeft (i + 1) c.args.names.now f) same (left_after c.args.names.now i old was.1),
             )
       ];

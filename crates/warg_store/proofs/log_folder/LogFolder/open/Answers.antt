@@ -1,4 +1,4 @@
-use Rattle.std.proofs.Common.{◌≡◌, ◌⊎◌, inl, inr, ⊎_elim, Err, sym, ap, subst, ◌∙◌, arith}
+use Rattle.std.proofs.Common.{◌⊎◌, inl, inr, ⊎_elim, Err, sym, ap, subst, ◌∙◌, arith}
 use Rattle.warg_tiles.specs.CheckpointText.{Said}
 use Rattle.warg_folder.specs.Files.{Files}
 use Rattle.warg_folder.specs.Moments.{LeavesOnly}
@@ -21,7 +21,8 @@ returns-clause-has g c = λ faithful served kept has.
     let keeps = found.1 in
     let long = c.checkpoint-checkpoint.ensures.length in
     let read = c.read_end.ensures.read faithful in
-    let end = c.in_ok-log.ensures.end faithful kept keeps.can (long ∙ ap (λ (s : Said). s.length) found.0) keeps.holds in
+    let end = c.in_ok-log.ensures.end faithful kept keeps.can (long ∙ ap (λ (s : Said). s.length) found.0)
+    keeps.holds in
     let nothing = beside_state (seen c.recover.new.folder) (seen c.kept_text.new.folder)
     (c.in_ok-text.ensures.beside faithful) (c.in_default.ensures.empty faithful) in
     subst (Has seen g.F.Folder.may_leave served kept kept) (sym c.with.ensures)
