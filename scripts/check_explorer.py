@@ -191,8 +191,10 @@ def main():
         sys.exit(print("explorer: not run, chromium is missing"))
     signal.signal(signal.SIGALRM, signal.default_int_handler)
     signal.alarm(SECONDS)
-    with tempfile.TemporaryDirectory() as room, tempfile.TemporaryDirectory(ignore_cleanup_errors=True) as profile, tempfile.TemporaryDirectory() as pictures:
-        came = [*tried(room, profile, [*sys.argv[2:], pictures][0])]
+    # What the browser still writes when it is killed is no fault of the page.
+    profile = tempfile.TemporaryDirectory(ignore_cleanup_errors=True)
+    with tempfile.TemporaryDirectory() as room, profile, tempfile.TemporaryDirectory() as pictures:
+        came = [*tried(room, profile.name, [*sys.argv[2:], pictures][0])]
     failed = [name for name, well in came if not well]
     print(*(f"not as it should be: {name}\n" for name in failed), sep="", end="")
     print(f"explorer: {len(came) - len(failed)} of {len(came)} states of the page are as they should be")

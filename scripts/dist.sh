@@ -1,7 +1,8 @@
 #!/usr/bin/env bash
-# Packs what users take home without the toolchain: dist/warg-VERSION-x86_64-linux.tar.gz, and its sum beside it. The version is that of
-# CHANGELOG.md's first heading. The same files give the same bytes, whenever and by whomever they are packed. It tries what is
-# in it last. With --as-proved it takes the programs that the gate has just proved, and proves the library over those below it.
+# Packs what users take home without the toolchain: dist/warg-VERSION-x86_64-linux.tar.gz, and its sum beside it. The version is
+# that of CHANGELOG.md's first heading. The same files give the same bytes, whenever and by whomever they are packed. It tries
+# what is in it last. With --as-proved it takes the programs that the gate has just proved, and proves the library over those
+# below it.
 set -euo pipefail
 cd "$(dirname "$0")/.."
 version="$(sed -n '/^## /{s/^## \([^,]*\).*/\1/p;q}' CHANGELOG.md)"
