@@ -245,12 +245,12 @@ class Crate:
             return Check(said)
 
     def try_all(self):
-        """Tries the edits in rounds, until each is judged or was told nothing in three. Returns the crate's faults."""
+        """Tries the edits in rounds: one, and up to two more for those that wait. Returns the crate's faults."""
         if self.kept.is_file():
             print(f"{self.name}: {self.kept.read_text()}, as was seen before", flush=True)
             self.refused = int(self.kept.read_text().split()[0])
             return []
-        while left := [it for it in self.edits if it.told[-1:] not in (["refused"], ["proved"]) and len(it.told) < 3]:
+        while left := [it for it in self.edits if it.told in ([], ["waits"], ["waits", "waits"])]:
             # One a proof: those beside their functions go all into one round.
             edits = {frozenset(it.functions): it for it in reversed(left)}.values()
             checked = self.check(edits)

@@ -1,7 +1,7 @@
 -- Lemmas for the proofs of this crate and of those above, over public definitions alone.
-use Rattle.std.proofs.Common.{◌≡◌, inl, inr, ℕ, ◌+◌, ◌≤◌, List, length, take, true, false, Option, Some, None, refl, sym, ap, ◌∙◌, arith, ◌≢◌, ◌⊎◌, ◌++◌, drop, nat_eq, codes, ⊎_elim, subst}
+use Rattle.std.proofs.Common.{◌≡◌, inl, inr, ℕ, ◌+◌, ◌≤◌, List, length, take, true, false, Option, Some, None, refl, sym, ap, ◌∙◌, arith, ◌≢◌, ◌⊎◌, ◌++◌, drop, nat_eq, codes, ⊎_elim}
 use Rattle.std.proofs.lemmas.Bool.Decides.{not_from_Decides, Decides-eqb}
-use Rattle.std.proofs.lemmas.Bool.{cases_Bool}
+use Rattle.std.proofs.lemmas.Bool.{cases_Bool, false_from_ne_true}
 use Rattle.std.proofs.lemmas.List.{append_cancel_left}
 use Rattle.std.proofs.lemmas.Slice.Eq.{starts_is}
 use Rattle.std.specs.Cmp.Lexicographic.{pointwise, bytes_decides}
@@ -11,7 +11,7 @@ use Rattle.std.specs.Prelude.{option_map}
 use Rattle.warg_folder.specs.Files.{File, Files, put, without, moved, Either}
 use Rattle.warg_folder.specs.Moments.{Within, Elapses, IsRead, LeavesOnly}
 use Rattle.warg_folder.specs.Names.{checkpoint, state, mark, staged, is_staged, is_own, is_served, is_tile, page_name}
-use Rattle.warg_folder.specs.Commits.{is_signed, without_staged, checkpoint_after, told, published, finished, opened_by, opened}
+use Rattle.warg_folder.specs.Commits.{is_signed, without_staged, checkpoint_after, told, published, opened}
 
 -- Names.
 
@@ -19,8 +19,7 @@ use Rattle.warg_folder.specs.Commits.{is_signed, without_staged, checkpoint_afte
 pub one_name : (a b : List ℕ) → ((pointwise nat_eq a b ≡ true) × (a ≡ b)) ⊎ ((pointwise nat_eq a b ≡ false) × (a ≢ b))
 one_name a b = elim (cases_Bool (pointwise nat_eq a b)) [
   | inl t ↦ inl (t, (bytes_decides a b).0 t)
-  | inr f ↦ inr
-      (f, not_from_Decides _ (bytes_decides a b) f)
+  | inr f ↦ inr (f, not_from_Decides _ (bytes_decides a b) f)
 ]
 
 pub apart : true ≡ false → ⊥
@@ -38,11 +37,7 @@ pub own_if_staged : (n : List ℕ) → is_staged n ≡ true → is_own n ≡ tru
 own_if_staged n is = ap is_own (front_of n (codes ".log/staged/") is)
 
 pub not_staged : (n : List ℕ) → is_own n ≡ false → is_staged n ≡ false
-not_staged n out = elim (cases_Bool (is_staged n)) [
-  | inl is ↦ absurd (apart (sym (own_if_staged n is) ∙ out))
-  | inr
-      isnt ↦ isnt
-]
+not_staged n out = false_from_ne_true _ (λ is. apart (sym (own_if_staged n is) ∙ out))
 
 -- a served name is none of the log's own
 pub served_not_own : (n : List ℕ) → is_served n ≡ true → is_own n ≡ false
@@ -91,44 +86,41 @@ page_once m n e = append_cancel_left (codes "map/") m n e
 
 -- a file stands at its name, and at no other
 pub put_here : (f : File) (s : Files) → put f s f.0 ≡ Some f.1
-put_here f s = elim (one_name f.0 f.0) [ inl t ↦ rw (t.0) refl | inr f' ↦ absurd (f'.1 refl) ]
+put_here f s = elim (one_name f.0 f.0) [ inl t ↦ rw t.0 refl | inr f' ↦ absurd (f'.1 refl) ]
 
 pub put_apart : (f : File) (s : Files) (n : List ℕ) → f.0 ≢ n → put f s n ≡ s n
-put_apart f s n differ = elim (one_name f.0 n) [ inl t ↦ absurd (differ t.1) | inr apart ↦ rw (apart.0) refl ]
+put_apart f s n differ = elim (one_name f.0 n) [ inl t ↦ absurd (differ t.1) | inr apart ↦ rw apart.0 refl ]
 
 pub without_here : (name : List ℕ) (s : Files) → without name s name ≡ None
-without_here name s = elim (one_name name name) [ inl t ↦ rw (t.0) refl | inr f ↦ absurd (f.1 refl) ]
+without_here name s = elim (one_name name name) [ inl t ↦ rw t.0 refl | inr f ↦ absurd (f.1 refl) ]
 
 pub without_apart : (name : List ℕ) (s : Files) (n : List ℕ) → name ≢ n → without name s n ≡ s n
-without_apart name s n differ = elim (one_name name n) [ inl t ↦ absurd (differ t.1) | inr apart ↦ rw (apart.0) refl ]
+without_apart name s n differ = elim (one_name name n) [ inl t ↦ absurd (differ t.1) | inr apart ↦ rw apart.0 refl ]
 
 -- a removed file isn't there, and the others are as they were
 pub without_either : (name : List ℕ) (s : Files) (n : List ℕ) → (without name s n ≡ s n) ⊎ (without name s n ≡ None)
-without_either name s n = elim (one_name name n) [ inl t ↦ inr (rw (t.0) refl) | inr apart ↦ inl (rw (apart.0) refl) ]
+without_either name s n = elim (one_name name n) [ inl t ↦ inr (rw t.0 refl) | inr apart ↦ inl (rw apart.0 refl) ]
 
 -- what stands where a file was moved to
 pub moved_to : (from to : List ℕ) (s : Files) → moved from to s to ≡ option_or (s from) (s to)
-moved_to from to s = elim (one_name to to) [ inl t ↦ rw (t.0) refl | inr f ↦ absurd (f.1 refl) ]
+moved_to from to s = elim (one_name to to) [ inl t ↦ rw t.0 refl | inr f ↦ absurd (f.1 refl) ]
 
 -- where it was
 pub moved_from : (from to : List ℕ) (s : Files) → to ≢ from → moved from to s from ≡ None
-moved_from from to s differ = elim (one_name to from) [
-  | inl t ↦ absurd (differ t.1)
-  | inr apart ↦ rw (apart.0)
-      (without_here from s)
-]
+moved_from from to s differ =
+    elim (one_name to from) [ inl t ↦ absurd (differ t.1) | inr apart ↦ rw apart.0 (without_here from s) ]
 
 -- and elsewhere
 pub moved_apart : (from to : List ℕ) (s : Files) (n : List ℕ) → to ≢ n → from ≢ n → moved from to s n ≡ s n
 moved_apart from to s n other another =
-    elim (one_name to n) [ inl t ↦ absurd (other t.1) | inr apart ↦ rw (apart.0) (without_apart from s n another) ]
+    elim (one_name to n) [ inl t ↦ absurd (other t.1) | inr apart ↦ rw apart.0 (without_apart from s n another) ]
 
 -- Commits.
 
 -- a step that was done or wasn't
 pub either : (P : Files → Type 0) (change : Files → Files) (d c : Files) → Either change d c → P d → P (change d) → P c
-either P change d c (inl same) was is = subst P (sym same) was
-either P change d c (inr changed) was is = subst P (sym changed) is
+either P change d c (inl same) was is = rw same was
+either P change d c (inr changed) was is = rw changed is
 
 pub without_at : (s : Files) (n : List ℕ) → is_staged n ≡ false → without_staged s n ≡ s n
 without_at s n isnt = rw isnt refl
@@ -138,24 +130,21 @@ pub told_checkpoint : (text : List ℕ) (s : Files) → told text s checkpoint �
 told_checkpoint text s = refl
 
 pub told_apart : (text : List ℕ) (s : Files) (n : List ℕ) → checkpoint ≢ n → state ≢ n → told text s n ≡ s n
-told_apart text s n a b = elim (one_name checkpoint n) [
-  | inl t ↦ absurd (a t.1)
-  | inr f ↦ rw (f.0)
-      (put_apart (state, text) s n b)
-]
+told_apart text s n a b =
+    elim (one_name checkpoint n) [ inl t ↦ absurd (a t.1) | inr f ↦ rw f.0 (put_apart (state, text) s n b) ]
 
 -- what stands at a commit's name once it is opened
 pub opened_served : (s : Files) (text n : List ℕ) → s mark ≡ Some text → is_served n ≡ true
     → opened s n ≡ option_or (s (staged n)) (s n)
 opened_served s text n stands is =
-    ap (λ (o : Option (List ℕ)). opened_by o s n) stands ∙ without_at (finished text s) n (served_not_staged n is)
-    ∙ told_apart text (published s) n (served_not_checkpoint n is) (served_not_state n is) ∙ rw is refl
+    rw (stands, served_not_staged n is) (told_apart text (published s) n (served_not_checkpoint n is)
+    (served_not_state n is) ∙ rw is refl)
 
 pub unmarked : (s : Files) (text n : List ℕ) → is_own n ≡ false → put (mark, text) s n ≡ s n
 unmarked s text n out = put_apart (mark, text) s n (λ e. apart (ap is_own e ∙ out))
 
 pub idle_opened : (s : Files) → s mark ≡ None → opened s ≡ without_staged s
-idle_opened s none = ap (λ (o : Option (List ℕ)). opened_by o s) none
+idle_opened s none = rw none
 
 -- none that was read
 pub read_none : (o : Option (List ℕ)) (most : ℕ) → None ≡ option_map (take (most + 1)) o → o ≡ None
@@ -241,13 +230,13 @@ module _ {D : Type 0} (moment : D → ℕ) (left_since : D → ℕ → Files →
     (counts_now : (folder : D) (t : ℕ) (c : Files) → t ≤ moment folder → may_leave folder c → left_since folder t c)
   where
     -- what a crash leaves once a run is over
-    pub in_end : (old new : D) (P : Files → Type 0) → LeavesOnly moment left_since old new P → (c : Files) → may_leave
-        new c → P c
+    pub in_end : (old new : D) (P : Files → Type 0) → LeavesOnly moment left_since old new P → (c : Files)
+        → may_leave new c → P c
     in_end old new P run c left = run.each c (counts_now new (moment old) c run.later left)
 
     -- a run, and calls behind it that only read
-    pub then_reads : (old mid new : D) (P : Files → Type 0) → LeavesOnly moment left_since old mid P → LeavesOnly moment
-        left_since mid new (may_leave mid) → LeavesOnly moment left_since old new P
+    pub then_reads : (old mid new : D) (P : Files → Type 0) → LeavesOnly moment left_since old mid P
+        → LeavesOnly moment left_since mid new (may_leave mid) → LeavesOnly moment left_since old new P
     then_reads old mid new P run reads = leaves_then moment left_since old mid new P (may_leave mid) P run reads
         (λ c was. was) (in_end old mid P run)
 

@@ -1,5 +1,5 @@
 mod ListLemmas
-mod ListedRuns
+mod RunLemmas
 mod StepLemmas
 mod ReadLemmas
 mod MemoryLemmas

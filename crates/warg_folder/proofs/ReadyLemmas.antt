@@ -1,40 +1,26 @@
 -- A folder that is ready for the next commit.
-use Rattle.std.proofs.Common.{◌≡◌, ℕ, true, List, Option, Some, None, Result, refl, ap, ◌∙◌}
+use Rattle.std.proofs.Common.{◌≡◌, ℕ, true, List, Option, Some, None, Result, refl}
 use Rattle.std.specs.Prelude.{OnOk, Ok, Err}
 use Rattle.warg_folder.specs.Files.{Files}
 use Rattle.warg_folder.specs.Moments.{Only}
 use Rattle.warg_folder.specs.Names.{mark, is_staged}
 use Rattle.warg_folder.specs.Commits.{opened_by, opened, IsStaging, NothingStaged}
 
-opened_mark_by : (s : Files) (o : Option (List ℕ)) → opened_by o s mark ≡ None
-opened_mark_by s None = refl
-opened_mark_by s (Some text) = refl
+opened_mark : (s : Files) (o : Option (List ℕ)) → opened_by o s mark ≡ None
+opened_mark s None = refl
+opened_mark s (Some text) = refl
 
-pub opened_mark : (s : Files) → opened s mark ≡ None
-opened_mark s = opened_mark_by s (s mark)
+opened_staged : (s : Files) (o : Option (List ℕ)) (n : List ℕ) → is_staged n ≡ true → opened_by o s n ≡ None
+opened_staged s None n is = rw is refl
+opened_staged s (Some text) n is = rw is refl
 
-ready_one : (t : Files) (may : Files → Type 0) → t mark ≡ None → Only t may → IsStaging t may
-ready_one t may none only c left =
-    (record {
-      outside = λ n isnt. ap (λ (f : Files). f n) (only c left);
-      no_mark = ap (λ (f : Files). f mark)
-          (only c left) ∙ none;
-    })
-
-pub ready : {T E : Type 0} (r : Result T E) (s t : Files) (may : Files → Type 0) → s mark ≡ None → OnOk r (t ≡ s)
+pub ready : {T E : Type 0} (r : Result T E) (s t : Files) (may : Files → Type 0) → OnOk r (t ≡ opened s)
     → OnOk r (Only t may) → OnOk r (IsStaging t may)
-ready (Ok v) s t may none is only = ready_one t may (ap (λ (f : Files). f mark) is ∙ none) only
-ready (Err e) s t may none is only = is
-
-opened_by_none : (s : Files) (o : Option (List ℕ)) (n : List ℕ) → is_staged n ≡ true → opened_by o s n ≡ None
-opened_by_none s None n is = rw is refl
-opened_by_none s (Some text) n is = rw is refl
+ready (Ok v) s t may is only =
+    λ c left. rw (only c left, is) (record { outside = λ n isnt. refl; no_mark = opened_mark s (s mark) })
+ready (Err e) s t may is only = is
 
 -- nothing is staged once a folder has been opened, or what was staged is dropped
-pub opened_empty : (s : Files) → NothingStaged (opened s)
-opened_empty s n is = opened_by_none s (s mark) n is
-
-pub empty_by : {T E : Type 0} (r : Result T E) (s t : Files) → NothingStaged s → OnOk r (t ≡ s)
-    → OnOk r (NothingStaged t)
-empty_by (Ok v) s t none is = λ n staged. ap (λ (f : Files). f n) is ∙ none n staged
-empty_by (Err e) s t none is = is
+pub opened_empty : {T E : Type 0} (r : Result T E) (s t : Files) → OnOk r (t ≡ opened s) → OnOk r (NothingStaged t)
+opened_empty (Ok v) s t is = rw is (opened_staged s (s mark))
+opened_empty (Err e) s t is = is

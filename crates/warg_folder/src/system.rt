@@ -13,7 +13,8 @@ use std::io;
 
 /// A folder of the system's files. Each file is forced to the disk as it is written, and `sync` forces each folder in which a
 /// name is new or gone; the first one forces what an earlier run may have left. What is staged stands in one folder, with no
-/// folder for the parts of its name, so that a commit makes and forces those alone in which its files are served.
+/// folder for the parts of its name, so that a commit makes and forces those alone in which its files are served. `list` leaves
+/// out the file that `replace` writes first, `.log/replacing`: a run that was cut off may have left it.
 ///
 /// No name is followed through a link, and a name that is no regular file is refused. Whoever writes looks at a folder once
 /// until the next `sync`, and relies on it meanwhile: nobody else is to change folders.
@@ -71,6 +72,13 @@ impl<'a> SystemFolder<'a> {
             return Ok(None);
         }
         Ok(Some(self.disk.read(name, most)?))
+    }
+
+    // The names of the files that begin with a prefix, but for the one that is to take another one's place.
+    fn listed(&self, prefix: &str) -> io::Result<Vec<String>> {
+        let mut names = self.below(folder_of(prefix), Some(prefix))?;
+        names.retain(|name| name.as_str() != REPLACING);
+        Ok(names)
     }
 
     // As `below` of a disk, also where the folder isn't there.
@@ -163,8 +171,7 @@ impl Folder for SystemFolder<'_> {
     }
 
     fn list(&mut self, _: Global, prefix: &str) -> Result<Vec<String>, FolderError> {
-        self.disk
-            .told(prefix, self.below(folder_of(prefix), Some(prefix)), true)
+        self.disk.told(prefix, self.listed(prefix), true)
     }
 
     fn write(&mut self, name: &str, bytes: &[u8]) -> Result<(), FolderError> {

@@ -1,5 +1,5 @@
 -- What is made of a log's own tiles and bundles is the log's.
-use Rattle.std.proofs.Common.{◌≡◌, ℕ, ◌+◌, ◌-◌, ◌*◌, ◌/◌, ◌%◌, ◌^◌, ◌<◌, ◌≤◌, List, [], ◌∷◌, ◌++◌, length, take, drop, min, get_or, Some, sym, ap, subst, ◌∙◌, arith}
+use Rattle.std.proofs.Common.{◌≡◌, ℕ, ◌+◌, ◌-◌, ◌*◌, ◌/◌, ◌%◌, ◌^◌, ◌<◌, ◌≤◌, List, [], ◌∷◌, ◌++◌, length, take, drop, min, get_or, Some, sym, ap, subst, ◌∙◌, refl, arith}
 use Rattle.std.specs.List.{slice_get}
 use Rattle.std.proofs.lemmas.List.{append-nil, take_min, length-map, length-drop, length-take-le, get_or-drop, get_or-take}
 use Rattle.std.proofs.lemmas.Option.{slice_get_within, slice_get-get_or, get_or_from_slice_get}
@@ -11,7 +11,7 @@ use Rattle.warg_log.proofs.ForCallers.{old_more}
 use Rattle.warg_paths.specs.Paths.{inclusion_of, consistency_of}
 use Rattle.warg_paths.proofs.ForCallers.{inclusion_more, consistency_more}
 use Rattle.warg_tiles.specs.Tiles.{TileAt, tile_end}
-use Rattle.warg_tiles.specs.Between.{IsTileOf}
+use Rattle.warg_tiles.specs.Between.{IsTileOf, filled}
 use Rattle.warg_tiles.specs.TileData.{Tiles, IsTileBy, digest_by}
 use Rattle.warg_tiles.specs.TileLog.{tile_digests}
 use Rattle.warg_tiles.specs.EntryBundles.{bundle_of}
@@ -24,7 +24,8 @@ use Rattle.warg_store.proofs.ReadyRuns.{staging_kept}
 use Rattle.warg_store.specs.Reading.{bundle_in, inclusion_in, consistency_in}
 use Rattle.warg_store.specs.Private.Fetched.{AreOwn}
 use Rattle.warg_protobuf.proofs.ForCallers.{all_push}
-use Rattle.warg_store.proofs.GrowingLemmas.{same_tile}
+use Rattle.warg_store.proofs.PathLemmas.{same_tile}
+use Rattle.warg_store.proofs.GrowingLemmas.{in_folder}
 use Rattle.warg_store.proofs.LeadLemmas.{end_inside}
 
 -- one tile more
@@ -100,58 +101,40 @@ pub record IsEntryTile (log : LogOf) (t : TileAt) (index : ℕ) : Type 0 where
   pub fits : 256 * t.number + t.width ≤ length log.entries
   pub place : 256 * t.number + index % 256 ≡ index
 
-pub entry_tile : (log : LogOf) (t : TileAt) (index count : ℕ) → length log.entries ≡ count → index < count → t.level ≡ 0
-    → t.number ≡ index / 256 → t.width ≡ min (count - 256 * (index / 256)) 256 → IsEntryTile log t index
-entry_tile log t index count is below level number width =
-    let one : 2 ^ (8 * t.level) ≡ 1 = ap (λ l. 2 ^ (8 * l)) level in
-    let nodes : length log.entries / 2 ^ (8 * t.level) ≡ count = ap (λ p. length log.entries / p) one
-    ∙ div-one (length log.entries) ∙ is in
-    record {
-      is_in = record {
-        level = level;
-        exists = record { some = omega (arith, below, width); width = omega (arith, nodes, width, number) };
-      };
-      most = omega (arith, width);
-      fits = omega (arith, below, width, number, is);
-      place = omega (arith, number);
-    }
+pub entry_tile : (log : LogOf) (t : TileAt) (index count : ℕ) → length log.entries ≡ count → index < count
+    → t ≡ filled 0 count (index / 256) → IsEntryTile log t index
+entry_tile log t index count is below tile =
+    let nodes : length log.entries / 1 ≡ count = div-one (length log.entries) ∙ is in
+    subst (λ u. IsEntryTile log u index) (sym tile) (record {
+      is_in = record { level = refl; exists = record { some = omega (arith, below); width = omega (arith, nodes) } };
+      most = omega arith;
+      fits = omega (arith, below, is);
+      place = omega arith;
+    })
 
 -- The bundle of a number is one of the log.
 pub bundle_tile : (log : LogOf) (t : TileAt) (bundle count : ℕ) → length log.entries ≡ count → 256 * bundle < count
-    → t.level ≡ 0 → t.number ≡ bundle → t.width ≡ min (count - 256 * bundle) 256 → IsEntryTile log t (256 * bundle)
-bundle_tile log t bundle count is below level number width =
-    let number_of : 256 * bundle / 256 ≡ bundle = omega arith in
-    entry_tile log t (256 * bundle) count is below level (number ∙ sym number_of)
-    (width ∙ ap (λ n. min (count - 256 * n) 256) (sym number_of))
+    → t ≡ filled 0 count bundle → IsEntryTile log t (256 * bundle)
+bundle_tile log t bundle count is below tile =
+    let number : 256 * bundle / 256 ≡ bundle = omega arith in
+    entry_tile log t (256 * bundle) count is below (tile ∙ ap (filled 0 count) (sym number))
 
 -- and its bytes have its entries
 pub own_bundle : (log : LogOf) (t : TileAt) (bundle count : ℕ) (es : List (List ℕ)) → length log.entries ≡ count
-    → t.number ≡ bundle → t.width ≡ min (count - 256 * bundle) 256 → bundle_of es ≡ bundle_bytes log t
-    → es ≡ bundle_in log bundle
-own_bundle log t bundle count es is number width same =
+    → t ≡ filled 0 count bundle → bundle_of es ≡ bundle_bytes log t → es ≡ bundle_in log bundle
+own_bundle log t bundle count es is tile same =
     let behind = drop (256 * bundle) log.entries in
-    let wide : t.width ≡ min 256 (length behind) = omega (arith, width, is, length-drop (256 * bundle) log.entries) in
-    bundle_same es (take t.width (drop (256 * t.number) log.entries)) same
-    ∙ ap (λ n. take t.width (drop (256 * n) log.entries)) number
+    let wide : min (count - 256 * bundle) 256 ≡ min 256 (length behind) =
+    omega (arith, is, length-drop (256 * bundle) log.entries) in
+    bundle_same es (take (min (count - 256 * bundle) 256) behind) (same ∙ ap (bundle_bytes log) tile)
     ∙ ap (λ n. take n behind) wide ∙ take_min 256 behind
 
 -- Reading changes nothing of what a log has.
 pub has_read : {F : Type 0} (seen : F → Files) (may_leave : F → Files → Type 0) (served old next : LogOf) (l : LogIn F)
     (f : F) → seen f ≡ seen l.folder → Within (may_leave l.folder) (may_leave f)
     → Has seen may_leave served old next l → Has seen may_leave served old next (record l { folder = f })
-has_read seen may_leave served old next l f same within has = record {
-  is_open = has.is_open;
-  keeps = subst (Keeps served old) (sym same) has.keeps;
-  extends = has.extends;
-  short = has.short;
-  text = has.text;
-  edge = has.edge;
-  since = has.since;
-  order = has.order;
-  held = has.held;
-  most = has.most;
-  bundle = has.bundle;
-  staged = subst (AreFullStaged l.text.length l.edge.taken next) (sym same) has.staged;
-  pages = subst (ArePagesStaged served.pages old.pages next.pages) (sym same) has.pages;
-  staging = staging_kept (seen l.folder) (seen f) (may_leave l.folder) (may_leave f) same within has.staging;
-}
+has_read seen may_leave served old next l f same within has =
+    in_folder seen may_leave served served old next l f has (subst (Keeps served old) (sym same) has.keeps)
+    (subst (AreFullStaged l.text.length l.edge.taken next) (sym same) has.staged)
+    (subst (ArePagesStaged served.pages old.pages next.pages) (sym same) has.pages)
+    (staging_kept (seen l.folder) (seen f) (may_leave l.folder) (may_leave f) same within has.staging)

@@ -24,7 +24,7 @@ use Rattle.warg_folder.specs.Moments.{LeavesOnly}
 use Rattle.warg_store.specs.Growing.{LogIn, Has, HasAll, with_entry, IsNewFull, AreFullStaged}
 use Rattle.warg_folder.proofs.ForCallers.{one_name, apart, staged_once, served_not_staged, put_here, put_apart, leaves_none}
 use Rattle.warg_protobuf.proofs.ForCallers.{all_append}
-use Rattle.warg_store.proofs.PathLemmas.{tile_path_once, entries_path_once, no_tile_a_bundle, no_page_a_tile, no_page_a_bundle}
+use Rattle.warg_store.proofs.PathLemmas.{same_tile, tile_path_once, entries_path_once, no_tile_a_bundle, no_page_a_tile, no_page_a_bundle}
 use Rattle.warg_store.proofs.LeadLemmas.{tile_between, end_inside, same_kept, file_served, tile_kept, bundle_kept, extends_self, extends_then, pages_stay, own_pages}
 use Rattle.warg_store.proofs.StagedLemmas.{staged_there, staged_from, staged_outside}
 
@@ -173,12 +173,28 @@ module _ (log : LogOf) (R : TileAt → Type 0) (low : (t : TileAt) → R t → t
 abbrev pub bundle_tile : ℕ → TileAt
 bundle_tile number = record { level = 0; number = number; width = 256 }
 
-pub same_tile : (t u : TileAt) → t.level ≡ u.level → t.number ≡ u.number → t.width ≡ u.width → t ≡ u
-same_tile t u level number width = ap (λ l. make l t.number t.width) level ∙ ap (λ n. make u.level n t.width) number
-    ∙ ap (λ w. make u.level u.number w) width
-  where
-    make : ℕ → ℕ → ℕ → TileAt
-    make level number width = record { level = level; number = number; width = width }
+-- a log keeps what it has in another folder, where that has the files and what is staged
+pub in_folder : {F : Type 0} (seen : F → Files) (may_leave : F → Files → Type 0) (served to old next : LogOf)
+    (l : LogIn F) (folder : F) → Has seen may_leave served old next l → Keeps to old (seen folder)
+    → AreFullStaged l.text.length l.edge.taken next (seen folder)
+    → ArePagesStaged to.pages old.pages next.pages (seen folder) → IsStaging (seen folder) (may_leave folder)
+    → Has seen may_leave to old next (record l { folder = folder })
+in_folder seen may_leave served to old next l folder has keeps staged pages staging = record {
+  is_open = has.is_open;
+  keeps = keeps;
+  extends = has.extends;
+  short = has.short;
+  text = has.text;
+  edge = has.edge;
+  since = has.since;
+  order = has.order;
+  held = has.held;
+  most = has.most;
+  bundle = has.bundle;
+  staged = staged;
+  pages = pages;
+  staging = staging;
+}
 
 -- what a tile of level 0 has of a length
 pub ground : (n : ℕ) (t : TileAt) → t.level ≡ 0 → IsTileOf n t → (0 < t.width)

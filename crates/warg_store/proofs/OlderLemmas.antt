@@ -26,13 +26,9 @@ use Rattle.warg_store.specs.Private.Compared.{IsOwnTile, IsNarrower, HasNarrower
 use Rattle.warg_store.specs.declared.older.Newer.{Newer}
 use Rattle.warg_store.specs.declared.older.Newer.TheVariants.{Tile, Bundle}
 use Rattle.warg_store.specs.Reading.{bundle_in}
-use Rattle.warg_store.proofs.GrowingLemmas.{same_tile, from_ground, full_stays}
+use Rattle.warg_store.proofs.GrowingLemmas.{from_ground, full_stays}
 use Rattle.warg_store.proofs.LeadLemmas.{end_inside, width_at_most, digests_kept}
-use Rattle.warg_store.proofs.PathLemmas.{tile_behind, entries_behind}
-
--- a file has one text
-pub bytes_are : (o : Option (List ℕ)) (a b : List ℕ) → o ≡ Some a → o ≡ Some b → a ≡ b
-bytes_are o a b is other = let both : Some a ≡ Some b = sym is ∙ other in cc
+use Rattle.warg_store.proofs.PathLemmas.{same_tile, tile_behind, entries_behind}
 
 -- an older file's path begins as that of the full one in its place
 pub begins_partial : (newer : Newer) (t : TileAt) → IsNarrower t (tile_of newer)

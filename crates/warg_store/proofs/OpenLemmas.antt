@@ -32,7 +32,8 @@ use Rattle.warg_folder.proofs.ForCallers.{apart, served_not_state, put_here, put
 use Rattle.warg_protobuf.proofs.ForCallers.{all_append}
 use Rattle.warg_store.proofs.ListLemmas.{all_take, all_drop}
 use Rattle.warg_store.proofs.LeadLemmas.{end_inside, extends_self, file_served, same_files, same_served, own_pages}
-use Rattle.warg_store.proofs.GrowingLemmas.{ground, none_some, same_tile}
+use Rattle.warg_store.proofs.GrowingLemmas.{ground, none_some}
+use Rattle.warg_store.proofs.PathLemmas.{same_tile}
 
 -- Digests of a log.
 

@@ -153,7 +153,7 @@ decimal_without n c small out = from_index c (decimal n)
 abbrev tile_at : ℕ → ℕ → ℕ → TileAt
 tile_at level number width = record { level = level; number = number; width = width }
 
-same_tile : (t u : TileAt) → t.level ≡ u.level → t.number ≡ u.number → t.width ≡ u.width → t ≡ u
+pub same_tile : (t u : TileAt) → t.level ≡ u.level → t.number ≡ u.number → t.width ≡ u.width → t ≡ u
 same_tile t u level number width = ap (λ l. tile_at l t.number t.width) level
     ∙ ap (λ n. tile_at u.level n t.width) number ∙ ap (λ w. tile_at u.level u.number w) width
 

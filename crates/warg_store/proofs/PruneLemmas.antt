@@ -22,7 +22,7 @@ use Rattle.warg_store.proofs.PathLemmas.{tile_path_once, one_tile, entries_path_
 use Rattle.warg_store.proofs.ServeLemmas.{opened_idle}
 use Rattle.warg_store.proofs.LeadLemmas.{width_at_most, file_served, same_served, same_kept, pages_stay}
 use Rattle.warg_tiles.proofs.ForCallers.{low_level}
-use Rattle.warg_store.proofs.GrowingLemmas.{none_some}
+use Rattle.warg_store.proofs.GrowingLemmas.{none_some, in_folder}
 use Rattle.warg_store.proofs.SignLemmas.{full_staged_same}
 
 -- a spare name is a served one, and so is the full one's
@@ -355,24 +355,12 @@ pub still_has : {F : Type 0} (seen : F → Files) (may_leave : F → Files → T
     (folder : F) → Has seen may_leave served old next l → Keeps served old (seen folder) → seen folder mark ≡ None
     → ((n : List ℕ) → seen folder (staged n) ≡ seen l.folder (staged n)) → Only (seen folder) (may_leave folder)
     → Has seen may_leave served old next (record l { folder = folder })
-still_has seen may_leave served old next l folder has keeps no_mark same only = record {
-  is_open = has.is_open;
-  keeps = keeps;
-  extends = has.extends;
-  short = has.short;
-  text = has.text;
-  edge = has.edge;
-  since = has.since;
-  order = has.order;
-  held = has.held;
-  most = has.most;
-  bundle = has.bundle;
-  staged = full_staged_same l.text.length l.edge.taken next (seen l.folder) (seen folder) same has.staged;
-  pages = pages_stay served.pages old.pages next.pages (seen l.folder) (seen folder) (λ path. same (page_name path))
-      has.pages;
-  staging = λ c left. subst (λ (f : Files). IsBeside (seen folder) f) (sym (only c left))
-      (record { outside = λ n isnt. refl; no_mark = no_mark });
-}
+still_has seen may_leave served old next l folder has keeps no_mark same only =
+    in_folder seen may_leave served served old next l folder has keeps
+    (full_staged_same l.text.length l.edge.taken next (seen l.folder) (seen folder) same has.staged)
+    (pages_stay served.pages old.pages next.pages (seen l.folder) (seen folder) (λ path. same (page_name path)) has.pages)
+    (λ c left. subst (λ (f : Files). IsBeside (seen folder) f) (sym (only c left))
+    (record { outside = λ n isnt. refl; no_mark = no_mark }))
 
 -- a log whose folder was pruned
 pub prune_has : {F : Type 0} (seen : F → Files) (may_leave : F → Files → Type 0) (served old next : LogOf) (l : LogIn F)

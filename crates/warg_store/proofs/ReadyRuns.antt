@@ -14,14 +14,15 @@ beside_then s m c one two = record {
 }
 
 -- two runs that stage, the second after the first
-pub stages_twice : {D : Type 0} (seen : D → Files) (may_leave : D → Files → Type 0) (moment : D → ℕ)
-    (left_since : D → ℕ → Files → Type 0)
-    (counts : (folder : D) (t : ℕ) (c : Files) → t ≤ moment folder → may_leave folder c → left_since folder t c)
-    (stays : (folder : D) → may_leave folder (seen folder)) (old mid new : D)
+pub stages_twice : {D : Type 0} {seen : D → Files} {may_leave : D → Files → Type 0} {moment : D → ℕ}
+    {left_since : D → ℕ → Files → Type 0} {old mid new : D}
+    → ((folder : D) (t : ℕ) (c : Files) → t ≤ moment folder → may_leave folder c → left_since folder t c)
+    → ((folder : D) → may_leave folder (seen folder))
     → LeavesOnly moment left_since old mid (IsBeside (seen old))
     → LeavesOnly moment left_since mid new (IsBeside (seen mid))
     → LeavesOnly moment left_since old new (IsBeside (seen old))
-stages_twice seen may_leave moment left_since counts stays old mid new one two =
+stages_twice {seen = seen} {may_leave = may_leave} {moment = moment} {left_since = left_since} {old = old} {mid = mid}
+    {new = new} counts stays one two =
     let P = IsBeside (seen old) in
     let now : P (seen mid) = in_end moment left_since may_leave counts old mid P one (seen mid) (stays mid) in
     leaves_then moment left_since old mid new P (IsBeside (seen mid)) P one two (λ c is. is)

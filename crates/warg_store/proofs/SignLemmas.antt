@@ -11,7 +11,7 @@ use Rattle.warg_store.specs.Log.{said_of, LogOf, Keeps, IsOneOf, IsFileOf, IsNot
 use Rattle.warg_store.specs.Growing.{LogIn, Has, AreFullStaged}
 use Rattle.warg_folder.proofs.ForCallers.{one_name, apart, served_not_checkpoint, put_here, put_apart, leaves_none}
 use Rattle.warg_store.proofs.LeadLemmas.{extends_self, file_served, same_files, pages_beside}
-use Rattle.warg_store.proofs.GrowingLemmas.{beside_one_of}
+use Rattle.warg_store.proofs.GrowingLemmas.{beside_one_of, in_folder}
 use Rattle.warg_store.proofs.OpenLemmas.{text_parts}
 
 -- A note over a text.
@@ -134,25 +134,15 @@ pub sign_has : {F : Type 0} (seen : F → Files) (may_leave : F → Files → Ty
     → seen folder ≡ put (checkpoint, note) (seen l.folder) → Follows (λ d c. c ≡ put (checkpoint, note) d)
     (may_leave l.folder) (may_leave folder) → Has seen may_leave served old next l
     → Has seen may_leave old old next (record l { folder = folder })
-sign_has seen may_leave served old next l folder note is put_is follows has = record {
-  is_open = has.is_open;
-  keeps = subst (Keeps old old) (sym put_is) (sign_keeps note (seen l.folder) served old is has.keeps);
-  extends = has.extends;
-  short = has.short;
-  text = has.text;
-  edge = has.edge;
-  since = has.since;
-  order = has.order;
-  held = has.held;
-  most = has.most;
-  bundle = has.bundle;
-  pages = pages_beside served.pages old.pages old.pages next.pages (seen l.folder) (seen folder) (λ path has. has)
-      (λ path. ap (λ (f : Files). f (staged (page_name path))) put_is
-      ∙ put_apart (checkpoint, note) (seen l.folder) (staged (page_name path)) (λ e. apart (ap is_own (sym e))))
-      has.pages;
-  staged = subst (λ (f : Files). AreFullStaged l.text.length l.edge.taken next f) (sym put_is)
-      (full_staged_same l.text.length l.edge.taken next (seen l.folder) (put (checkpoint, note) (seen l.folder))
-      (λ n. put_apart (checkpoint, note) (seen l.folder) (staged n) (λ e. apart (ap is_own (sym e)))) has.staged);
-  staging = subst (λ (f : Files). IsStaging f (may_leave folder)) (sym put_is)
-      (sign_staging note (seen l.folder) (may_leave l.folder) (may_leave folder) follows has.staging);
-}
+sign_has seen may_leave served old next l folder note is put_is follows has =
+    let same : (n : List ℕ) → put (checkpoint, note) (seen l.folder) (staged n) ≡ seen l.folder (staged n) =
+    λ n. put_apart (checkpoint, note) (seen l.folder) (staged n) (λ e. apart (ap is_own (sym e))) in
+    in_folder seen may_leave served old old next l folder has
+    (subst (Keeps old old) (sym put_is) (sign_keeps note (seen l.folder) served old is has.keeps))
+    (subst (λ (f : Files). AreFullStaged l.text.length l.edge.taken next f) (sym put_is)
+    (full_staged_same l.text.length l.edge.taken next (seen l.folder) (put (checkpoint, note) (seen l.folder)) same
+    has.staged))
+    (pages_beside served.pages old.pages old.pages next.pages (seen l.folder) (seen folder) (λ path has. has)
+    (λ path. ap (λ (f : Files). f (staged (page_name path))) put_is ∙ same (page_name path)) has.pages)
+    (subst (λ (f : Files). IsStaging f (may_leave folder)) (sym put_is)
+    (sign_staging note (seen l.folder) (may_leave l.folder) (may_leave folder) follows has.staging))

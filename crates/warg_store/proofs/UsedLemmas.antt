@@ -28,9 +28,11 @@ use Rattle.warg_store.specs.Private.Compared.{HasTiles, IsNarrower, HasNarrowerB
 use Rattle.warg_store.specs.Private.Used.{place_of, AreUsed, HasUsed, HasUsedAll}
 use Rattle.warg_store.specs.declared.auditing.Use.{Use}
 use Rattle.warg_store.specs.declared.auditing.Use.TheVariants.{Compare, Stage}
-use Rattle.warg_store.proofs.GrowingLemmas.{same_tile, ground, from_ground, full_stays, own_files, tile_there, apart_there}
+use Rattle.warg_store.proofs.GrowingLemmas.{ground, from_ground, full_stays, own_files, tile_there, apart_there}
+use Rattle.warg_store.proofs.PathLemmas.{same_tile}
 use Rattle.warg_store.proofs.LeadLemmas.{width_at_most, bytes_kept, entries_kept, tile_kept, bundle_kept, tile_was, bundle_was}
-use Rattle.warg_store.proofs.OlderLemmas.{IsPlaced, bytes_are, narrow_end, own_narrow, placed, same_or_narrower}
+use Rattle.warg_store.proofs.OptionLemmas.{one_value}
+use Rattle.warg_store.proofs.OlderLemmas.{IsPlaced, narrow_end, own_narrow, placed, same_or_narrower}
 use Rattle.warg_store.proofs.StagedLemmas.{staged_outside}
 
 -- a tile ends behind no entry
@@ -323,7 +325,7 @@ module _ (how : Use) (first before after : Files) (count : ℕ) (edge : RightEdg
       let same : before (tile_path t) ≡ first (tile_path t) =
       has.outside (tile_path t) (served_not_staged (tile_path t) refl) in
       ⊎_elim
-      (λ one. bytes_are (first (tile_path t)) bytes (tile_bytes log t) there
+      (λ one. one_value there
       (sym same ∙ sym (ap (λ (f : Files). f (tile_path t)) used_so.0)
       ∙ subst (λ (u : Use). after (place_of u (tile_path t)) ≡ Some (tile_bytes log t)) compared
       (tile_now t (subst (IsTileIn log) (sym one) is))))
@@ -341,7 +343,7 @@ module _ (how : Use) (first before after : Files) (count : ℕ) (edge : RightEdg
       let at = placed_in m t longer (omega (arith, level)) of in
       let is : IsBundleIn log newer = record { level = level; exists = at.of } in
       ⊎_elim
-      (λ one. bytes_are (first (entries_path t)) bytes (bundle_bytes log t) there
+      (λ one. one_value there
       (has.bundle t (subst (IsBundleIn log) (sym one) is)))
       (λ narrow. (has.older compared).bundle t newer bytes is narrow there)
       (same_or_narrower (length has.entries) t newer at)

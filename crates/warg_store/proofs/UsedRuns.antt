@@ -33,7 +33,7 @@ module _ {D : Type 0} (seen : D → Files) (may_leave : D → Files → Type 0) 
   used_then Compare old mid new one two = read_then seen may_leave moment left_since old mid new (counts old) one two
   used_then Stage old mid new one two = record {
     staging = two.staging;
-    run = stages_twice seen may_leave moment left_since counts stays old mid new one.run two.run;
+    run = stages_twice counts stays one.run two.run;
   }
 
   -- a folder that was used is ready for more

@@ -35,6 +35,9 @@ use warg_paths::{
 };
 use warg_tiles::{Tile, tiles_for_consistency, tiles_for_inclusion};
 
+// What is wrong with a bundle that lacks an entry or has another one.
+const OTHER_ENTRIES: &str = "has other entries than its tile";
+
 /// The digests of a path, from the bottom up.
 pub type Path = Vec<Hash<Sha256>>;
 
@@ -139,7 +142,7 @@ pub(crate) fn entry<F: Folder>(
     if check_record(checkpoint, index, &entry, path.as_slice()) {
         Ok(entry)
     } else {
-        Err(damaged_entry(alloc, index, length))
+        Err(damaged_bundle(alloc, &bundle_tile(index / 256, length), OTHER_ENTRIES))
     }
 }
 
@@ -159,13 +162,12 @@ pub(crate) fn read_entry<F: Folder>(
     ensures read { F.IsFaithful → IsRead F.seen F.may_leave F.moment F.left_since folder.old folder.new }
     ensures cause { HasLogCause F.IsFaithful (F.faults folder.old) (F.faults folder.new) result }
 {
-    let number = index / 256;
-    let tile = Tile::new(0, number, (log_length - 256 * number).min(256));
+    let tile = bundle_tile(index / 256, log_length);
     let bytes = read_bundle(alloc, folder, &tile)?;
     let entries = entries_of(alloc, &tile, bytes.as_slice())?;
     match entries.as_slice().get(index % 256) {
         Some(entry) => Ok(entry.to_vec(alloc)?),
-        None => Err(damaged_entry(alloc, index, log_length)),
+        None => Err(damaged_bundle(alloc, &tile, OTHER_ENTRIES)),
     }
 }
 
@@ -189,7 +191,7 @@ pub(crate) fn read_entries<F: Folder>(
     ensures read { F.IsFaithful → IsRead F.seen F.may_leave F.moment F.left_since folder.old folder.new }
     ensures cause { HasLogCause F.IsFaithful (F.faults folder.old) (F.faults folder.new) result }
 {
-    let tile = Tile::new(0, bundle, (log_length - 256 * bundle).min(256));
+    let tile = bundle_tile(bundle, log_length);
     let bytes = read_bundle(alloc, folder, &tile)?;
     let entries = entries_of(alloc, &tile, bytes.as_slice())?;
     Ok(copies(alloc, entries.as_slice())?)
@@ -207,14 +209,12 @@ fn copies(alloc: Global, entries: &[&[u8]]) -> Result<Vec<Vec<u8>>, FolderError>
     Ok(copies)
 }
 
-// That the bundle of an entry is corrupt.
-fn damaged_entry(alloc: Global, index: usize, log_length: usize) -> LogError
-    requires { index < log_length }
-    ensures { IsNoFailure result }
+// The tile over the entries of a bundle, in a log of so many.
+fn bundle_tile(bundle: usize, log_length: usize) -> Tile
+    requires { 256 * bundle < log_length }
+    ensures { result ≡ filled 0 log_length bundle }
 {
-    let number = index / 256;
-    let tile = Tile::new(0, number, (log_length - 256 * number).min(256));
-    damaged_bundle(alloc, &tile, "has other entries than its tile")
+    Tile::new(0, bundle, (log_length - 256 * bundle).min(256))
 }
 
 /// The inclusion path of an entry at a length, once it leads to the checkpoint's root.

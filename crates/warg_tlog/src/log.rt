@@ -31,12 +31,6 @@ impl Session<'_> {
             return Err(Refusal::Argument(NO_ORIGIN.into()));
         }
         let _lock = self.locked(FolderLock::create(self.rt, self.folder))?;
-        // An init that was cut off may have left this file, which nothing reads.
-        self.done(
-            self.files()?
-                .remove(".log/replacing")
-                .map_err(LogError::Folder),
-        )?;
         let fault = "the origin isn't one line of text";
         match self.make(origin.as_bytes(), asked.get_flag("map")) {
             Ok(()) => Ok(()),

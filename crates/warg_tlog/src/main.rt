@@ -24,7 +24,7 @@ fn main(rt: HostRuntime) -> ExitCode {
     match answer(&rt) {
         Ok(verdict) => ExitCode::from(if verdict { 0 } else { 1 }),
         Err(refusal) => {
-            let _ = eprintln!(rt; "warg_tlog: {refusal}");
+            let _ = eprintln!(rt; "warg_tlog: {refusal}{}", refusal.rest());
             ExitCode::from(refusal.status())
         }
     }

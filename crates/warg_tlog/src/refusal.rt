@@ -36,15 +36,15 @@ pub enum Refusal {
     RolledBack(String, usize, usize),
     #[error("the log is at another checkpoint, of {0} entries")]
     Elsewhere(usize),
-    #[error("{0} can't be written, as there is no room: make room; what was to be added may be in the log, whose length warg_tlog append FOLDER < /dev/null (publish for a registry) prints")]
+    #[error("{0} can't be written, as there is no room: make room")]
     NoRoom(CowStr<'static>),
-    #[error("{0} can't be written: {1}; what was to be added may be in the log, whose length warg_tlog append FOLDER < /dev/null (publish for a registry) prints")]
+    #[error("{0} can't be written: {1}")]
     Unwritable(CowStr<'static>, io::Error),
     #[error("{0} can't be written any more by this run: run the command again")]
     Lost(String),
     #[error("{0} can't be read: {1}")]
     Unreadable(CowStr<'static>, io::Error),
-    #[error("out of memory: run the command again with more; what was to be added may be in the log, whose length warg_tlog append FOLDER < /dev/null (publish for a registry) prints")]
+    #[error("out of memory: run the command again with more")]
     Memory(#[from(alloc)] AllocError),
     #[error("the log has 2^63 entries and takes no more: make another by warg_tlog init FOLDER ORIGIN")]
     Full,
@@ -72,6 +72,15 @@ impl Refusal {
             Refusal::Memory(_) => 13,
             Refusal::Full => 14,
             Refusal::HasMap(_) | Refusal::NoMap(_) => 15,
+        }
+    }
+
+    /// What the line says behind the refusal: where a write was cut off, the log may have what was to be added.
+    pub fn rest(&self) -> &'static str {
+        match self {
+            Refusal::NoRoom(_) | Refusal::Unwritable(..) | Refusal::Memory(_) =>
+                "; what was to be added may be in the log, whose length warg_tlog append FOLDER < /dev/null (publish for a registry) prints",
+            _ => "",
         }
     }
 

@@ -1,14 +1,11 @@
-use Rattle.std.proofs.Common.{sym, subst, ◌∙◌}
-use Rattle.warg_folder.specs.Commits.{opened}
-use Rattle.warg_folder.specs.Private.Steps.{IsRemoving}
+use Rattle.std.proofs.Common.{sym, ◌∙◌}
 use Rattle.warg_folder.proofs.ForCallers.{leaves_weaker, idle_opened}
-use Rattle.warg_folder.proofs.StepLemmas.{idle_removing, removing_idle, beside_between}
+use Rattle.warg_folder.proofs.StepLemmas.{idle_removing, idle_between}
 use Rattle.warg_folder.proofs.recovery.drop_staged.Goals as goal
 
 pub remove_staged-requires : goal.remove_staged-requires
 remove_staged-requires g c = λ faithful e left.
-    let now = g.F.Folder.seen c.args.folder.now in
-    subst (IsRemoving now) (sym (c.requires.durable faithful e left)) (idle_removing now (c.requires.idle faithful))
+    rw (c.requires.durable faithful e left) (idle_removing _ (c.requires.idle faithful))
 
 pub returns-clause-opened : goal.returns-clause-opened
 returns-clause-opened g c = λ faithful.
@@ -17,14 +14,10 @@ returns-clause-opened g c = λ faithful.
 
 pub returns-clause-any_moment : goal.returns-clause-any_moment
 returns-clause-any_moment g c = λ faithful.
-    let now = g.F.Folder.seen c.args.folder.now in
     leaves_weaker _ _ _ _ _ _ (c.remove_staged.ensures.any_moment faithful)
-    (λ e was. beside_between now (opened now) e (c.requires.idle faithful)
-    (removing_idle now e (c.requires.idle faithful) was))
+    (λ e was. idle_between _ _ e (c.requires.idle faithful) was)
 
 pub returns-in_err-remove_staged-clause-any_moment : goal.returns-in_err-remove_staged-clause-any_moment
 returns-in_err-remove_staged-clause-any_moment g c = λ faithful.
-    let now = g.F.Folder.seen c.args.folder.now in
     leaves_weaker _ _ _ _ _ _ (c.remove_staged.ensures.any_moment faithful)
-    (λ e was. beside_between now (opened now) e (c.requires.idle faithful)
-    (removing_idle now e (c.requires.idle faithful) was))
+    (λ e was. idle_between _ _ e (c.requires.idle faithful) was)

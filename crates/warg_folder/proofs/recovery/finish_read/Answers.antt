@@ -1,5 +1,4 @@
-use Rattle.std.proofs.Common.{sym, subst, arith}
-use Rattle.warg_folder.specs.Commits.{opened, IsBetween}
+use Rattle.std.proofs.Common.{arith}
 use Rattle.warg_folder.specs.declared.committing.TheConstants.{MOST_TEXT}
 use Rattle.warg_folder.specs.Names.{mark}
 use Rattle.warg_folder.proofs.ForCallers.{leaves_none}
@@ -9,13 +8,11 @@ use Rattle.warg_folder.proofs.recovery.finish_read.Goals as goal
 
 pub returns-then-text-gt-MOST_TEXT-clause-any_moment : goal.returns-then-text-gt-MOST_TEXT-clause-any_moment
 returns-then-text-gt-MOST_TEXT-clause-any_moment g c = λ faithful.
-    let first = g.F.Folder.seen c.args.folder.now in
-    leaves_none _ _ _ _ (λ e left. subst (IsBetween first (opened first))
-    (sym ((c.requires.durable faithful) e (g.met.F.Folder.only_now c.args.folder.now e left)))
-    (between_self first (opened first)))
+    leaves_none _ _ _ _ (λ e left. rw (c.requires.durable faithful e (g.met.F.Folder.only_now c.args.folder.now e left))
+    (between_self _ _))
 
 pub returns-then-text-gt-MOST_TEXT-clause-too_long : goal.returns-then-text-gt-MOST_TEXT-clause-too_long
-returns-then-text-gt-MOST_TEXT-clause-too_long g c = λ faithful. λ told. read_long
+returns-then-text-gt-MOST_TEXT-clause-too_long g c = λ faithful told. read_long
     (g.F.Folder.seen c.args.folder.now mark) c.args.text.now MOST_TEXT (c.requires.read faithful) (omega arith)
 
 pub finish-requires-clause-stands : goal.finish-requires-clause-stands

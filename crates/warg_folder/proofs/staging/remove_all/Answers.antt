@@ -1,5 +1,4 @@
-use Rattle.std.proofs.Common.{◌≡◌, ℕ, List, true, None, sym, ap, subst, ◌∙◌, arith, string_bytes}
-use Rattle.std.specs.List.{All}
+use Rattle.std.proofs.Common.{◌≡◌, true, None, arith, string_bytes}
 use Rattle.std.proofs.lemmas.List.{take_all}
 use Rattle.std.proofs.lemmas.List.Elements.{All-more, All-weaker}
 use Rattle.std.specs.declared.string.String.{String}
@@ -9,19 +8,24 @@ use Rattle.warg_folder.specs.Names.{is_staged}
 use Rattle.warg_folder.specs.Private.Steps.{IsRemoving}
 use Rattle.warg_folder.proofs.ForCallers.{goes_on, either}
 use Rattle.warg_folder.proofs.StepLemmas.{removed_one, fewer_files, none_stays, removed_here}
+use Rattle.warg_folder.proofs.staging.remove_all.Goals.{After-remove}
 use Rattle.warg_folder.proofs.staging.remove_all.Goals as goal
 
-pub returns-in_err-remove-clause-crash : goal.returns-in_err-remove-clause-crash
-returns-in_err-remove-clause-crash g c = λ faithful. λ e left.
-    let from = (c.remove.ensures.crash faithful) e left in
+-- what a crash leaves after one removal more
+removing : (g : _) (c : After-remove g) → g.F.Folder.IsFaithful → (e : Files) → g.F.Folder.may_leave c.remove.new.self e
+    → IsRemoving (g.F.Folder.seen c.args.folder.now) e
+removing g c faithful e left =
+    let from = c.remove.ensures.crash faithful e left in
+    let first = g.F.Folder.seen c.args.folder.now in
     let name = c.as_str.result.now in
-    let staged : is_staged name ≡ true = subst (λ (n : List ℕ). is_staged n ≡ true)
-    (sym (c.as_str.ensures.value ∙ ap (λ (x : String Global). string_bytes x) c.name-item.is))
+    let was : IsRemoving first from.0 = c.names.invariant.crash faithful from.0 from.1 in
+    let staged : is_staged name ≡ true = rw (c.as_str.ensures.value, c.name-item.is)
     (c.requires.staged faithful c.names.name-index c.name-item.result (omega arith)) in
-    either (IsRemoving (g.F.Folder.seen c.args.folder.now)) (without name) from.0 e from.2
-    ((c.names.invariant.crash faithful) from.0 from.1)
-    (removed_one (g.F.Folder.seen c.args.folder.now) from.0 name staged
-    ((c.names.invariant.crash faithful) from.0 from.1))
+    either (IsRemoving first) (without name) from.0 e from.2 was (removed_one first from.0 name staged was)
+
+pub returns-in_err-remove-clause-crash : goal.returns-in_err-remove-clause-crash
+returns-in_err-remove-clause-crash g c =
+    removing g (goal.at.returns-in_err-remove-clause-crash g c).After-remove
 
 pub returns-in_err-remove-clause-any_moment : goal.returns-in_err-remove-clause-any_moment
 returns-in_err-remove-clause-any_moment g c = λ faithful. goes_on _ _ _ _ _ _ _ (c.names.invariant.time faithful)
@@ -29,27 +33,18 @@ returns-in_err-remove-clause-any_moment g c = λ faithful. goes_on _ _ _ _ _ _ _
 
 pub names-preserved : goal.names-preserved
 names-preserved g c =
-    let name = c.as_str.result.now in
     let old = g.F.Folder.seen c.names.folder in
     let new = g.F.Folder.seen c.remove.new.self in
-    let crash : g.F.Folder.IsFaithful → (e : Files) → g.F.Folder.may_leave c.remove.new.self e
-    → IsRemoving (g.F.Folder.seen c.args.folder.now) e = λ faithful e left.
-    let from = (c.remove.ensures.crash faithful) e left in
-    let staged : is_staged name ≡ true = subst (λ (n : List ℕ). is_staged n ≡ true)
-    (sym (c.as_str.ensures.value ∙ ap (λ (x : String Global). string_bytes x) c.name-item.is))
-    (c.requires.staged faithful c.names.name-index c.name-item.result (omega arith)) in
-    either (IsRemoving (g.F.Folder.seen c.args.folder.now)) (without name) from.0 e from.2
-    ((c.names.invariant.crash faithful) from.0 from.1)
-    (removed_one (g.F.Folder.seen c.args.folder.now) from.0 name staged
-    ((c.names.invariant.crash faithful) from.0 from.1)) in
+    let name = c.as_str.result.now in
+    let crash = removing g (goal.at.names-preserved g c).After-remove in
     record {
       removed = λ faithful. All-more (λ (x : String Global). new (string_bytes x) ≡ None) c.args.names.now
           c.names.name-index c.name-item.result (omega arith)
-          (All-weaker (λ (x : String Global). old (string_bytes x) ≡ None) (λ (x : String Global). new (string_bytes x)
-          ≡ None) (λ x none. none_stays old new name (string_bytes x) (c.in_ok-remove.ensures.removed faithful)
-          none) _ (c.names.invariant.removed faithful))
-          (subst (λ (n : List ℕ). new n ≡ None)
-          (c.as_str.ensures.value ∙ ap (λ (x : String Global). string_bytes x) c.name-item.is)
+          (All-weaker (λ (x : String Global). old (string_bytes x) ≡ None)
+          (λ (x : String Global). new (string_bytes x) ≡ None)
+          (λ x none. none_stays old new name (string_bytes x) (c.in_ok-remove.ensures.removed faithful) none)
+          _ (c.names.invariant.removed faithful))
+          (rw (c.as_str.ensures.value, c.name-item.is) at
           (removed_here old new name (c.in_ok-remove.ensures.removed faithful)));
       fewer = λ faithful. fewer_files (g.F.Folder.seen c.args.folder.now) old new name
           (c.in_ok-remove.ensures.removed faithful) (c.names.invariant.fewer faithful);
@@ -61,5 +56,4 @@ names-preserved g c =
 
 pub returns-clause-removed : goal.returns-clause-removed
 returns-clause-removed g c = λ faithful.
-    subst (λ (l : List (String Global)). All (λ name. g.F.Folder.seen c.names.folder (string_bytes name) ≡ None) l)
-    (take_all c.names.name-index c.args.names.now (omega arith)) (c.names.invariant.removed faithful)
+    rw (take_all c.names.name-index c.args.names.now (omega arith)) at (c.names.invariant.removed faithful)

@@ -4,17 +4,19 @@ use Rattle.warg_crypto.specs.Digests.{sha256}
 use Rattle.warg_log.specs.Tree.{leaves_of}
 use Rattle.warg_tiles.specs.CheckpointText.{Said}
 use Rattle.warg_folder.specs.Files.{Files}
+use Rattle.warg_folder.specs.Moments.{LeavesOnly}
 use Rattle.warg_folder.proofs.ForCallers.{leaves_weaker}
 use Rattle.warg_store.specs.Log.{LogOf, HasState, said_of}
 use Rattle.warg_store.specs.Opening.{CanBeServed}
 use Rattle.warg_store.specs.Rebuilt.{HasBundlesOf, IsRebuilt}
-use Rattle.warg_store.specs.Private.Used.{IsEnough}
+use Rattle.warg_store.specs.Private.Used.{IsEnough, IsRemaking}
 use Rattle.warg_store.specs.Refusals.{IsNoFault}
 use Rattle.warg_store.specs.declared.auditing.Use.TheVariants.{Stage}
 use Rattle.warg_store.proofs.OpenLemmas.{kept_said}
 use Rattle.warg_store.proofs.RebuiltLemmas.{rebuilt, state_says, remaking}
 use Rattle.warg_store.proofs.UsedRuns.{not_compared}
 use Rattle.warg_store.proofs.WholeLemmas.{err_same, same_said}
+use Rattle.warg_store.proofs.auditing.remade.Goals.{After-commit_state}
 use Rattle.warg_store.proofs.auditing.remade.Goals as goal
 
 -- a log of the state whose bundles are there is enough to make its tiles again
@@ -76,8 +78,11 @@ pub returns-in_err-found-clause-any_moment : goal.returns-in_err-found-clause-an
 returns-in_err-found-clause-any_moment g c = λ faithful.
     leaves_weaker _ _ _ _ _ _ (c.replayed.ensures.used faithful).run (λ f was. inl was)
 
-pub returns-in_err-commit_state-clause-any_moment : goal.returns-in_err-commit_state-clause-any_moment
-returns-in_err-commit_state-clause-any_moment g c = λ faithful.
+-- the commit of the state leaves what making the tiles again may leave
+committed : (g : _) (c : After-commit_state g) → g.F.Folder.IsFaithful → LeavesOnly g.F.Folder.moment
+    g.F.Folder.left_since c.args.folder.now c.commit_state.new.folder
+    (IsRemaking c.args.state.now (g.F.Folder.seen c.args.folder.now))
+committed g c faithful =
     let has = c.in_ok-log.ensures.files faithful in
     remaking g.F.Folder.seen g.F.Folder.may_leave _ _ _ _ _ c.in_ok-log.log c.args.state.now
     (c.requires.empty faithful) (c.requires.stated faithful) has
@@ -86,12 +91,9 @@ returns-in_err-commit_state-clause-any_moment g c = λ faithful.
     c.in_ok-found.ensures.same has.stands) (c.replayed.ensures.used faithful)
     (g.met.F.Folder.seen_may_stay c.replayed.new.folder) (c.commit_state.ensures.any_moment faithful)
 
+pub returns-in_err-commit_state-clause-any_moment : goal.returns-in_err-commit_state-clause-any_moment
+returns-in_err-commit_state-clause-any_moment g c =
+    committed g (goal.at.returns-in_err-commit_state-clause-any_moment g c).After-commit_state
+
 pub returns-clause-any_moment : goal.returns-clause-any_moment
-returns-clause-any_moment g c = λ faithful.
-    let has = c.in_ok-log.ensures.files faithful in
-    remaking g.F.Folder.seen g.F.Folder.may_leave _ _ _ _ _ c.in_ok-log.log c.args.state.now
-    (c.requires.empty faithful) (c.requires.stated faithful) has
-    (state_says c.checkpoint-checkpoint.result c.in_ok-found.found c.args.state.now has.entries c.in_ok-log.log
-    c.in_ok-found.ensures.said c.checkpoint-checkpoint.ensures.root c.checkpoint-checkpoint.ensures.length
-    c.in_ok-found.ensures.same has.stands) (c.replayed.ensures.used faithful)
-    (g.met.F.Folder.seen_may_stay c.replayed.new.folder) (c.commit_state.ensures.any_moment faithful)
+returns-clause-any_moment g c = committed g (goal.at.returns-clause-any_moment g c).After-commit_state

@@ -7,7 +7,8 @@ use Rattle.warg_tiles.specs.EntryBundles.{bundle_of}
 use Rattle.warg_tiles.specs.Tiles.{TileAt}
 use Rattle.warg_store.specs.Private.Compared.{IsPartOf, IsBeginning}
 use Rattle.warg_store.specs.Reading.{bundle_in}
-use Rattle.warg_store.proofs.OlderLemmas.{bytes_are, older_tile, older_bundle}
+use Rattle.warg_store.proofs.OptionLemmas.{one_value}
+use Rattle.warg_store.proofs.OlderLemmas.{older_tile, older_bundle}
 use Rattle.warg_store.proofs.PathLemmas.{one_tile, entries_path_once}
 use Rattle.warg_store.proofs.older.compare_named.Goals.{in_default-via-in-Ok+else-is_older, in_default-via-in_default, in_default-from_entries_path-via-in-Ok-from_entries_path+then-number+else-width-entries, in_default-from_entries_path-via-in-Ok-from_entries_path+else-number, in_default-from_entries_path-via-in_default-from_entries_path}
 use Rattle.warg_store.proofs.older.compare_named.Goals as goal
@@ -52,7 +53,7 @@ returns-in-Ok-clause-older g c = λ faithful. on_ok_weaker c.compare_older_tile.
     (λ t bytes narrow path there.
     let ok = c.in-Ok.ensures.ok in
     let same : t ≡ c.in-Ok.tile = one_tile t c.in-Ok.tile narrow.is ok.0 (path ∙ ok.1) in
-    bytes_are (g.F.Folder.seen c.args.folder.now c.args.name.now) bytes _ there
+    one_value there
     (ap (g.F.Folder.seen c.args.folder.now) ok.1 ∙ file
     ∙ ap (λ (u : TileAt). Some (flat_map (λ digest. digest) (take u.width c.in-Tile.newer.now.digests.items)))
     (sym same))))
@@ -81,7 +82,7 @@ returns-in-Ok-from_entries_path-clause-older g c = λ faithful. on_ok_weaker c.c
     let ok = c.in-Ok-from_entries_path.ensures.ok in
     let tile = c.in-Ok-from_entries_path.tile in
     let same : t ≡ tile = entries_path_once t tile narrow.level ok.1 narrow.is.most ok.0.most (path ∙ ok.2) in
-    bytes_are (g.F.Folder.seen c.args.folder.now c.args.name.now) bytes _ there
+    one_value there
     (ap (g.F.Folder.seen c.args.folder.now) ok.2 ∙ file
     ∙ ap (λ (u : TileAt). Some (bundle_of (take u.width (map (λ (e : Vec ℕ Global). e.items) c.in-Bundle.entries.now))))
     (sym same))))

@@ -21,7 +21,7 @@ returns-in_default-clause-text g c = λ faithful.
     (λ (text : Said). (served log : LogOf) → HasLog served log (g.F.Folder.seen c.args.folder.now)
     → (text ≡ said_of log) × Keeps served log last)
     (λ text taken served log has. ⊎_elim
-    (λ keeps. absurd (no_value _ _ c.in_default.is
+    (λ keeps. absurd (no_value c.in_default.is
     (c.in_ok-state.ensures.text faithful (said_of log) None (kept_said log keeps.can) keeps.state)))
     (λ without. let found = taken log (subst (Serves log) (sym (c.read_text.ensures.seen faithful)) without.2) in
     (found.0, subst (λ (s : LogOf). Keeps s log last) (sym without.0) found.1))
@@ -34,10 +34,10 @@ returns-clause-text g c = λ faithful served log has.
     ∙ c.read_text.ensures.seen faithful in
     ⊎_elim
     (λ keeps.
-    let said = one_value _ c.in-Some.state (said_of log) c.in-Some.is
+    let said = one_value c.in-Some.is
     (c.in_ok-state.ensures.text faithful (said_of log) None (kept_said log keeps.can) keeps.state) in
     (said, subst (Keeps served log) (sym same) keeps))
-    (λ without. absurd (no_value _ _ ((c.in_ok-state.ensures.none faithful).1 without.1) c.in-Some.is))
+    (λ without. absurd (no_value ((c.in_ok-state.ensures.none faithful).1 without.1) c.in-Some.is))
     has
 
 pub returns-in_err-state-clause-whole : goal.returns-in_err-state-clause-whole
@@ -52,12 +52,12 @@ returns-in_err-compare-clause-whole g c = λ faithful served log has.
     c.from_residual-in_err-compare.ensures.1 (⊎_elim
     (λ keeps.
     let first = c.read_text.ensures.seen faithful in
-    let said = one_value _ c.in-Some.state (said_of log) c.in-Some.is
+    let said = one_value c.in-Some.is
     (c.in_ok-state.ensures.text faithful (said_of log) None (kept_said log keeps.can) keeps.state) in
     c.in_err-compare.ensures.whole faithful served log
     (subst (Keeps served log) (sym (c.read_served.ensures.seen faithful ∙ first)) keeps) said
     (c.in_ok-served.ensures.text faithful served (subst (Serves served) (sym first) keeps.serves)))
-    (λ without. absurd (no_value _ _ ((c.in_ok-state.ensures.none faithful).1 without.1) c.in-Some.is))
+    (λ without. absurd (no_value ((c.in_ok-state.ensures.none faithful).1 without.1) c.in-Some.is))
     has)
 
 pub returns-clause-any_moment : goal.returns-clause-any_moment

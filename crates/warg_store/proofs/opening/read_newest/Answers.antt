@@ -18,13 +18,13 @@ returns-in-Some-state-2-clause-text g c faithful =
     let found = c.in_ok-served.ensures.text faithful (said_of log) serves.checkpoint.0 (kept_said log serves.can)
     (ap (λ (f : Files). f checkpoint) first ∙ serves.checkpoint.1) in
     newest log (subst (Serves log) (sym (c.read_text-2.ensures.seen faithful ∙ first)) serves)
-    (one_value _ _ _ c.in-Some.is found)) (c.newest_of.ensures.text faithful)
+    (one_value c.in-Some.is found)) (c.newest_of.ensures.text faithful)
 
 pub returns-in-None-state-clause-text : goal.returns-in-None-state-clause-text
 returns-in-None-state-clause-text g c faithful log serves =
     let found = c.in_ok-served.ensures.text faithful (said_of log) serves.checkpoint.0 (kept_said log serves.can)
     (ap (λ (f : Files). f checkpoint) (c.read_text.ensures.seen faithful) ∙ serves.checkpoint.1) in
-    one_value _ _ _ c.in-Some.is found
+    one_value c.in-Some.is found
 
 pub returns-in_err-state-clause-whole : goal.returns-in_err-state-clause-whole
 returns-in_err-state-clause-whole g c = λ faithful served log has.
@@ -45,7 +45,7 @@ returns-in_default-clause-whole g c = λ faithful served log has.
     let serves = has_serves served log (g.F.Folder.seen c.args.folder.now) has in
     let found = c.in_ok-served.ensures.text faithful (said_of served) serves.checkpoint.0 (kept_said served serves.can)
     (ap (λ (f : Files). f checkpoint) (c.read_text.ensures.seen faithful) ∙ serves.checkpoint.1) in
-    absurd (no_value _ _ c.in_default.is found)
+    absurd (no_value c.in_default.is found)
 
 pub returns-in-Some-state-2-clause-whole : goal.returns-in-Some-state-2-clause-whole
 returns-in-Some-state-2-clause-whole g c = λ faithful served log has.
@@ -55,8 +55,8 @@ returns-in-Some-state-2-clause-whole g c = λ faithful served log has.
     let said = c.in_ok-state.ensures.text faithful (said_of log) None (kept_said log keeps.can) keeps.state in
     c.newest_of.ensures.whole faithful served log
     (λ idle. subst (Keeps served log) (sym (c.read_text-2.ensures.seen faithful ∙ first)) keeps)
-    (one_value _ _ _ c.in-Some-state-2.is said))
-    (λ without. absurd (no_value _ _ ((c.in_ok-state.ensures.none faithful).1 without.1) c.in-Some-state-2.is))
+    (one_value c.in-Some-state-2.is said))
+    (λ without. absurd (no_value ((c.in_ok-state.ensures.none faithful).1 without.1) c.in-Some-state-2.is))
     has
 
 pub returns-in_err-state-clause-meanwhile : goal.returns-in_err-state-clause-meanwhile
@@ -78,7 +78,7 @@ returns-in_default-clause-meanwhile g c = λ faithful served old next one.
     let is = one_serves served old next (g.F.Folder.seen c.args.folder.now) one in
     let found = c.in_ok-served.ensures.text faithful (said_of is.0) is.1.checkpoint.0 (kept_said is.0 is.1.can)
     (ap (λ (f : Files). f checkpoint) (c.read_text.ensures.seen faithful) ∙ is.1.checkpoint.1) in
-    absurd (no_value _ _ c.in_default.is found)
+    absurd (no_value c.in_default.is found)
 
 pub returns-in-Some-state-2-clause-meanwhile : goal.returns-in-Some-state-2-clause-meanwhile
 returns-in-Some-state-2-clause-meanwhile g c = λ faithful served old next one.
@@ -86,17 +86,17 @@ returns-in-Some-state-2-clause-meanwhile g c = λ faithful served old next one.
     let is = one_newest served old next files (g.F.Folder.seen c.read_text-2.new.folder) c.in-Some-state-2.state
     (c.read_text-2.ensures.seen faithful ∙ c.read_text.ensures.seen faithful) one
     (λ log has. let said = c.in_ok-state.ensures.text faithful (said_of log) None (kept_said log has.can) has.text in
-    one_value _ _ _ c.in-Some-state-2.is said) in
+    one_value c.in-Some-state-2.is said) in
     c.newest_of.ensures.whole faithful is.0 is.1 is.2 is.3
 
 pub returns-in-Some-state-2-clause-newest : goal.returns-in-Some-state-2-clause-newest
 returns-in-Some-state-2-clause-newest g c = λ faithful kept rest.
     let same = c.read_text-2.ensures.seen faithful ∙ c.read_text.ensures.seen faithful in
-    let is = one_value _ _ _ c.in-Some-state-2.is (c.in_ok-state.ensures.text faithful kept None rest.can rest.says) in
+    let is = one_value c.in-Some-state-2.is (c.in_ok-state.ensures.text faithful kept None rest.can rest.says) in
     IfOk-weaker c.newest_of.result _ _ (λ text least. subst (λ (s : Said). s.length ≤ text.length) is least)
     (c.newest_of.ensures.newest faithful (ap (λ (f : Files). f mark) same ∙ rest.no_mark)
     (ap (λ (f : Files). is_signed (f checkpoint)) same ∙ rest.unsigned))
 
 pub returns-in-None-state-clause-newest : goal.returns-in-None-state-clause-newest
 returns-in-None-state-clause-newest g c = λ faithful kept rest.
-    absurd (no_value _ _ c.in-None-state.is (c.in_ok-state.ensures.text faithful kept None rest.can rest.says))
+    absurd (no_value c.in-None-state.is (c.in_ok-state.ensures.text faithful kept None rest.can rest.says))

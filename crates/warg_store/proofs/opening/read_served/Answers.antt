@@ -7,12 +7,12 @@ use Rattle.warg_store.proofs.opening.read_served.Goals as goal
 
 pub returns-in-Some-clause-text : goal.returns-in-Some-clause-text
 returns-in-Some-clause-text g c = λ faithful log serves.
-    one_value _ _ _ c.in-Some.is (c.in_ok-text.ensures.text faithful (said_of log) serves.checkpoint.0
+    one_value c.in-Some.is (c.in_ok-text.ensures.text faithful (said_of log) serves.checkpoint.0
     (kept_said log serves.can) serves.checkpoint.1)
 
 pub returns-in-Some-clause-said : goal.returns-in-Some-clause-said
 returns-in-Some-clause-said g c = λ faithful said behind can there.
-    one_value _ _ _ c.in-Some.is (c.in_ok-text.ensures.text faithful said behind can there)
+    one_value c.in-Some.is (c.in_ok-text.ensures.text faithful said behind can there)
 
 pub returns-in_err-text-clause-whole : goal.returns-in_err-text-clause-whole
 returns-in_err-text-clause-whole g c = λ faithful log serves.
@@ -22,5 +22,5 @@ returns-in_err-text-clause-whole g c = λ faithful log serves.
 
 pub returns-in-None-clause-whole : goal.returns-in-None-clause-whole
 returns-in-None-clause-whole g c = λ faithful log serves.
-    absurd (no_value _ _ c.in-None.is (c.in_ok-text.ensures.text faithful (said_of log) serves.checkpoint.0
+    absurd (no_value c.in-None.is (c.in_ok-text.ensures.text faithful (said_of log) serves.checkpoint.0
     (kept_said log serves.can) serves.checkpoint.1))

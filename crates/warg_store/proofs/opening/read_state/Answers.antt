@@ -18,7 +18,7 @@ stated_by : (o : Option Said) (error : LogError) (files : Files) → ((said : Sa
     → IfOk (ok_or o error) (λ said. IsStated said files)
 stated_by None error files each = tt
 stated_by (Some found) error files each = λ said behind can there.
-    one_value (Some found) found said refl (each said behind can there)
+    one_value refl (each said behind can there)
 
 -- where something was, there is no refusal
 found_whole : (o : Option Said) (said : Said) (error : LogError) → o ≡ Some said → IfErr (ok_or o error) (IsNoFault ⊥)

@@ -15,7 +15,7 @@ use Rattle.warg_store.proofs.opening.take_over.Goals as goal
 pub returns-clause-text : goal.returns-clause-text
 returns-clause-text g c = λ faithful log serves.
     let seen = g.F.Folder.seen in
-    let said = one_value _ c.in-Some.served (said_of log) c.in-Some.is
+    let said = one_value c.in-Some.is
     (c.in_ok-served.ensures.text faithful (said_of log) serves.checkpoint.0 (kept_said log serves.can)
     serves.checkpoint.1) in
     let same = (c.read_end.ensures.read faithful).found ∙ c.read_text.ensures.seen faithful in
@@ -31,7 +31,7 @@ returns-clause-text g c = λ faithful log serves.
 
 pub returns-in_err-read_end-clause-whole : goal.returns-in_err-read_end-clause-whole
 returns-in_err-read_end-clause-whole g c = λ faithful log serves.
-    let said = one_value _ c.in-Some.served (said_of log) c.in-Some.is
+    let said = one_value c.in-Some.is
     (c.in_ok-served.ensures.text faithful (said_of log) serves.checkpoint.0 (kept_said log serves.can)
     serves.checkpoint.1) in
     let says = same_said c.checkpoint-checkpoint.result (said_of log)
@@ -50,12 +50,12 @@ returns-in_err-served-clause-whole g c = λ faithful log serves.
 
 pub returns-in_default-clause-whole : goal.returns-in_default-clause-whole
 returns-in_default-clause-whole g c = λ faithful log serves.
-    absurd (no_value _ _ c.in_default.is (c.in_ok-served.ensures.text faithful (said_of log) serves.checkpoint.0
+    absurd (no_value c.in_default.is (c.in_ok-served.ensures.text faithful (said_of log) serves.checkpoint.0
     (kept_said log serves.can) serves.checkpoint.1))
 
 pub returns-clause-agrees : goal.returns-clause-agrees
 returns-clause-agrees g c = λ faithful served behind can there.
-    let same = one_value _ c.in-Some.served served c.in-Some.is (c.in_ok-served.ensures.text faithful served behind can
+    let same = one_value c.in-Some.is (c.in_ok-served.ensures.text faithful served behind can
     there) in
     subst (AgreesWith c.in-Some.served) same (agrees_self c.in-Some.served)
 
@@ -70,7 +70,7 @@ returns-clause-any_moment g c = λ faithful only none.
     let P : Files → Type 0 = λ f. (f ≡ first) ⊎ IsTakenOver first f in
     let says : (said : Said) (behind : Option (List ℕ)) → CanBeServed said
     → first checkpoint ≡ Some (text_before said behind) → text ≡ text_of said = λ said behind can there.
-    let same = one_value _ c.in-Some.served said c.in-Some.is (c.in_ok-served.ensures.text faithful said behind can
+    let same = one_value c.in-Some.is (c.in_ok-served.ensures.text faithful said behind can
     there) in
     c.as_slice.ensures.value ∙ c.in_ok-bytes.ensures ∙ ap text_of same in
     let end = then_reads moment since may g.met.F.Folder.counts_now c.args.folder.now c.read_text.new.folder

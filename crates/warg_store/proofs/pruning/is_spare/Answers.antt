@@ -2,7 +2,7 @@ use Rattle.std.proofs.Common.{sym, subst, ◌∙◌, arith}
 use Rattle.warg_tiles.specs.Between.{IsTileOf}
 use Rattle.warg_store.specs.Pruned.{full_of}
 use Rattle.warg_folder.proofs.ForCallers.{apart}
-use Rattle.warg_store.proofs.GrowingLemmas.{same_tile}
+use Rattle.warg_store.proofs.PathLemmas.{same_tile}
 use Rattle.warg_store.proofs.pruning.is_spare.Goals as goal
 
 pub returns : goal.returns

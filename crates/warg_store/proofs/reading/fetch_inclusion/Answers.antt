@@ -11,13 +11,18 @@ use Rattle.warg_store.specs.Log.{HasFiles}
 use Rattle.warg_store.specs.Refusals.{IsNoFault}
 use Rattle.warg_store.proofs.EnoughLemmas.{gives_all, gives_then}
 use Rattle.warg_store.proofs.WholeLemmas.{err_same}
+use Rattle.warg_store.proofs.reading.fetch_inclusion.Goals.{After-fetch}
 use Rattle.warg_store.proofs.reading.fetch_inclusion.Goals as goal
+
+-- the tiles that are read are of the length
+are_of_length : (g : _) (c : After-fetch g) → AllByRecursion (IsTileOf c.args.log_length) c.as_slice.result.now
+are_of_length g c = subst (AllByRecursion (IsTileOf c.args.log_length)) (sym c.as_slice.ensures.value)
+    c.in_ok-named.ensures.tiles_of.of_length
 
 pub returns-clause-own : goal.returns-clause-own
 returns-clause-own g c = λ faithful. on_ok_weaker c.fetch_leaf.result
     (λ more log files count below own.
-    let named = subst (AllByRecursion (IsTileOf c.args.log_length)) (sym c.as_slice.ensures.value)
-    c.in_ok-named.ensures.tiles_of.of_length in
+    let named = are_of_length g (goal.at.returns-clause-own g c).After-fetch in
     more log (subst (HasFiles log) (sym (c.fetch.ensures.seen faithful)) files) count
     (omega (arith, c.requires.order, below))
     (c.in_ok-fetch.ensures.own faithful log c.args.log_length files count below c.requires.fits named own))
@@ -26,8 +31,7 @@ returns-clause-own g c = λ faithful. on_ok_weaker c.fetch_leaf.result
 pub returns-clause-leaf : goal.returns-clause-leaf
 returns-clause-leaf g c = λ faithful. IfOk-weaker c.fetch_leaf.result _ _
     (λ leaf is log files count below own.
-    let named = subst (AllByRecursion (IsTileOf c.args.log_length)) (sym c.as_slice.ensures.value)
-    c.in_ok-named.ensures.tiles_of.of_length in
+    let named = are_of_length g (goal.at.returns-clause-leaf g c).After-fetch in
     is log (subst (HasFiles log) (sym (c.fetch.ensures.seen faithful)) files) count
     (omega (arith, c.requires.order, below))
     (c.in_ok-fetch.ensures.own faithful log c.args.log_length files count below c.requires.fits named own))
@@ -52,8 +56,7 @@ returns-clause-whole g c = λ faithful log files count below.
 
 pub returns-in_err-fetch-clause-whole : goal.returns-in_err-fetch-clause-whole
 returns-in_err-fetch-clause-whole g c = λ faithful log files count below.
-    let named = subst (AllByRecursion (IsTileOf c.args.log_length)) (sym c.as_slice.ensures.value)
-    c.in_ok-named.ensures.tiles_of.of_length in
+    let named = are_of_length g (goal.at.returns-in_err-fetch-clause-whole g c).After-fetch in
     err_same (IsNoFault ⊥) c.in_err-fetch.field-0.0 c.from_residual-in_err-fetch.result
     c.from_residual-in_err-fetch.ensures.1 (c.in_err-fetch.ensures.whole faithful log c.args.log_length files count
     below c.requires.fits named)

@@ -8,12 +8,13 @@ use Rattle.warg_paths.specs.Paths.{consistency_roots}
 use Rattle.warg_tiles.specs.TileData.{digest_by}
 use Rattle.warg_folder.proofs.ForCallers.{apart}
 use Rattle.warg_store.proofs.OptionLemmas.{one_value, no_value}
+use Rattle.warg_store.proofs.reading.new_root.Goals.{After-roots_of_consistency}
 use Rattle.warg_store.proofs.reading.new_root.Goals as goal
 
 -- the root that was given is the one, and so are both roots by way of it
 given_once : {R : Type 0} (at : R → Option (List ℕ)) (r s : R) (a b : List ℕ) → Some a ≡ at r → r ≡ s → at s ≡ Some b
     → a ≡ b
-given_once at r s a b first same second = one_value (at s) a b (sym (first ∙ ap at same)) second
+given_once at r s a b first same second = one_value (sym (first ∙ ap at same)) second
 
 both_roots : (given : Option (List ℕ × List ℕ)) (old new : ℕ) (path : List (List ℕ)) (a b : List ℕ)
     (to : List ℕ × List ℕ) → given ≡ consistency_roots sha256 old new a path → a ≡ b
@@ -21,35 +22,37 @@ both_roots : (given : Option (List ℕ × List ℕ)) (old new : ℕ) (path : Lis
 both_roots given old new path a b to is same leads =
     is ∙ ap (λ (x : List ℕ). consistency_roots sha256 old new x path) same ∙ leads
 
+-- where the path leads from the root that the tiles have, the call returns that root and the new one
+returned : (c : After-roots_of_consistency) (from to : List ℕ)
+    → old_over sha256 (digest_by sha256 c.args.tiles.now) (leaves_from 0 c.args.old) ≡ Some from
+    → consistency_roots sha256 c.args.old c.args.new from c.args.path.now ≡ Some (from, to)
+    → (c.in_ok-from.from ≡ from) × (c.roots_of_consistency.result ≡ Some (from, to))
+returned c from to old leads =
+    let same : c.in_ok-from.from ≡ from = given_once (old_over sha256 (digest_by sha256 c.args.tiles.now))
+    c.new.result (leaves_from 0 c.args.old) c.in_ok-from.from from c.in_ok-from.ensures.root c.new.ensures old in (
+      same,
+      both_roots c.roots_of_consistency.result c.args.old c.args.new c.args.path.now c.in_ok-from.from from
+          (from, to) c.roots_of_consistency.ensures same leads,
+    )
+
 pub returns-in_err-old_root-clause-whole : goal.returns-in_err-old_root-clause-whole
 returns-in_err-old_root-clause-whole c = λ from to old leads.
-    let same : c.in_ok-from.from ≡ from = given_once (old_over sha256 (digest_by sha256 c.args.tiles.now))
-    c.new.result (leaves_from 0 c.args.old) c.in_ok-from.from from c.in_ok-from.ensures.root c.new.ensures old in
-    absurd (no_value c.roots_of_consistency.result (from, to) c.in_err-old_root.was
-    (both_roots c.roots_of_consistency.result c.args.old c.args.new c.args.path.now c.in_ok-from.from from (from, to)
-    c.roots_of_consistency.ensures same leads))
+    let at = goal.at.returns-in_err-old_root-clause-whole c in
+    absurd (no_value c.in_err-old_root.was
+    (returned at.After-roots_of_consistency from to old leads).1)
 
 pub returns-then-eq-clause-whole : goal.returns-then-eq-clause-whole
 returns-then-eq-clause-whole c = λ from to old leads.
-    let same : c.in_ok-from.from ≡ from = given_once (old_over sha256 (digest_by sha256 c.args.tiles.now))
-    c.new.result (leaves_from 0 c.args.old) c.in_ok-from.from from c.in_ok-from.ensures.root c.new.ensures old in
-    let pair : ◌≡◌ {A = List ℕ × List ℕ} (c.in_ok-old_root.old_root, c.in_ok-old_root.new_root) (from, to) =
-    one_value c.roots_of_consistency.result (c.in_ok-old_root.old_root, c.in_ok-old_root.new_root) (from, to)
-    c.in_ok-old_root.was
-    (both_roots c.roots_of_consistency.result c.args.old c.args.new c.args.path.now c.in_ok-from.from from (from, to)
-    c.roots_of_consistency.ensures same leads) in
-    ap (λ (p : List ℕ × List ℕ). Some p.1) pair
+    let at = goal.at.returns-then-eq-clause-whole c in
+    ap (λ (p : List ℕ × List ℕ). Some p.1) (one_value c.in_ok-old_root.was
+    (returned at.After-roots_of_consistency from to old leads).1)
 
 pub returns-clause-whole : goal.returns-clause-whole
 returns-clause-whole c = λ from to old leads.
-    let same : c.in_ok-from.from ≡ from = given_once (old_over sha256 (digest_by sha256 c.args.tiles.now))
-    c.new.result (leaves_from 0 c.args.old) c.in_ok-from.from from c.in_ok-from.ensures.root c.new.ensures old in
-    let pair : ◌≡◌ {A = List ℕ × List ℕ} (c.in_ok-old_root.old_root, c.in_ok-old_root.new_root) (from, to) =
-    one_value c.roots_of_consistency.result (c.in_ok-old_root.old_root, c.in_ok-old_root.new_root) (from, to)
-    c.in_ok-old_root.was
-    (both_roots c.roots_of_consistency.result c.args.old c.args.new c.args.path.now c.in_ok-from.from from (from, to)
-    c.roots_of_consistency.ensures same leads) in
-    let first : c.in_ok-old_root.old_root ≡ c.in_ok-from.from = ap (λ (p : List ℕ × List ℕ). p.0) pair ∙ sym same in
+    let roots = returned (goal.at.returns-clause-whole c).After-roots_of_consistency from to old leads in
+    let first : c.in_ok-old_root.old_root ≡ c.in_ok-from.from = ap (λ (p : List ℕ × List ℕ). p.0)
+    (one_value
+    c.in_ok-old_root.was roots.1) ∙ sym roots.0 in
     let equal : (pointwise nat_eq c.in_ok-old_root.old_root c.in_ok-from.from && true) ≡ true =
     rw ((bytes_decides c.in_ok-old_root.old_root c.in_ok-from.from).1 first) refl in
     absurd (apart (sym equal ∙ sym c.if-eq.ensures))

@@ -13,10 +13,9 @@ use Rattle.warg_store.proofs.reading.read_entry.Goals as goal
 
 pub returns-in-Some-clause-own : goal.returns-in-Some-clause-own
 returns-in-Some-clause-own g c faithful log files short count =
-    let t : TileAt = c.new-tile.result in
+    let t : TileAt = c.bundle_tile-tile.result in
     let place = c.args.index % 256 in
-    let bounds = entry_tile log t c.args.index c.args.log_length count c.requires c.new-tile.ensures.level
-    c.new-tile.ensures.number (c.new-tile.ensures.width ∙ c.min.ensures) in
+    let bounds = entry_tile log t c.args.index c.args.log_length count c.requires c.bundle_tile-tile.ensures in
     let read = c.in_ok-bytes.ensures.own faithful log short bounds.most (files.bundle t bounds.is_in) in
     let found = c.in-Some.ensures.lookup in
     let slice : List (Bor (List ℕ)) = c.as_slice-2.result.now in
@@ -35,17 +34,15 @@ returns-in-Some-clause-own g c faithful log files short count =
 
 pub returns-in_err-bytes-clause-whole : goal.returns-in_err-bytes-clause-whole
 returns-in_err-bytes-clause-whole g c = λ faithful log files short count.
-    let t : TileAt = c.new-tile.result in
-    let bounds = entry_tile log t c.args.index c.args.log_length count c.requires c.new-tile.ensures.level
-    c.new-tile.ensures.number (c.new-tile.ensures.width ∙ c.min.ensures) in
+    let t : TileAt = c.bundle_tile-tile.result in
+    let bounds = entry_tile log t c.args.index c.args.log_length count c.requires c.bundle_tile-tile.ensures in
     err_same (IsNoFault ⊥) c.in_err-bytes.field-0.0 c.from_residual.result c.from_residual.ensures.1
     (c.in_err-bytes.ensures.whole faithful log (files.bundle t bounds.is_in))
 
 pub returns-in_err-entries-clause-whole : goal.returns-in_err-entries-clause-whole
 returns-in_err-entries-clause-whole g c = λ faithful log files short count.
-    let t : TileAt = c.new-tile.result in
-    let bounds = entry_tile log t c.args.index c.args.log_length count c.requires c.new-tile.ensures.level
-    c.new-tile.ensures.number (c.new-tile.ensures.width ∙ c.min.ensures) in
+    let t : TileAt = c.bundle_tile-tile.result in
+    let bounds = entry_tile log t c.args.index c.args.log_length count c.requires c.bundle_tile-tile.ensures in
     let read = c.in_ok-bytes.ensures.own faithful log short bounds.most (files.bundle t bounds.is_in) in
     err_same (IsNoFault ⊥) c.in_err-entries.field-0.0 c.from_residual-in_err-entries.result
     c.from_residual-in_err-entries.ensures.1

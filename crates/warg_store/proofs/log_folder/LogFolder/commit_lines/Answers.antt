@@ -5,6 +5,7 @@ use Rattle.warg_folder.specs.Commits.{IsStaging}
 use Rattle.warg_store.specs.Log.{LogOf, IsCommitting, said_of}
 use Rattle.warg_store.specs.Growing.{LogIn, Has}
 use Rattle.warg_store.proofs.GrowingLemmas.{idle, noted}
+use Rattle.warg_store.proofs.log_folder.LogFolder.commit_lines.Goals.{After-put}
 use Rattle.warg_store.proofs.log_folder.LogFolder.commit_lines.Goals as goal
 
 -- a log that has another length than what it keeps has grown
@@ -23,6 +24,13 @@ grown {F = F} seen may_leave served old next l m len kept same is says differ ha
       has.order,
     )
 
+-- so what is put has grown
+has_more : (g : _) (c : After-put g) (served old next : LogOf)
+    → Has g.F.Folder.seen g.F.Folder.may_leave served old next c.args.self.now
+    → c.args.self.now.text.length < c.args.self.now.edge.len
+has_more g c served old next has = grown _ _ served old next c.args.self.now _ c.length.result c.length-3.result
+    c.self.view_is c.length.ensures.value (c.length-3.ensures ∙ c.checkpoint.ensures.length) c.if-length.false has
+
 pub returns-then-length-clause-any_moment : goal.returns-then-length-clause-any_moment
 returns-then-length-clause-any_moment g c = λ faithful served old next has same.
     idle _ _ _ _ served old next c.args.self.now (g.met.F.Folder.only_now c.args.self.now.folder) has
@@ -40,8 +48,7 @@ pub returns-in-Ok-clause-any_moment : goal.returns-in-Ok-clause-any_moment
 returns-in-Ok-clause-any_moment g c = λ faithful served old next has same.
     let first = c.args.self.now.folder in
     let P = IsCommitting served old next (g.F.Folder.seen first) in
-    let more = grown _ _ served old next c.args.self.now _ c.length.result c.length-3.result c.self.view_is
-    c.length.ensures.value (c.length-3.ensures ∙ c.checkpoint.ensures.length) c.if-length.false has in
+    let more = has_more g (goal.at.returns-in-Ok-clause-any_moment g c).After-put served old next has in
     subst (λ (l : LogIn g.row.F.Denot). LeavesOnly g.F.Folder.moment g.F.Folder.left_since first l.folder P)
     (sym c.self-2.view_is)
     (c.put.ensures.any_moment faithful served old next has more (c.in_ok-end.ensures.is served old next has same))
@@ -50,16 +57,14 @@ pub returns-in-Err-clause-any_moment : goal.returns-in-Err-clause-any_moment
 returns-in-Err-clause-any_moment g c = λ faithful served old next has same.
     let first = c.args.self.now.folder in
     let P = IsCommitting served old next (g.F.Folder.seen first) in
-    let more = grown _ _ served old next c.args.self.now _ c.length.result c.length-3.result c.self.view_is
-    c.length.ensures.value (c.length-3.ensures ∙ c.checkpoint.ensures.length) c.if-length.false has in
+    let more = has_more g (goal.at.returns-in-Err-clause-any_moment g c).After-put served old next has in
     subst (λ (l : LogIn g.row.F.Denot). LeavesOnly g.F.Folder.moment g.F.Folder.left_since first l.folder P)
     (sym c.self-2.view_is)
     (c.put.ensures.any_moment faithful served old next has more (c.in_ok-end.ensures.is served old next has same))
 
 pub returns-in-Ok-clause-committed : goal.returns-in-Ok-clause-committed
 returns-in-Ok-clause-committed g c = λ faithful served old next has same.
-    let more = grown _ _ served old next c.args.self.now _ c.length.result c.length-3.result c.self.view_is
-    c.length.ensures.value (c.length-3.ensures ∙ c.checkpoint.ensures.length) c.if-length.false has in
+    let more = has_more g (goal.at.returns-in-Ok-clause-committed g c).After-put served old next has in
     let end = c.in_ok-end.ensures.is served old next has same in
     let put = c.in-Ok.ensures.put faithful served old next has more end in
     let told : LogIn g.row.F.Denot → Type 0 = λ l.

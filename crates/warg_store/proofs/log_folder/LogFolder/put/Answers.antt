@@ -1,4 +1,4 @@
-use Rattle.std.proofs.Common.{◌≡◌, ◌≤◌, ℕ, List, sym, ap, subst, ◌∙◌, arith, refl}
+use Rattle.std.proofs.Common.{◌≡◌, ◌<◌, ◌≤◌, ℕ, List, sym, ap, subst, ◌∙◌, arith, refl}
 use Rattle.std.specs.declared.alloc.Global.{Global}
 use Rattle.warg_crypto.specs.declared.hash.Sha256.{Sha256}
 use Rattle.warg_tiles.specs.declared.stored.StoredTile.{StoredTile}
@@ -6,9 +6,10 @@ use Rattle.warg_folder.specs.Files.{Files}
 use Rattle.warg_folder.specs.Commits.{IsBeside}
 use Rattle.warg_folder.specs.Moments.{LeavesOnly}
 use Rattle.warg_store.specs.Log.{LogOf, Keeps, IsCommitting}
-use Rattle.warg_store.specs.Growing.{LogIn, HasAll, ArePartsOf}
+use Rattle.warg_store.specs.Growing.{LogIn, Has, HasAll, ArePartsOf, IsEndOf}
 use Rattle.warg_folder.proofs.ForCallers.{leaves_then, leaves_weaker}
 use Rattle.warg_store.proofs.GrowingLemmas.{beside_committing, committing_then, all_kept}
+use Rattle.warg_store.proofs.log_folder.LogFolder.put.Goals.{After-commit_log}
 use Rattle.warg_store.proofs.log_folder.LogFolder.put.Goals as goal
 
 -- a log's partial tiles, as the slice that was taken of them
@@ -38,6 +39,22 @@ module _ {F : Type 0} (moment : F → ℕ) (left_since : F → ℕ → Files →
       (λ f now. beside_committing served old next (seen first) f keeps now)
       (λ f now. committing_then served old next (seen first) (seen mid) f beside now)
 
+-- a commit leaves what it may leave, staging before it included
+committed : (g : _) (c : After-commit_log g) → g.F.Folder.IsFaithful → (served old next : LogOf)
+    → Has g.F.Folder.seen g.F.Folder.may_leave served old next c.args.self.now
+    → c.args.self.now.text.length < c.args.self.now.edge.len
+    → IsEndOf next c.args.end.now.text c.args.end.now.bytes.items c.args.end.now.tiles.items
+    → LeavesOnly g.F.Folder.moment g.F.Folder.left_since c.args.self.now.folder c.commit_log.new.folder
+    (IsCommitting served old next (g.F.Folder.seen c.args.self.now.folder))
+committed g c faithful served old next has more end =
+    let parts = parts_in next c.as_slice.result.now _ c.as_slice.ensures.value end.tiles in
+    staged_committing g.F.Folder.moment g.F.Folder.left_since g.F.Folder.may_leave g.F.Folder.seen
+    g.met.F.Folder.counts_now g.met.F.Folder.seen_may_stay served old next c.args.self.now.folder
+    c.commit_log.new.folder c.stage_edge.new.self _ c.self.view_is has.keeps (c.stage_edge.ensures.any_moment faithful)
+    (c.in_ok-stage_edge.ensures.staged faithful served old next has more parts)
+    (λ all. c.commit_log.ensures.any_moment faithful served old next all.keeps all.extends all.staged
+    (c.as_slice-2.ensures.value ∙ end.bytes) end.can)
+
 pub returns-in_err-stage_edge-clause-any_moment : goal.returns-in_err-stage_edge-clause-any_moment
 returns-in_err-stage_edge-clause-any_moment g c = λ faithful served old next has more end.
     let first = c.args.self.now.folder in
@@ -47,24 +64,11 @@ returns-in_err-stage_edge-clause-any_moment g c = λ faithful served old next ha
     (λ f beside. beside_committing served old next files f has.keeps beside)
 
 pub returns-in_err-commit_log-clause-any_moment : goal.returns-in_err-commit_log-clause-any_moment
-returns-in_err-commit_log-clause-any_moment g c = λ faithful served old next has more end.
-    let parts = parts_in next c.as_slice.result.now _ c.as_slice.ensures.value end.tiles in
-    staged_committing g.F.Folder.moment g.F.Folder.left_since g.F.Folder.may_leave g.F.Folder.seen
-    g.met.F.Folder.counts_now g.met.F.Folder.seen_may_stay served old next c.args.self.now.folder
-    c.commit_log.new.folder c.stage_edge.new.self _ c.self.view_is has.keeps (c.stage_edge.ensures.any_moment faithful)
-    (c.in_ok-stage_edge.ensures.staged faithful served old next has more parts)
-    (λ all. c.commit_log.ensures.any_moment faithful served old next all.keeps all.extends all.staged
-    (c.as_slice-2.ensures.value ∙ end.bytes) end.can)
+returns-in_err-commit_log-clause-any_moment g c =
+    committed g (goal.at.returns-in_err-commit_log-clause-any_moment g c).After-commit_log
 
 pub returns-clause-any_moment : goal.returns-clause-any_moment
-returns-clause-any_moment g c = λ faithful served old next has more end.
-    let parts = parts_in next c.as_slice.result.now _ c.as_slice.ensures.value end.tiles in
-    staged_committing g.F.Folder.moment g.F.Folder.left_since g.F.Folder.may_leave g.F.Folder.seen
-    g.met.F.Folder.counts_now g.met.F.Folder.seen_may_stay served old next c.args.self.now.folder
-    c.commit_log.new.folder c.stage_edge.new.self _ c.self.view_is has.keeps (c.stage_edge.ensures.any_moment faithful)
-    (c.in_ok-stage_edge.ensures.staged faithful served old next has more parts)
-    (λ all. c.commit_log.ensures.any_moment faithful served old next all.keeps all.extends all.staged
-    (c.as_slice-2.ensures.value ∙ end.bytes) end.can)
+returns-clause-any_moment g c = committed g (goal.at.returns-clause-any_moment g c).After-commit_log
 
 pub returns-clause-put : goal.returns-clause-put
 returns-clause-put g c = λ faithful served old next has more end.

@@ -14,15 +14,7 @@ returns-clause-pruned g c = λ faithful. on_ok_weaker c.remove_all.result
     (λ done served old next has clear.
     let inside = subst (Has g.F.Folder.seen g.F.Folder.may_leave served old next) (sym c.self.view_is) has in
     let names = map (λ (name : String Global). string_bytes name) c.args.names.now in
-    without_has g.F.Folder.seen g.F.Folder.may_leave names served old next
-    (record {
-      folder = c.self.inside.folder;
-      text = c.self.inside.text;
-      is_open = c.self.inside.is_open;
-      edge = c.self.inside.edge;
-      bundle = c.self.inside.bundle.items;
-      held = c.self.inside.held;
-    })
+    without_has g.F.Folder.seen g.F.Folder.may_leave names served old next _
     c.remove_all.new.folder clear
     (inside.staging (g.F.Folder.seen c.self.inside.folder) (g.met.F.Folder.seen_may_stay c.self.inside.folder))
     done.0 done.1 inside)

@@ -8,6 +8,7 @@ use Rattle.warg_store.specs.Growing.{LogIn, Has}
 use Rattle.warg_folder.proofs.ForCallers.{begins}
 use Rattle.warg_store.proofs.GrowingLemmas.{beside_one_of}
 use Rattle.warg_store.proofs.SignLemmas.{unsigned, sign_staging, sign_moment, sign_has}
+use Rattle.warg_store.proofs.log_folder.LogFolder.sign.Goals.{After-replace}
 use Rattle.warg_store.proofs.log_folder.LogFolder.sign.Goals as goal
 
 -- a note over the text that was written is one over what is kept
@@ -15,6 +16,28 @@ judged : (old : LogOf) (said : Said) (bytes text note : List ℕ) → bytes ≡ 
     → said ≡ said_of old → IsNoteOf bytes note → IsNoteOf (checkpoint_of old) note
 judged old said bytes text note is was says over =
     subst (λ (b : List ℕ). IsNoteOf b note) (is ∙ was ∙ ap text_of says) over
+
+-- the note is over the checkpoint that is kept
+note_over : (g : _) (c : After-replace g) (old : LogOf) → c.args.self.now.text ≡ said_of old
+    → IsNoteOf (checkpoint_of old) c.args.note.now
+note_over g c old says = judged old _ _ _ c.args.note.now c.as_slice.ensures.value c.in_ok-text.ensures says
+    (c.is_signed_note.ensures.0 c.if-not-is_signed_note.false)
+
+-- putting it leaves what is served or what is kept
+replaced : (g : _) (c : After-replace g) → g.F.Folder.IsFaithful → (served old next : LogOf)
+    → Has g.F.Folder.seen g.F.Folder.may_leave served old next c.args.self.now
+    → LeavesOnly g.F.Folder.moment g.F.Folder.left_since c.args.self.now.folder c.replace.new.self
+    (IsOneOf served old old)
+replaced g c faithful served old next has =
+    let inside = subst (Has g.F.Folder.seen g.F.Folder.may_leave served old next) (sym c.self.view_is) has in
+    subst (λ (l : LogIn g.row.F.Denot). LeavesOnly g.F.Folder.moment g.F.Folder.left_since l.folder c.replace.new.self
+    (IsOneOf served old old)) c.self.view_is
+    (begins _ _ _ _ _ _ (g.met.F.Folder.only_now c.self.inside.folder) (c.replace.ensures.time faithful)
+    (λ e left. beside_one_of served old old (g.F.Folder.seen c.self.inside.folder) e inside.keeps
+    (inside.staging e left))
+    (sign_moment c.args.note.now (g.F.Folder.seen c.self.inside.folder) served old
+    (g.F.Folder.may_leave c.self.inside.folder) (g.F.Folder.may_leave c.replace.new.self)
+    (note_over g c old has.text) inside.keeps (c.replace.ensures.crash faithful) inside.staging))
 
 pub returns-then-note-gt-MOST_TEXT-clause-any_moment : goal.returns-then-note-gt-MOST_TEXT-clause-any_moment
 returns-then-note-gt-MOST_TEXT-clause-any_moment g c = λ faithful served old next has.
@@ -32,49 +55,18 @@ returns-then-not-is_signed_note-clause-any_moment g c = λ faithful served old n
     c.args.self.now (g.met.F.Folder.only_now c.args.self.now.folder) has
 
 pub returns-in_err-replace-clause-any_moment : goal.returns-in_err-replace-clause-any_moment
-returns-in_err-replace-clause-any_moment g c = λ faithful served old next has.
-    let inside = subst (Has g.F.Folder.seen g.F.Folder.may_leave served old next) (sym c.self.view_is) has in
-    let note = judged old _ _ _ c.args.note.now c.as_slice.ensures.value c.in_ok-text.ensures has.text
-    (c.is_signed_note.ensures.0 c.if-not-is_signed_note.false) in
-    subst (λ (l : LogIn g.row.F.Denot). LeavesOnly g.F.Folder.moment g.F.Folder.left_since l.folder c.replace.new.self
-    (IsOneOf served old old)) c.self.view_is
-    (begins _ _ _ _ _ _ (g.met.F.Folder.only_now c.self.inside.folder) (c.replace.ensures.time faithful)
-    (λ e left. beside_one_of served old old (g.F.Folder.seen c.self.inside.folder) e inside.keeps
-    (inside.staging e left))
-    (sign_moment c.args.note.now (g.F.Folder.seen c.self.inside.folder) served old
-    (g.F.Folder.may_leave c.self.inside.folder) (g.F.Folder.may_leave c.replace.new.self) note inside.keeps
-    (c.replace.ensures.crash faithful) inside.staging))
+returns-in_err-replace-clause-any_moment g c =
+    replaced g (goal.at.returns-in_err-replace-clause-any_moment g c).After-replace
 
 pub returns-clause-any_moment : goal.returns-clause-any_moment
-returns-clause-any_moment g c = λ faithful served old next has.
-    let inside = subst (Has g.F.Folder.seen g.F.Folder.may_leave served old next) (sym c.self.view_is) has in
-    let note = judged old _ _ _ c.args.note.now c.as_slice.ensures.value c.in_ok-text.ensures has.text
-    (c.is_signed_note.ensures.0 c.if-not-is_signed_note.false) in
-    subst (λ (l : LogIn g.row.F.Denot). LeavesOnly g.F.Folder.moment g.F.Folder.left_since l.folder c.replace.new.self
-    (IsOneOf served old old)) c.self.view_is
-    (begins _ _ _ _ _ _ (g.met.F.Folder.only_now c.self.inside.folder) (c.replace.ensures.time faithful)
-    (λ e left. beside_one_of served old old (g.F.Folder.seen c.self.inside.folder) e inside.keeps
-    (inside.staging e left))
-    (sign_moment c.args.note.now (g.F.Folder.seen c.self.inside.folder) served old
-    (g.F.Folder.may_leave c.self.inside.folder) (g.F.Folder.may_leave c.replace.new.self) note inside.keeps
-    (c.replace.ensures.crash faithful) inside.staging))
+returns-clause-any_moment g c = replaced g (goal.at.returns-clause-any_moment g c).After-replace
 
 pub returns-clause-signed : goal.returns-clause-signed
 returns-clause-signed g c = λ faithful served old next has.
-    let inside = subst (Has g.F.Folder.seen g.F.Folder.may_leave served old next) (sym c.self.view_is) has in
-    let note = judged old _ _ _ c.args.note.now c.as_slice.ensures.value c.in_ok-text.ensures has.text
-    (c.is_signed_note.ensures.0 c.if-not-is_signed_note.false) in
-    sign_has g.F.Folder.seen g.F.Folder.may_leave served old next
-    (record {
-      folder = c.self.inside.folder;
-      text = c.self.inside.text;
-      is_open = c.self.inside.is_open;
-      edge = c.self.inside.edge;
-      bundle = c.self.inside.bundle.items;
-      held = c.self.inside.held;
-    })
-    c.replace.new.self c.args.note.now note (c.in_ok-replace.ensures.replaced faithful)
-    (c.in_ok-replace.ensures.durable faithful) inside
+    sign_has g.F.Folder.seen g.F.Folder.may_leave served old next _ c.replace.new.self c.args.note.now
+    (note_over g (goal.at.returns-clause-signed g c).After-replace old has.text)
+    (c.in_ok-replace.ensures.replaced faithful) (c.in_ok-replace.ensures.durable faithful)
+    (subst (Has g.F.Folder.seen g.F.Folder.may_leave served old next) (sym c.self.view_is) has)
 
 pub returns-clause-ready : goal.returns-clause-ready
 returns-clause-ready g c = λ faithful was opened.

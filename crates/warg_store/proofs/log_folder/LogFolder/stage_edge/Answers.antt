@@ -14,9 +14,20 @@ use Rattle.warg_folder.specs.Moments.{LeavesOnly}
 use Rattle.warg_folder.specs.Commits.{IsBeside}
 use Rattle.warg_store.specs.Staged.{staged_all, new_files}
 use Rattle.warg_store.specs.Growing.{LogIn}
-use Rattle.warg_store.proofs.GrowingLemmas.{has_all, last_bundle, same_tile}
+use Rattle.warg_store.proofs.GrowingLemmas.{has_all, last_bundle}
+use Rattle.warg_store.proofs.PathLemmas.{same_tile}
 use Rattle.warg_store.proofs.ReadyRuns.{stages_twice}
+use Rattle.warg_store.proofs.log_folder.LogFolder.stage_edge.Goals.{After-stage_tiles}
 use Rattle.warg_store.proofs.log_folder.LogFolder.stage_edge.Goals as goal
+
+-- making room and staging the tiles leave what is staged beside the log
+tiles_staged : (g : _) (c : After-stage_tiles g) → g.F.Folder.IsFaithful → LeavesOnly g.F.Folder.moment
+    g.F.Folder.left_since c.args.self.now.folder c.stage_tiles.new.folder
+    (IsBeside (g.F.Folder.seen c.args.self.now.folder))
+tiles_staged g c faithful = stages_twice g.met.F.Folder.counts_now g.met.F.Folder.seen_may_stay
+    (subst (λ (l : LogIn g.row.F.Denot). LeavesOnly g.F.Folder.moment g.F.Folder.left_since c.args.self.now.folder
+    l.folder (IsBeside (g.F.Folder.seen c.args.self.now.folder))) (sym c.self.view_is)
+    (c.make_room.ensures.any_moment faithful)) (c.stage_tiles.ensures.any_moment faithful)
 
 pub returns-then-self-eq0-clause-staged : goal.returns-then-self-eq0-clause-staged
 returns-then-self-eq0-clause-staged g c = λ faithful served old next has new own.
@@ -97,31 +108,14 @@ pub returns-in_err-make_room-clause-any_moment : goal.returns-in_err-make_room-c
 returns-in_err-make_room-clause-any_moment g c = λ faithful. c.make_room.ensures.any_moment faithful
 
 pub returns-in_err-stage_tiles-clause-any_moment : goal.returns-in_err-stage_tiles-clause-any_moment
-returns-in_err-stage_tiles-clause-any_moment g c = λ faithful.
-    stages_twice g.F.Folder.seen g.F.Folder.may_leave g.F.Folder.moment g.F.Folder.left_since g.met.F.Folder.counts_now
-    g.met.F.Folder.seen_may_stay c.args.self.now.folder c.self.inside.folder c.stage_tiles.new.folder
-    (subst (λ (f : g.row.F.Denot). LeavesOnly g.F.Folder.moment g.F.Folder.left_since c.args.self.now.folder f
-    (IsBeside (g.F.Folder.seen c.args.self.now.folder)))
-    (sym (ap (λ (l : LogIn g.row.F.Denot). l.folder) c.self.view_is)) (c.make_room.ensures.any_moment faithful))
-    (c.stage_tiles.ensures.any_moment faithful)
+returns-in_err-stage_tiles-clause-any_moment g c =
+    tiles_staged g (goal.at.returns-in_err-stage_tiles-clause-any_moment g c).After-stage_tiles
 
 pub returns-then-self-eq0-clause-any_moment : goal.returns-then-self-eq0-clause-any_moment
-returns-then-self-eq0-clause-any_moment g c = λ faithful.
-    stages_twice g.F.Folder.seen g.F.Folder.may_leave g.F.Folder.moment g.F.Folder.left_since g.met.F.Folder.counts_now
-    g.met.F.Folder.seen_may_stay c.args.self.now.folder c.self.inside.folder c.stage_tiles.new.folder
-    (subst (λ (f : g.row.F.Denot). LeavesOnly g.F.Folder.moment g.F.Folder.left_since c.args.self.now.folder f
-    (IsBeside (g.F.Folder.seen c.args.self.now.folder)))
-    (sym (ap (λ (l : LogIn g.row.F.Denot). l.folder) c.self.view_is)) (c.make_room.ensures.any_moment faithful))
-    (c.stage_tiles.ensures.any_moment faithful)
+returns-then-self-eq0-clause-any_moment g c =
+    tiles_staged g (goal.at.returns-then-self-eq0-clause-any_moment g c).After-stage_tiles
 
 pub returns-clause-any_moment : goal.returns-clause-any_moment
-returns-clause-any_moment g c = λ faithful.
-    stages_twice g.F.Folder.seen g.F.Folder.may_leave g.F.Folder.moment g.F.Folder.left_since g.met.F.Folder.counts_now
-    g.met.F.Folder.seen_may_stay c.args.self.now.folder c.stage_tiles.new.folder c.stage_bundle.new.folder
-    (stages_twice g.F.Folder.seen g.F.Folder.may_leave g.F.Folder.moment g.F.Folder.left_since g.met.F.Folder.counts_now
-    g.met.F.Folder.seen_may_stay c.args.self.now.folder c.self.inside.folder c.stage_tiles.new.folder
-    (subst (λ (f : g.row.F.Denot). LeavesOnly g.F.Folder.moment g.F.Folder.left_since c.args.self.now.folder f
-    (IsBeside (g.F.Folder.seen c.args.self.now.folder)))
-    (sym (ap (λ (l : LogIn g.row.F.Denot). l.folder) c.self.view_is)) (c.make_room.ensures.any_moment faithful))
-    (c.stage_tiles.ensures.any_moment faithful))
+returns-clause-any_moment g c = λ faithful. stages_twice g.met.F.Folder.counts_now g.met.F.Folder.seen_may_stay
+    (tiles_staged g (goal.at.returns-clause-any_moment g c).After-stage_tiles faithful)
     (c.stage_bundle.ensures.any_moment faithful)

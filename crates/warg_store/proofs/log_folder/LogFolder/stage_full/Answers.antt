@@ -13,7 +13,8 @@ use Rattle.warg_folder.specs.Names.{staged}
 use Rattle.warg_folder.specs.Commits.{IsBeside}
 use Rattle.warg_store.specs.Staged.{staged_all, new_files}
 use Rattle.warg_store.specs.Growing.{LogIn}
-use Rattle.warg_store.proofs.GrowingLemmas.{filled_has, bundle_tile, same_tile}
+use Rattle.warg_store.proofs.GrowingLemmas.{filled_has, bundle_tile}
+use Rattle.warg_store.proofs.PathLemmas.{same_tile}
 use Rattle.warg_store.proofs.ReadyRuns.{stages_twice}
 use Rattle.warg_store.proofs.log_folder.LogFolder.stage_full.Goals as goal
 
@@ -54,8 +55,7 @@ returns-clause-has g c = λ faithful served old next held has.
 
 pub returns-in_err-stage_bundle-clause-any_moment : goal.returns-in_err-stage_bundle-clause-any_moment
 returns-in_err-stage_bundle-clause-any_moment g c = λ faithful.
-    stages_twice g.F.Folder.seen g.F.Folder.may_leave g.F.Folder.moment g.F.Folder.left_since g.met.F.Folder.counts_now
-    g.met.F.Folder.seen_may_stay c.args.self.now.folder c.stage_tiles.new.folder c.stage_bundle.new.folder
+    stages_twice g.met.F.Folder.counts_now g.met.F.Folder.seen_may_stay
     (subst (λ (f : g.row.F.Denot). LeavesOnly g.F.Folder.moment g.F.Folder.left_since f c.stage_tiles.new.folder
     (IsBeside (g.F.Folder.seen f))) (ap (λ (l : LogIn g.row.F.Denot). l.folder) c.self.view_is)
     (c.stage_tiles.ensures.any_moment faithful))
@@ -63,8 +63,7 @@ returns-in_err-stage_bundle-clause-any_moment g c = λ faithful.
 
 pub returns-clause-any_moment : goal.returns-clause-any_moment
 returns-clause-any_moment g c = λ faithful.
-    stages_twice g.F.Folder.seen g.F.Folder.may_leave g.F.Folder.moment g.F.Folder.left_since g.met.F.Folder.counts_now
-    g.met.F.Folder.seen_may_stay c.args.self.now.folder c.stage_tiles.new.folder c.stage_bundle.new.folder
+    stages_twice g.met.F.Folder.counts_now g.met.F.Folder.seen_may_stay
     (subst (λ (f : g.row.F.Denot). LeavesOnly g.F.Folder.moment g.F.Folder.left_since f c.stage_tiles.new.folder
     (IsBeside (g.F.Folder.seen f))) (ap (λ (l : LogIn g.row.F.Denot). l.folder) c.self.view_is)
     (c.stage_tiles.ensures.any_moment faithful))

@@ -37,12 +37,12 @@ returns-in_err-text-clause-opens g c = λ faithful log serves.
 
 pub returns-in-None-clause-opens : goal.returns-in-None-clause-opens
 returns-in-None-clause-opens g c = λ faithful log serves.
-    absurd (no_value _ _ c.in-None.is (c.in_ok-text.ensures.text faithful (said_of log) serves.checkpoint.0
+    absurd (no_value c.in-None.is (c.in_ok-text.ensures.text faithful (said_of log) serves.checkpoint.0
     (kept_said log serves.can) serves.checkpoint.1))
 
 pub returns-in-Some-clause-none : goal.returns-in-Some-clause-none
 returns-in-Some-clause-none g c = λ faithful absent.
-    absurd (no_value _ _ ((c.in_ok-text.ensures.none faithful).1 absent) c.in-Some.is)
+    absurd (no_value ((c.in_ok-text.ensures.none faithful).1 absent) c.in-Some.is)
 
 pub returns-in_err-text-clause-none : goal.returns-in_err-text-clause-none
 returns-in_err-text-clause-none g c = λ faithful absent.
@@ -66,5 +66,5 @@ returns-in_err-text-clause-meanwhile g c = λ faithful served old next one.
 pub returns-in-None-clause-meanwhile : goal.returns-in-None-clause-meanwhile
 returns-in-None-clause-meanwhile g c = λ faithful served old next one.
     let is = one_serves served old next (g.F.Folder.seen c.args.folder) one in
-    absurd (no_value _ _ c.in-None.is (c.in_ok-text.ensures.text faithful (said_of is.0) is.1.checkpoint.0
+    absurd (no_value c.in-None.is (c.in_ok-text.ensures.text faithful (said_of is.0) is.1.checkpoint.0
     (kept_said is.0 is.1.can) is.1.checkpoint.1))
