@@ -30,13 +30,13 @@ module _ (H : List ℕ → List ℕ) (updates : ShowsUpdates H) (inserts : Shows
       ≡ Ok true → LeadsOn H (step_of (claim, evidence)) old new
   leads_on (update key old_value new_value old_root new_root) (by_bundle bytes place) old new step passed =
       let shown = updates bytes place key old_value new_value old_root new_root passed in
-      let peers = found_peers (λ (b : MapBundle). b.proofs) place _ shown.bundle shown.peers shown.spelled
+      let peers = found_peers (λ (b : MapBundle). b.proofs) place shown.spelled
       shown.stands in
       subst (λ p. LeadsOn H (record { peers = p; key = key; old_value = old_value; new_value = new_value }) old new)
       peers (shown.old_is ∙ step.0, shown.new_is ∙ step.1)
   leads_on (insertion key value old_root new_root) (by_bundle bytes place) old new step passed =
       let shown = inserts bytes place key value old_root new_root passed in
-      let peers = found_peers (λ (b : MapBundle). b.absences) place _ shown.bundle shown.peers shown.spelled
+      let peers = found_peers (λ (b : MapBundle). b.absences) place shown.spelled
       shown.stands in
       subst (λ p. LeadsOn H (record { peers = p; key = key; old_value = []; new_value = value }) old new) peers
       (rw (empty_leaf H) at (shown.old_is ∙ step.0), shown.new_is ∙ step.1)

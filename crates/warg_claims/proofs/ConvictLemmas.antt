@@ -48,41 +48,42 @@ use Rattle.warg_claims.specs.Placed.{digests_in, path_in}
 use Rattle.warg_claims.proofs.SoundLemmas.{is_held, is_recorded, found_peers, judged_true, found_is, both_are, empty_leaf}
 
 -- What is found of one claim is found of another, where they are met and true together.
-pub transfer : {D A : _} (met met' claim claim' : Type 0) (placed placed' : List ℕ → List ℕ → Type 0)
+pub transfer : {D A : _} {met met' claim claim' : Type 0} {placed placed' : List ℕ → List ℕ → Type 0}
     (finding : Finding D A) → (met → met') → (met' → met) → (met → claim → claim') → (met → claim' → claim)
     → ((first second : List ℕ) → placed first second → placed' first second) → Finds met claim placed finding
     → Finds met' claim' placed' finding
-transfer met met' claim claim' placed placed' NotMet to from holds back at found = λ m. found (from m)
-transfer met met' claim claim' placed placed' Holds to from holds back at found = (to found.0, holds found.0 found.1)
-transfer met met' claim claim' placed placed' (Collision c) to from holds back at found =
-    (to found.0, λ is. found.1 (back found.0 is), at c.0 c.1 found.2)
+transfer NotMet to from holds back at found = λ m. found (from m)
+transfer Holds to from holds back at found = (to found.0, holds found.0 found.1)
+transfer (Collision c) to from holds back at found = (to found.0, λ is. found.1 (back found.0 is), at c.0 c.1 found.2)
 
 -- What is so of a result that is there.
-pub if_ok : {X E : Type 0} (P Q : X → Type 0) (r : Result X E) → ((x : X) → P x → Q x) → IfOk r P → IfOk r Q
-if_ok P Q (Ok x) then is = then x is
-if_ok P Q (Err e) then is = is
+pub if_ok : {X E : Type 0} {P Q : X → Type 0} (r : Result X E) → ((x : X) → P x → Q x) → IfOk r P → IfOk r Q
+if_ok (Ok x) then is = then x is
+if_ok (Err e) then is = is
 
 -- A verdict that was seen to be true is.
-pub seen_true : {E : Type 0} (b : Bool) (of : Result Bool E) → (b ≡ true ↔ (of ≡ Ok true)) → b ≡ true → of ≡ Ok true
-seen_true b of is seen = is.0 seen
+pub seen_true : {E : Type 0} {b : Bool} {of : Result Bool E} → (b ≡ true ↔ (of ≡ Ok true)) → b ≡ true → of ≡ Ok true
+seen_true is seen = is.0 seen
 
 -- A verdict on what stands at a place of a bundle that was read.
-pub judged_there : {B P : Type 0} (proofs : B → List P) (holds : B → P → Bool) (at : ℕ) (read : Result B DecodeError)
-    (b : B) (proof : P) → read ≡ Ok b → slice_get (proofs b) at ≡ Some proof → verdict_at proofs holds at read ≡ Ok true
+pub judged_there : {B P : Type 0} (proofs : B → List P) (holds : B → P → Bool) (at : ℕ) {read : Result B DecodeError}
+    {b : B} {proof : P} → read ≡ Ok b → slice_get (proofs b) at ≡ Some proof → verdict_at proofs holds at read ≡ Ok true
     → holds b proof ≡ true
-judged_there proofs holds at read b proof reads there is = let same : Ok (holds b proof) ≡ Ok true =
-    sym (ap (judged (holds b)) there) ∙ sym (ap (verdict_at proofs holds at) reads) ∙ is in cc
+judged_there proofs holds at {b = b} {proof = proof} reads there is =
+    let same : Ok (holds b proof) ≡ Ok true = sym (ap (judged (holds b)) there)
+    ∙ sym (ap (verdict_at proofs holds at) reads) ∙ is in cc
 
-pub at_place : {P : Type 0} (all taken : List P) (at : ℕ) (proof : P) → taken ≡ all → at < length taken
+pub at_place : {P : Type 0} {all taken : List P} {at : ℕ} {proof : P} → taken ≡ all → at < length taken
     → proof ≡ get_or taken at proof → slice_get all at ≡ Some proof
-at_place all taken at proof same within is = rw (← same) (slice_get_read taken (length taken) at proof refl within is)
+at_place {taken = taken} {at = at} {proof = proof} same within is =
+    rw (← same) (slice_get_read taken (length taken) at proof refl within is)
 
-pub past_place : {P : Type 0} (all taken : List P) (at : ℕ) → taken ≡ all → length taken ≤ at → slice_get all at ≡ None
-past_place all taken at same past = rw (← same) (slice_get_past taken at past)
+pub past_place : {P : Type 0} {all taken : List P} {at : ℕ} → taken ≡ all → length taken ≤ at → slice_get all at ≡ None
+past_place {taken = taken} {at = at} same past = rw (← same) (slice_get_past taken at past)
 
-pub none_there : {B P : Type 0} (proofs : B → List P) (holds : B → P → Bool) (at : ℕ) (read : Result B DecodeError)
-    (b : B) → read ≡ Ok b → slice_get (proofs b) at ≡ None → ¬ (verdict_at proofs holds at read ≡ Ok true)
-none_there proofs holds at read b reads none is = let wrong = sym (ap (judged (holds b)) none)
+pub none_there : {B P : Type 0} (proofs : B → List P) (holds : B → P → Bool) (at : ℕ) {read : Result B DecodeError}
+    {b : B} → read ≡ Ok b → slice_get (proofs b) at ≡ None → ¬ (verdict_at proofs holds at read ≡ Ok true)
+none_there proofs holds at {b = b} reads none is = let wrong = sym (ap (judged (holds b)) none)
     ∙ sym (ap (verdict_at proofs holds at) reads) ∙ is in absurd cc
 
 led_to : (root : List ℕ) (r : Result (List ℕ) InclusionProofError) → is_root root r ≡ true → r ≡ Ok root
@@ -123,25 +124,13 @@ pub entry_convicts : {D A : _} (H : List ℕ → List ℕ) (bytes : List ℕ) (p
     (IsValuePlaced H F value claim.leaf.0 entries) finding
     → Convicts H (entry_at index value log) (by_bundle bytes place) entries finding
 entry_convicts H bytes place index value log entries b claim F finding reads there same_length same_data shown found =
-    let holds =
-    judged_there (λ (b : Bundle). b.included_nodes)
-    (shows_entry H index value log.length log.root) place _ b claim.leaf reads there shown in
-    let parts = entry_parts H index value log.length log.root b claim.leaf holds in
-    let count : claim.log_length ≡ log.length = same_length ∙ parts.1 in
     let G = held_digest b.hashes in
-    let is_claim = leaf_claimed claim index log.length parts.0 count in
-    let own_claim : record { leaf = claim.leaf; log_length = b.log_length } ≡ leaf_claim index log.length =
-    leaf_claimed (record { leaf = claim.leaf; log_length = b.log_length }) index log.length parts.0 parts.1 in
+    let parts = entry_parts H index value log.length log.root b claim.leaf (judged_there (λ (b : Bundle). b.included_nodes)
+    (shows_entry H index value log.length log.root) place reads there shown) in
+    let is_claim = leaf_claimed claim index log.length parts.0 (same_length ∙ parts.1) in
     let leads : inclusion H G (leaf_claim index log.length) (leaf_digest H value) ≡ Ok log.root =
-    ap (λ p. inclusion H G p (leaf_digest H value)) (sym own_claim) ∙ parts.2 in
-    let by_data =
-    subst (λ F. Finds (IsMet H F claim (leaf_digest H value) entries) (IsEntry value claim.leaf.0 entries)
-    (IsValuePlaced H F value claim.leaf.0 entries) finding) same_data found in
-    let by_leaf =
-    subst (λ (p : InclusionClaim). Finds (IsMet H G p (leaf_digest H value) entries)
-    (IsEntry value p.leaf.0 entries) (IsValuePlaced H G value p.leaf.0 entries) finding) is_claim by_data in
-    let leads_of : ℕ → List ℕ → Type 0 = λ n root. inclusion H G (leaf_claim index n) (leaf_digest H value) ≡ Ok root in
-    transfer _ _ _ _ _ _ finding
+    rw (parts.0, parts.1) at parts.2 in
+    transfer finding
     (λ met. record {
       shown = shown;
       roots = record {
@@ -150,12 +139,10 @@ entry_convicts H bytes place index value log entries b claim F finding reads the
       };
     })
     (λ is. record { count = sym is.roots.length; is = leads ∙ ap Ok is.roots.root })
-    (λ met at. is_held H G index value _ entries _ (subst (λ n. leads_of n (root_of H (leaves_of H entries)))
-    (sym met.count) met.is) at)
+    (λ met at. is_held H G index value _ entries _ (rw (← met.count) at met.is) at)
     (λ met at. at_leaf index value entries at)
-    (λ first second at. subst (λ F. IsValuePlaced H F value (2 * index) entries first second)
-    (sym (ap digests_in reads)) at)
-    by_leaf
+    (λ first second at. rw reads at)
+    (rw (same_data, is_claim) at found)
 
 pub entry_path_convicts : {D A : _} (H : List ℕ → List ℕ) (bytes : List ℕ) (index : ℕ) (value : List ℕ)
     (log : RootAndLength) (entries digests : List (List ℕ)) (finding : Finding D A) → hashes_of bytes ≡ Some digests
@@ -165,26 +152,21 @@ pub entry_path_convicts : {D A : _} (H : List ℕ → List ℕ) (bytes : List �
     (IsRecordPlaced H index digests value entries) finding
     → Convicts H (entry_at index value log) (by_path bytes) entries finding
 entry_path_convicts H bytes index value log entries digests finding reads count shown found =
-    let same : path_in (hashes_of bytes) ≡ digests = ap path_in reads in
-    let leads : inclusion_root H index log.length (leaf_digest H value) digests ≡ Some log.root =
-    subst (λ path. inclusion_root H index log.length (leaf_digest H value) path
-    ≡ Some log.root) same (found_is log.root _ (judged_true (shows H (entry_at index value log))
-    (hashes_of bytes) shown).1) in
-    transfer _ _ _ _ _ _ finding
+    let judged = (judged_true (shows H (entry_at index value log)) (hashes_of bytes) shown).1 in
+    let leads : inclusion_root H index (length entries) (leaf_digest H value) digests ≡ Some log.root =
+    rw count (found_is log.root _ (rw reads at judged)) in
+    transfer finding
     (λ met. record {
       shown = shown;
       roots = record {
-        root =
-            (let is : Some log.root ≡ Some (root_of H (leaves_of H entries)) = sym leads
-            ∙ ap (λ n. inclusion_root H index n (leaf_digest H value) digests) (sym count) ∙ met in cc);
-        length =
-            sym count;
+        root = (let is : Some log.root ≡ Some (root_of H (leaves_of H entries)) = sym leads ∙ met in cc);
+        length = sym count;
       };
     })
-    (λ is. ap (λ n. inclusion_root H index n (leaf_digest H value) digests) count ∙ leads ∙ ap Some is.roots.root)
+    (λ is. leads ∙ ap Some is.roots.root)
     (λ met same_entry. is_recorded H index value _ entries _ digests met same_entry)
     (λ met is. get_or_from_slice_get entries index value [] is)
-    (λ first second at. subst (λ path. IsRecordPlaced H index path value entries first second) (sym same) at)
+    (λ first second at. rw reads at)
     found
 
 both_led : (old new : List ℕ) (r : Result (List ℕ × List ℕ) ConsistencyProofError) → are_roots old new r ≡ true
@@ -213,18 +195,11 @@ pub growth_convicts : {D A : _} (H : List ℕ → List ℕ) (bytes : List ℕ) (
     → Convicts H (growth old new) (by_bundle bytes place) (before, after) finding
 growth_convicts H bytes place old new before after b m n held finding reads there same_length same_data shown found =
     let F = held_digest b.hashes in
-    let by_data =
-    subst (λ F. Finds (IsConsistencyMet H F m n before after) (Begins before after)
-    (IsConsistencyPlaced H F before after) finding) same_data found in
-    let by_length =
-    subst (λ n. Finds (IsConsistencyMet H F m n before after) (Begins before after)
-    (IsConsistencyPlaced H F before after) finding) same_length by_data in
-    let parts =
-    growth_parts H old new b m (judged_there (λ (b : Bundle). b.consistent_lengths)
-    (shows_growth H old.length old.root new.length new.root) place _ b m reads there shown) in
+    let parts = growth_parts H old new b m (judged_there (λ (b : Bundle). b.consistent_lengths)
+    (shows_growth H old.length old.root new.length new.root) place reads there shown) in
     let old_root = root_of H (leaves_of H before) in
     let new_root = root_of H (leaves_of H after) in
-    transfer _ _ _ _ _ _ finding
+    transfer finding
     (λ met.
     let is : Ok (old.root, new.root) ≡ Ok (old_root, new_root) = sym parts.2
     ∙ consistency_then H F m b.log_length old_root new_root met.roots in
@@ -246,8 +221,8 @@ growth_convicts H bytes place old new before after b m n held finding reads ther
     })
     (λ met is. is)
     (λ met is. is)
-    (λ first second at. subst (λ F. IsConsistencyPlaced H F before after first second) (sym (ap digests_in reads)) at)
-    by_length
+    (λ first second at. rw reads at)
+    (rw (same_data, same_length) at found)
 
 pub growth_path_convicts : {D A : _} (H : List ℕ → List ℕ) (bytes : List ℕ) (old new : RootAndLength)
     (before after digests : List (List ℕ)) (finding : Finding D A) → hashes_of bytes ≡ Some digests
@@ -258,26 +233,22 @@ pub growth_path_convicts : {D A : _} (H : List ℕ → List ℕ) (bytes : List �
 growth_path_convicts H bytes old new before after digests finding reads old_count new_count old_is shown found =
     let old_root = root_of H (leaves_of H before) in
     let new_root = root_of H (leaves_of H after) in
-    let is_path : path_in (hashes_of bytes) ≡ digests = ap path_in reads in
     let judged = (judged_true (shows H (growth old new)) (hashes_of bytes) shown).1 in
-    let leads : consistency_roots H old.length new.length old.root digests ≡ Some (old.root, new.root) =
-    subst (λ path. consistency_roots H old.length new.length old.root path ≡ Some (old.root, new.root)) is_path
-    (both_are old.root new.root _ judged) in
-    let same : consistency_roots H (length before) (length after) old_root digests
-    ≡ consistency_roots H old.length new.length old.root digests = rw (old_count, new_count, old_is) refl in
-    transfer _ _ _ _ _ _ finding
+    let leads : consistency_roots H (length before) (length after) old_root digests ≡ Some (old.root, new.root) =
+    rw (old_count, new_count, ← old_is) (both_are old.root new.root _ (rw reads at judged)) in
+    transfer finding
     (λ met.
-    let is : Some (old.root, new.root) ≡ Some (old_root, new_root) = sym leads ∙ sym same ∙ met in
+    let is : Some (old.root, new.root) ≡ Some (old_root, new_root) = sym leads ∙ met in
     let both : (old.root, new.root) ≡ (old_root, new_root) = cc in
     let new_is = ap (λ (roots : List ℕ × List ℕ). roots.1) both in
     record {
       shown = shown;
       roots = (record { root = old_is; length = sym old_count }, record { root = new_is; length = sym new_count });
     })
-    (λ is. same ∙ leads ∙ rw (is.roots.0.root, is.roots.1.root) refl)
+    (λ is. leads ∙ rw (is.roots.0.root, is.roots.1.root) refl)
     (λ met is. is)
     (λ met is. is)
-    (λ first second at. subst (λ path. IsTreePlaced H path before after first second) (sym is_path) at)
+    (λ first second at. rw reads at)
     found
 
 -- Peers that lead from two leaf digests to two roots.
@@ -298,15 +269,15 @@ pub key_convicts : {D A : _} (H : List ℕ → List ℕ) (bytes : List ℕ) (pla
 key_convicts H bytes place key value root insertions b peers finding reads there shown found =
     let holds =
     judged_there (λ (b : MapBundle). b.proofs)
-    (λ b. leads H (leaf_digest H value) key root) place _ b peers reads there shown in
+    (λ b. leads H (leaf_digest H value) key root) place reads there shown in
     let is : proof_value H peers (leaf_digest H value) (key_bits H key) ≡ root = same_text _ root (sym holds) in
-    transfer _ _ _ _ _ _ finding
+    transfer finding
     (λ met. record { shown = shown; roots = sym is ∙ met })
     (λ both. is ∙ both.roots)
     (λ met last. last)
     (λ met last. last)
     (λ first second at. subst (λ ps. IsKeyPlaced H ps value key insertions first second)
-    (found_peers (λ (b : MapBundle). b.proofs) place _ b peers reads there) at)
+    (found_peers (λ (b : MapBundle). b.proofs) place reads there) at)
     found
 
 pub absence_convicts : {D A : _} (H : List ℕ → List ℕ) (bytes : List ℕ) (place : ℕ) (key root : List ℕ)
@@ -318,15 +289,15 @@ pub absence_convicts : {D A : _} (H : List ℕ → List ℕ) (bytes : List ℕ) 
 absence_convicts H bytes place key root insertions b peers finding reads there shown found =
     let holds =
     judged_there (λ (b : MapBundle). b.absences)
-    (λ b. leads H (empty_root H 0) key root) place _ b peers reads there shown in
+    (λ b. leads H (empty_root H 0) key root) place reads there shown in
     let is : proof_value H peers (empty_root H 0) (key_bits H key) ≡ root = same_text _ root (sym holds) in
-    transfer _ _ _ _ _ _ finding
+    transfer finding
     (λ met. record { shown = shown; roots = sym is ∙ met })
     (λ both. is ∙ both.roots)
     (λ met last. last)
     (λ met last. last)
     (λ first second at. subst (λ ps. IsKeyPlaced H ps [] key insertions first second)
-    (found_peers (λ (b : MapBundle). b.absences) place _ b peers reads there) at)
+    (found_peers (λ (b : MapBundle). b.absences) place reads there) at)
     found
 
 pub update_convicts : {D A : _} (H : List ℕ → List ℕ) (bytes : List ℕ) (place : ℕ)
@@ -340,15 +311,15 @@ update_convicts H bytes place key old_value new_value old_root new_root old new 
     found =
     let is = both_led_there H key (leaf_digest H old_value) (leaf_digest H new_value) old_root new_root peers
     (judged_there (λ (b : MapBundle). b.proofs)
-    (λ b. leads_both H key (leaf_digest H old_value) (leaf_digest H new_value) old_root new_root) place _ b peers reads
+    (λ b. leads_both H key (leaf_digest H old_value) (leaf_digest H new_value) old_root new_root) place reads
     there shown) in
-    transfer _ _ _ _ _ _ finding
+    transfer finding
     (λ met. record { shown = shown; roots = (sym is.0 ∙ met.before, sym is.1 ∙ met.after) })
     (λ both. record { before = is.0 ∙ both.roots.0; after = is.1 ∙ both.roots.1 })
     (λ met claim. claim)
     (λ met claim. claim)
     (λ first second at. subst (λ ps. IsUpdatePlaced H ps (old_value, new_value) key (old, new) first second)
-    (found_peers (λ (b : MapBundle). b.proofs) place _ b peers reads there) at)
+    (found_peers (λ (b : MapBundle). b.proofs) place reads there) at)
     found
 
 pub insertion_convicts : {D A : _} (H : List ℕ → List ℕ) (bytes : List ℕ) (place : ℕ)
@@ -361,17 +332,17 @@ pub insertion_convicts : {D A : _} (H : List ℕ → List ℕ) (bytes : List ℕ
 insertion_convicts H bytes place key value old_root new_root old new b peers finding reads there shown found =
     let is = both_led_there H key (empty_root H 0) (leaf_digest H value) old_root new_root peers
     (judged_there (λ (b : MapBundle). b.absences)
-    (λ b. leads_both H key (empty_root H 0) (leaf_digest H value) old_root new_root) place _ b peers reads there
+    (λ b. leads_both H key (empty_root H 0) (leaf_digest H value) old_root new_root) place reads there
     shown) in
     let old_is : proof_value H peers (leaf_digest H []) (key_bits H key) ≡ old_root =
     ap (λ x. proof_value H peers x (key_bits H key)) (sym (empty_leaf H)) ∙ is.0 in
-    transfer _ _ _ _ _ _ finding
+    transfer finding
     (λ met. record { shown = shown; roots = (sym old_is ∙ met.before, sym is.1 ∙ met.after) })
     (λ both. record { before = old_is ∙ both.roots.0; after = is.1 ∙ both.roots.1 })
     (λ met claim. claim)
     (λ met claim. claim)
     (λ first second at. subst (λ ps. IsUpdatePlaced H ps ([], value) key (old, new) first second)
-    (found_peers (λ (b : MapBundle). b.absences) place _ b peers reads there) at)
+    (found_peers (λ (b : MapBundle). b.absences) place reads there) at)
     found
 
 -- A bundle's own inclusion proof is met by entries of the root to which it leads, as many as the bundle says.
@@ -383,7 +354,7 @@ pub included : (H : List ℕ → List ℕ) (bytes : List ℕ) (place : ℕ) (val
     → IsMet H (held_digest b.hashes) (record { leaf = node; log_length = b.log_length }) (leaf_digest H value) entries
 included H bytes place value root entries b node reads there shown log =
     let holds =
-    judged_there (λ (b : Bundle). b.included_nodes) (includes H value root) place _ b node reads there shown in
+    judged_there (λ (b : Bundle). b.included_nodes) (includes H value root) place reads there shown in
     record { count = sym log.length; is = led_to root _ holds ∙ ap Ok log.root }
 
 -- A bundle's own consistency proof that leads to two roots shows one log to begin another, at the bundle's lengths.
@@ -393,7 +364,7 @@ pub extended : (H : List ℕ → List ℕ) (bytes : List ℕ) (place : ℕ) (old
     → growth_verdict H bytes place m old b.log_length new ≡ Ok true
 extended H bytes place old new b m reads there shown =
     let lengths = λ (b : Bundle). b.consistent_lengths in
-    let holds = judged_there lengths (extends H old new) place _ b m reads there shown in
+    let holds = judged_there lengths (extends H old new) place reads there shown in
     ap (verdict_at lengths (shows_growth H m old b.log_length new) place) reads
     ∙ ap (judged (shows_growth H m old b.log_length new b)) there
     ∙ ap Ok (rw (eq-eqb m m refl, eq-eqb b.log_length b.log_length refl, holds) refl)

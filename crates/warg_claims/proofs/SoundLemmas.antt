@@ -48,10 +48,10 @@ is_recorded H index value root entries x path leads same = elim (cases_lt index 
 ]
 
 -- the peers at a place of a bundle that was read
-pub found_peers : (proofs : MapBundle → List Peers) (place : ℕ) (read : Result MapBundle DecodeError)
-    (bundle : MapBundle) (peers : Peers) → read ≡ Ok bundle → slice_get (proofs bundle) place ≡ Some peers
+pub found_peers : (proofs : MapBundle → List Peers) (place : ℕ) {read : Result MapBundle DecodeError}
+    {bundle : MapBundle} {peers : Peers} → read ≡ Ok bundle → slice_get (proofs bundle) place ≡ Some peers
     → peers ≡ peers_in proofs place read
-found_peers proofs place read bundle peers reads stands =
+found_peers proofs place reads stands =
     sym (ap (peers_in proofs place) reads ∙ ap (λ o. unwrap_or o []) stands)
 
 -- an empty leaf has the digest of a value without bytes

@@ -21,7 +21,7 @@ use Rattle.warg_pages.specs.Private.Descents.{value_above, IsOwnAt, IsOwnWay, Is
 use Rattle.warg_pages.specs.Private.Finals.{IsWholeWay, IsWholeWayOf, EndsInSome, AreLeft, filled_from, presence_peers}
 use Rattle.warg_pages.proofs.PageRoots.{root-same, root-nothing}
 use Rattle.warg_pages.proofs.HeldHalves.{short_bits}
-use Rattle.warg_pages.proofs.LoneEnds.{nothing_end}
+use Rattle.warg_pages.proofs.LoneEnds.{heads, tails, nothing_end}
 use Rattle.warg_pages.proofs.OwnWays.{nothing_value}
 use Rattle.warg_pages.proofs.PeerCounts.{trimmed_peers, trimmed_value, some_count, no_count}
 use Rattle.warg_pages.proofs.ProofValues.{reversed_value}
@@ -80,16 +80,9 @@ unfolding IsPeers
 lone_ends H held [] n h = absurd (omega arith)
 lone_ends H held (b ∷ bits) n h =
     let height : 255 ≡ length bits = omega arith in (
-      inl (ap (λ k. Some (empty_root H k)) height, λ q. h (not b ∷ q) (other b)),
-      λ q m. h (b ∷ q) (λ e. m (same b e)),
+      inl (ap (λ k. Some (empty_root H k)) height, λ q. h (not b ∷ q) (heads b)),
+      λ q m. h (b ∷ q) (λ e. m (tails b e)),
     )
-  where
-    other : (c : Bool) {q r : List Bool} → ¬ (not c ∷ q ≡ c ∷ r)
-    other true e = cc e
-    other false e = cc e
-
-    same : (c : Bool) {q r : List Bool} → c ∷ q ≡ c ∷ r → q ≡ r
-    same c e = cc
 
 lone_value : (H : List ℕ → List ℕ) (x : List ℕ) (bits : List Bool) → length bits ≡ 256
     → value_above H 0 (Some (empty_root H 255) ∷ []) x bits ≡ value_above H 0 [] x bits
@@ -210,7 +203,7 @@ version_of_all H (e ∷ es) = rw (version_of_all H es) (more (length es))
     more (suc n) = let some : eqb (suc n) 0 ≡ false = false_from_ne_true _ (λ e. let z = eqb-true (suc n) 0 e in
         omega arith) in cond-false _ _ _ some
 
-no_bits : (key : List ℕ) → bits_from key 0 0 ≡ []
+pub no_bits : (key : List ℕ) → bits_from key 0 0 ≡ []
 unfolding bits_from
 no_bits key = refl
 

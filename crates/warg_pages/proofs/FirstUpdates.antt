@@ -19,27 +19,22 @@ use Rattle.warg_pages.specs.Private.Updates.{AreChangesAt, IsNamedAt, ChangeAt, 
 use Rattle.warg_pages.proofs.PremiseLemmas.{empty_page}
 use Rattle.warg_pages.proofs.OwnPages.{own_slots, version_within}
 use Rattle.warg_pages.proofs.OwnWays.{own_bytes, own_page_is}
-use Rattle.warg_pages.proofs.FinalPeers.{own_at_root, last_of_all, version_of_all}
-
-no_bits : (k : List ℕ) → bits_from k 0 0 ≡ []
-unfolding bits_from
-no_bits k = refl
+use Rattle.warg_pages.proofs.FinalPeers.{no_bits, own_at_root, last_of_all, version_of_all}
 
 own_first_bytes : (H : List ℕ → List ℕ) → GivesHashes H → (bytes_at : List ℕ → ℕ → Option (List ℕ)) (root : List ℕ)
     (count : ℕ) (es : List (List ℕ × List ℕ)) → count < 2 ^ 64 → ¬ (count ≡ 0) → IsOwnSource H bytes_at root count es
     → bytes_at [] count ≡ Some (page_bytes (page_of H es []))
 own_first_bytes H gives bytes_at root count es fits some own =
-    own_bytes H bytes_at (H []) root 0 count es (omega arith) (gives _)
-    (own_at_root H bytes_at root (H []) count es fits some own) ∙ ap (λ p. Some (page_bytes (page_of H es p)))
-    (no_bits (H []))
+    own_bytes gives (own_at_root H bytes_at root (H []) count es fits some own) (omega arith) (gives _)
+    ∙ ap (λ p. Some (page_bytes (page_of H es p))) (no_bits (H []))
 
 pub own_first_page : (H : List ℕ → List ℕ) → GivesHashes H → (bytes_at : List ℕ → ℕ → Option (List ℕ)) (root : List ℕ)
     (count : ℕ) (page : List SlotAt) (es : List (List ℕ × List ℕ)) → count < 2 ^ 64 → ¬ (count ≡ 0) → IsPage page
     → IfSome (bytes_at [] count) (λ known. known ≡ page_bytes page)
     → IsOwnSource H bytes_at root count es → page ≡ page_of H es []
 own_first_page H gives bytes_at root count page es fits some is at own =
-    own_page_is H gives bytes_at (H []) root 0 count page es (omega arith) (gives _) is at
-    (own_at_root H bytes_at root (H []) count es fits some own) ∙ ap (page_of H es) (no_bits (H []))
+    own_page_is gives (own_at_root H bytes_at root (H []) count es fits some own) (omega arith) (gives _) is at
+    ∙ ap (page_of H es) (no_bits (H []))
 
 pub first_page_refused : (H : List ℕ → List ℕ) → GivesHashes H → (bytes_at : List ℕ → ℕ → Option (List ℕ))
     (root : List ℕ) (count : ℕ) (es : List (List ℕ × List ℕ)) → count < 2 ^ 64 → ¬ (count ≡ 0)

@@ -39,7 +39,8 @@ use Rattle.warg_pages.proofs.OwnPages as own
 use Rattle.warg_pages.proofs.VisitedRoots as visited
 use Rattle.warg_pages.proofs.AuditedMaps as audit
 
--- The bits of a key: as many as are asked for, those of two parts, the same ones of another key, and those of its first bytes.
+-- The bits of a key: as many as are asked for, those of two parts, the same ones of another key, and those of its first
+-- bytes.
 pub length-bits_from : (bytes : List ℕ) (i n : ℕ) → length (bits_from bytes i n) ≡ n
 length-bits_from = keys.length-bits_from
 
@@ -51,7 +52,8 @@ pub bits_from-same : (a b : List ℕ) (i j n : ℕ) → ((m : ℕ) → m < n →
     → bits_from a i n ≡ bits_from b j n
 bits_from-same = keys.bits_from-same
 
-pub bits_of_taken : (k : List ℕ) (depth : ℕ) → depth ≤ length k → bits_of_bytes (take depth k) ≡ bits_from k 0 (8 * depth)
+pub bits_of_taken : (k : List ℕ) (depth : ℕ) → depth ≤ length k
+    → bits_of_bytes (take depth k) ≡ bits_from k 0 (8 * depth)
 bits_of_taken = descent.bits_of_taken
 
 -- Digits that are written alike are the same.
@@ -208,8 +210,9 @@ own_visit = visits.own_visit
 pub visit_own : (H : List ℕ → List ℕ) (IsLone : List ℕ → SlotAt → List ℕ × List ℕ → Type 0)
     (bytes_at : List ℕ → ℕ → Option (List ℕ)) (tells_all : Type 0) (root : List ℕ)
     (count : ℕ) (insertions : List (List ℕ × List ℕ)) (pages : List ChangedPageAt) → GivesHashes H → count < 2 ^ 64
-    → IsOwnSource H bytes_at root count insertions → AreAllPagesWhere H IsLone (IsAllowed bytes_at tells_all) root count pages
-    → (p : ChangedPageAt) → Contains pages p → (stands H insertions (bits_of_bytes p.prefix) ≡ true)
+    → IsOwnSource H bytes_at root count insertions
+    → AreAllPagesWhere H IsLone (IsAllowed bytes_at tells_all) root count pages → (p : ChangedPageAt)
+    → Contains pages p → (stands H insertions (bits_of_bytes p.prefix) ≡ true)
     × (p.version ≡ version H insertions (bits_of_bytes p.prefix))
 visit_own = visits.visit_own
 

@@ -35,10 +35,10 @@ parted_value H leaf y (c ∷ p) r o b n e =
     rw (parted_value H leaf y p r o b n e, height) refl
 
 -- the peers there
-tails : (c : Bool) {q r : List Bool} → c ∷ q ≡ c ∷ r → q ≡ r
+pub tails : (c : Bool) {q r : List Bool} → c ∷ q ≡ c ∷ r → q ≡ r
 tails c e = cc
 
-heads : (c : Bool) {q r : List Bool} → ¬ (not c ∷ q ≡ c ∷ r)
+pub heads : (c : Bool) {q r : List Bool} → ¬ (not c ∷ q ≡ c ∷ r)
 heads true e = cc e
 heads false e = cc e
 
@@ -84,6 +84,15 @@ pub nothing_end : (H : List ℕ → List ℕ) (held : List Bool → Option (List
 unfolding IsPeers
 nothing_end H held bits none = λ q n. none q
 
+-- the bits of a key below a slot, where a lone key with the same bits stands
+rest_is : (key other : List ℕ) (depth : ℕ) {rest : List Bool} → depth < 32 → bits_from key 0 256 ≡ bits_from other 0 256
+    → last_bits other 256 ≡ bits_from key 0 (8 * depth + 8) ++ rest → last_bits key (slot_height depth) ≡ rest
+rest_is key other depth {rest} lt same begins =
+    let height : 256 - (8 * depth + 8) ≡ slot_height depth = omega arith in
+    append_cancel_left (bits_from key 0 (8 * depth + 8)) (last_bits key (slot_height depth)) rest
+    (ap (λ n. bits_from key 0 (8 * depth + 8) ++ last_bits key n) (sym height)
+    ∙ sym (key_at key (8 * depth + 8) (omega arith)) ∙ same ∙ begins)
+
 -- the end at the key itself
 pub held_end : (H : List ℕ → List ℕ) (key : List ℕ) (depth index : ℕ) (slot : SlotAt) (lone : List ℕ × List ℕ)
     → depth < 32 → bits_from key 0 256 ≡ bits_from lone.0 0 256 → lone_root H key lone.1 (slot_height depth)
@@ -92,36 +101,18 @@ pub held_end : (H : List ℕ → List ℕ) (key : List ℕ) (depth index : ℕ) 
 held_end H key depth index slot lone lt same root version = record {
   few = omega arith;
   leads = root;
-  own = own;
+  own = λ f stands.
+      let rest : last_bits key (slot_height depth) ≡ stands.rest = rest_is key lone.0 depth lt same stands.begins in
+      (rw rest (own_end H f lone.1 stands.rest stands.alone), rw rest stands.alone.this);
   index = (version, same);
 }
-  where
-    own_rest : (key other : List ℕ) (depth : ℕ) (rest : List Bool) → depth < 32 → bits_from key 0 256
-        ≡ bits_from other 0 256 → last_bits other 256 ≡ bits_from key 0 (8 * depth + 8) ++ rest
-        → last_bits key (slot_height depth) ≡ rest
-    own_rest key other depth rest lt same begins =
-        let height : 256 - (8 * depth + 8) ≡ slot_height depth = omega arith in
-        append_cancel_left (bits_from key 0 (8 * depth + 8)) (last_bits key (slot_height depth)) rest
-        (ap (λ n. bits_from key 0 (8 * depth + 8) ++ last_bits key n) (sym height)
-        ∙ sym (key_at key (8 * depth + 8) (omega arith)) ∙ same ∙ begins)
-
-    own : (f : List Bool → Option (List ℕ)) → StandsAlone H (bits_from key 0 (8 * depth + 8)) lone
-        (slot_height depth) slot.digest f → IsPeers H (λ k. None) f (last_bits key (slot_height depth)) []
-        × (f (last_bits key (slot_height depth)) ≡ Some lone.1)
-    own f stands =
-        let rest : last_bits key (slot_height depth) ≡ stands.rest =
-        own_rest key lone.0 depth stands.rest lt same stands.begins in
-        (rw rest (own_end H f lone.1 stands.rest stands.alone), rw rest stands.alone.this)
 
 -- a lone key with this digest that has another root doesn't stand alone
 pub held_no_end : (H : List ℕ → List ℕ) (key : List ℕ) (depth : ℕ) (slot : SlotAt) (lone : List ℕ × List ℕ) → depth < 32
     → bits_from key 0 256 ≡ bits_from lone.0 0 256 → ¬ (lone_root H key lone.1 (slot_height depth) ≡ slot.digest)
     → IsNoLoneKey H key depth slot lone
 held_no_end H key depth slot lone lt same other f stands some =
-    let height : 256 - (8 * depth + 8) ≡ slot_height depth = omega arith in
-    let rest : last_bits key (slot_height depth) ≡ stands.rest = append_cancel_left (bits_from key 0 (8 * depth + 8))
-    (last_bits key (slot_height depth)) stands.rest (ap (λ n. bits_from key 0 (8 * depth + 8) ++ last_bits key n)
-    (sym height) ∙ sym (key_at key (8 * depth + 8) (omega arith)) ∙ same ∙ stands.begins) in
+    let rest : last_bits key (slot_height depth) ≡ stands.rest = rest_is key lone.0 depth lt same stands.begins in
     let size : length stands.rest ≡ slot_height depth = ap length (sym rest)
     ∙ length-last_bits key (slot_height depth) in
     other (ap (value_above H 0 [] lone.1) rest ∙ sym (alone_value H f lone.1 stands.rest stands.alone)
@@ -135,36 +126,33 @@ pub record Parting (key other : List ℕ) (depth shared : ℕ) : Type 0 where
   pub apart : ¬ (bit_at key shared ≡ bit_at other shared)
 
 -- the bits of both, below the slot
-key_parts : (key other : List ℕ) (depth shared : ℕ) → Parting key other depth shared
-    → last_bits key (slot_height depth) ≡ bits_from key (8 * depth + 8) (shared - (8 * depth + 8)) ++ bit_at key shared
-    ∷ last_bits key (255 - shared)
-key_parts key other depth shared h =
-    let below = h.below in
-    let parts = h.parts in
-    let height : slot_height depth ≡ 256 - (8 * depth + 8) = omega arith in
-    ap (last_bits key) height ∙ last_at key (8 * depth + 8) shared below parts
+module _ {key other : List ℕ} {depth shared : ℕ} (h : Parting key other depth shared) where
+  abbrev front : List Bool
+  front = bits_from key (8 * depth + 8) (shared - (8 * depth + 8))
 
-other_parts : (key other : List ℕ) (depth shared : ℕ) → Parting key other depth shared
-    → last_bits other (slot_height depth) ≡ bits_from key (8 * depth + 8) (shared - (8 * depth + 8)) ++ not
-    (bit_at key shared) ∷ last_bits other (255 - shared)
-other_parts key other depth shared h =
-    let below = h.below in
-    let parts = h.parts in
-    let height : slot_height depth ≡ 256 - (8 * depth + 8) = omega arith in
-    let same = (shared_from key other (8 * depth + 8) shared below h.same).1 in
-    let bit = other_bit_is (bit_at key shared) (bit_at other shared) h.apart in
-    ap (last_bits other) height ∙ last_at other (8 * depth + 8) shared below parts
-    ∙ (λ i. sym same i ++ bit i ∷ last_bits other (255 - shared))
+  below_slot : (k : List ℕ) → last_bits k (slot_height depth)
+      ≡ bits_from k (8 * depth + 8) (shared - (8 * depth + 8)) ++ bit_at k shared ∷ last_bits k (255 - shared)
+  below_slot k =
+      let parts = h.parts in
+      let below = h.below in
+      let height : slot_height depth ≡ 256 - (8 * depth + 8) = omega arith in
+      ap (last_bits k) height ∙ last_at k (8 * depth + 8) shared below parts
 
-other_rest : (key other : List ℕ) (depth shared : ℕ) (rest : List Bool) → Parting key other depth shared
-    → last_bits other 256 ≡ bits_from key 0 (8 * depth + 8) ++ rest → rest ≡ last_bits other (slot_height depth)
-other_rest key other depth shared rest h begins =
-    let below = h.below in
-    let parts = h.parts in
-    let height : 256 - (8 * depth + 8) ≡ slot_height depth = omega arith in
-    let first = (shared_from key other (8 * depth + 8) shared below h.same).0 in
-    append_cancel_left (bits_from key 0 (8 * depth + 8)) rest (last_bits other (slot_height depth))
-    (sym begins ∙ key_at other (8 * depth + 8) (omega arith) ∙ (λ i. sym first i ++ last_bits other (height i)))
+  other_parts : last_bits other (slot_height depth) ≡ front ++ not (bit_at key shared) ∷ last_bits other (255 - shared)
+  other_parts =
+      let same = (shared_from key other (8 * depth + 8) shared h.below h.same).1 in
+      let bit = other_bit_is (bit_at key shared) (bit_at other shared) h.apart in
+      below_slot other ∙ (λ i. sym same i ++ bit i ∷ last_bits other (255 - shared))
+
+  other_rest : {rest : List Bool} → last_bits other 256 ≡ bits_from key 0 (8 * depth + 8) ++ rest
+      → rest ≡ last_bits other (slot_height depth)
+  other_rest {rest} begins =
+      let parts = h.parts in
+      let below = h.below in
+      let height : 256 - (8 * depth + 8) ≡ slot_height depth = omega arith in
+      let first = (shared_from key other (8 * depth + 8) shared below h.same).0 in
+      append_cancel_left (bits_from key 0 (8 * depth + 8)) rest (last_bits other (slot_height depth))
+      (sym begins ∙ key_at other (8 * depth + 8) (omega arith) ∙ (λ i. sym first i ++ last_bits other (height i)))
 
 -- as many as they are
 length-replicate : (n : ℕ) → length (replicate {A = Option (List ℕ)} n None) ≡ n
@@ -187,20 +175,17 @@ parted_end H key depth shared slot lone tree h is root =
         length-replicate (shared - (8 * depth + 8)),
       ) (omega arith);
       leads = ap (value_above H 0 (parting_peers (shared - (8 * depth + 8)) tree) (empty_root H 0))
-          (key_parts key lone.0 depth shared h)
+          (below_slot h key)
           ∙ ap (λ n. value_above H 0 (parting_peers n tree) (empty_root H 0)
-          (p ++ bit_at key shared ∷ last_bits key (255 - shared))) (sym size)
-          ∙ parted_value H lone.1 tree p (last_bits key (255 - shared)) (last_bits lone.0 (255 - shared))
+          (front h ++ bit_at key shared ∷ last_bits key (255 - shared))) (sym size)
+          ∙ parted_value H lone.1 tree (front h) (last_bits key (255 - shared)) (last_bits lone.0 (255 - shared))
           (bit_at key shared) sizes is
-          ∙ ap (value_above H 0 [] lone.1) (sym (other_parts key lone.0 depth shared h)) ∙ root;
+          ∙ ap (value_above H 0 [] lone.1) (sym (other_parts h)) ∙ root;
       own = own;
       index = tt;
     }
   where
-    p : List Bool
-    p = bits_from key (8 * depth + 8) (shared - (8 * depth + 8))
-
-    size : length (bits_from key (8 * depth + 8) (shared - (8 * depth + 8))) ≡ shared - (8 * depth + 8)
+    size : length (front h) ≡ shared - (8 * depth + 8)
     size = length-bits_from key (8 * depth + 8) (shared - (8 * depth + 8))
 
     sizes : length (last_bits key (255 - shared)) ≡ length (last_bits lone.0 (255 - shared))
@@ -211,23 +196,19 @@ parted_end H key depth shared slot lone tree h is root =
         → IsPeers H (λ k. None) f (last_bits key (slot_height depth)) (parting_peers (shared - (8 * depth + 8)) tree)
         × (f (last_bits key (slot_height depth)) ≡ None)
     own f stands =
-        let rest : stands.rest ≡ bits_from key (8 * depth + 8) (shared - (8 * depth + 8)) ++ not (bit_at key shared)
-        ∷ last_bits lone.0 (255 - shared) = other_rest key lone.0 depth shared stands.rest h stands.begins
-        ∙ other_parts key lone.0 depth shared h in
-        let alone = rw rest at stands.alone in
-        let peers = parted_peers H f lone.1 tree (bits_from key (8 * depth + 8) (shared - (8 * depth + 8)))
-        (last_bits key (255 - shared)) (last_bits lone.0 (255 - shared)) (bit_at key shared) sizes is alone in (
-          rw (key_parts key lone.0 depth shared h) (rw size at peers),
-          rw (key_parts key lone.0 depth shared h)
-              (alone.others _ (λ e. heads_back (bit_at key shared)
-              (append_cancel_left (bits_from key (8 * depth + 8) (shared - (8 * depth + 8))) _ _ e))),
+        let alone = rw (other_rest h stands.begins ∙ other_parts h) at stands.alone in
+        let peers = parted_peers H f lone.1 tree (front h) (last_bits key (255 - shared))
+        (last_bits lone.0 (255 - shared)) (bit_at key shared) sizes is alone in (
+          rw (below_slot h key) (rw size at peers),
+          rw (below_slot h key)
+              (alone.others _ (λ e. heads_back (bit_at key shared) (append_cancel_left (front h) _ _ e))),
         )
 
 pub parted_no_end : (H : List ℕ → List ℕ) (key : List ℕ) (depth shared : ℕ) (slot : SlotAt) (lone : List ℕ × List ℕ)
     → Parting key lone.0 depth shared → ¬ (lone_root H lone.0 lone.1 (slot_height depth) ≡ slot.digest)
     → IsNoLoneKey H key depth slot lone
 parted_no_end H key depth shared slot lone h other f stands some =
-    let rest = other_rest key lone.0 depth shared stands.rest h stands.begins in
+    let rest = other_rest h stands.begins in
     let size : length stands.rest ≡ slot_height depth = ap length rest ∙ length-last_bits lone.0 (slot_height depth) in
     other (ap (value_above H 0 [] lone.1) (sym rest) ∙ sym (alone_value H f lone.1 stands.rest stands.alone)
     ∙ ap (λ k. root_of_levels H k f) size ∙ sym stands.is_root)

@@ -51,7 +51,8 @@ lone_alone H lone prefix s is lt begins =
 
     here : held rest ≡ Some lone.1
     here = ap (λ bits. held_by (lone ∷ []) bits) whole
-        ∙ ap (λ b. option_map (λ (l : List ℕ × List ℕ). l.1) (cond b (Some lone) None)) (same_bits-itself (last_bits lone.0 256))
+        ∙ ap (λ b. option_map (λ (l : List ℕ × List ℕ). l.1) (cond b (Some lone) None))
+        (same_bits-itself (last_bits lone.0 256))
 
     others : (q : List Bool) → ¬ (q ≡ rest) → held q ≡ None
     others q apart = ap (λ b. option_map (λ (l : List ℕ × List ℕ). l.1) (cond b (Some lone) None)) (false_from_ne_true _

@@ -15,6 +15,10 @@ use Rattle.warg_pages.proofs.OneMore.{slot_of-other, page_off_way, longer, last_
 use Rattle.warg_pages.proofs.OwnWays.{some_version}
 use Rattle.warg_pages.proofs.LoneSlots.{last_passes}
 
+-- an insertion, if it is below a prefix, has the key digest of this one
+abbrev is_alike : (List ℕ → List ℕ) → List Bool → List ℕ × List ℕ → List ℕ × List ℕ → Bool
+is_alike H p e f = not (is_below H p f) || same_bits (key_bits H e.0) (key_bits H f.0)
+
 -- what one insertion elsewhere leaves, several do
 pub quiet : {X : Type 0} (H : List ℕ → List ℕ) (p : List Bool) (F : List (List ℕ × List ℕ) → X)
     → ((es : List (List ℕ × List ℕ)) (e : List ℕ × List ℕ) → is_below H p e ≡ false → F (es ++ e ∷ []) ≡ F es)
@@ -30,15 +34,6 @@ pub quiet_slot : (H : List ℕ → List ℕ) (old more : List (List ℕ × List 
 quiet_slot H old more p s none = quiet H (p ++ byte_bits s) (λ l. slot_of H l p s)
     (λ es e f. slot_of-other H es e p s f) old more none
 
-pub quiet_page : (H : List ℕ → List ℕ) (old more : List (List ℕ × List ℕ)) (p : List Bool)
-    → last_with (is_below H p) more ≡ None → page_of H (old ++ more) p ≡ page_of H old p
-quiet_page H old more p none = quiet H p (λ l. page_of H l p) (λ es e f. page_off_way H es e p f) old more none
-
-pub quiet_version : (H : List ℕ → List ℕ) (old more : List (List ℕ × List ℕ)) (p : List Bool)
-    → last_with (is_below H p) more ≡ None → version H (old ++ more) p ≡ version H old p
-quiet_version H old more p none = quiet H p (λ l. version H l p) (λ es e f. last_place-more (is_below H p) es e
-    ∙ cond-false _ _ _ f) old more none
-
 stands-other : (H : List ℕ → List ℕ) (p : List Bool) (es : List (List ℕ × List ℕ)) (e : List ℕ × List ℕ)
     → is_below H p e ≡ false → stands H (es ++ e ∷ []) p ≡ stands H es p
 stands-other H p es e f = ap (stands_over H (es ++ e ∷ []) p) (last_with-more (is_below H p) es e ∙ cond-false _ _ _ f)
@@ -46,12 +41,19 @@ stands-other H p es e f = ap (stands_over H (es ++ e ∷ []) p) (last_with-more 
   where
     over : (last : Option (List ℕ × List ℕ)) → stands_over H (es ++ e ∷ []) p last ≡ stands_over H es p last
     over None = refl
-    over (Some x) = ap (λ b. eqb (length p) 0 || not b)
-        (list_all-more (λ y. not (is_below H p y) || same_bits (key_bits H x.0) (key_bits H y.0)) es e (rw f refl))
+    over (Some x) = ap (λ b. eqb (length p) 0 || not b) (list_all-more (is_alike H p x) es e (rw f refl))
 
-pub quiet_stands : (H : List ℕ → List ℕ) (old more : List (List ℕ × List ℕ)) (p : List Bool)
-    → last_with (is_below H p) more ≡ None → stands H (old ++ more) p ≡ stands H old p
-quiet_stands H old more p none = quiet H p (λ l. stands H l p) (stands-other H p) old more none
+module _ (H : List ℕ → List ℕ) (old more : List (List ℕ × List ℕ)) (p : List Bool)
+    (none : last_with (is_below H p) more ≡ None) where
+  pub quiet_page : page_of H (old ++ more) p ≡ page_of H old p
+  quiet_page = quiet H p (λ l. page_of H l p) (λ es e f. page_off_way H es e p f) old more none
+
+  pub quiet_version : version H (old ++ more) p ≡ version H old p
+  quiet_version = quiet H p (λ l. version H l p)
+      (λ es e f. last_place-more (is_below H p) es e ∙ cond-false _ _ _ f) old more none
+
+  pub quiet_stands : stands H (old ++ more) p ≡ stands H old p
+  quiet_stands = quiet H p (λ l. stands H l p) (stands-other H p) old more none
 
 -- the last of two lists
 pub last_with-append : {X : Type 0} (p : X → Bool) (xs ys : List X) → last_with p (xs ++ ys)
@@ -101,21 +103,20 @@ none_longer H p q (x ∷ es) h =
     rw (none_longer H p q es parts.0, longer p q (key_bits H x.0) parts.1) refl
 
 -- tests that agree where another holds of all
-pub last_same : {X : Type 0} (p q r : X → Bool) → ((x : X) → r x ≡ true → p x ≡ q x) → (xs : List X)
-    → list_all r xs ≡ true → last_with p xs ≡ last_with q xs
-unfolding last_with
-last_same p q r h [] all = refl
-last_same p q r h (x ∷ xs) all =
-    let parts = and_parts (r x) (list_all r xs) all in
-    rw (last_same p q r h xs parts.1, h x parts.0) refl
+module _ {X : Type 0} (p q r : X → Bool) (h : (x : X) → r x ≡ true → p x ≡ q x) where
+  pub last_same : (xs : List X) → list_all r xs ≡ true → last_with p xs ≡ last_with q xs
+  unfolding last_with
+  last_same [] all = refl
+  last_same (x ∷ xs) all =
+      let parts = and_parts (r x) (list_all r xs) all in
+      rw (last_same xs parts.1, h x parts.0) refl
 
-pub place_same : {X : Type 0} (p q r : X → Bool) → ((x : X) → r x ≡ true → p x ≡ q x) → (xs : List X)
-    → list_all r xs ≡ true → last_place p xs ≡ last_place q xs
-unfolding last_place
-place_same p q r h [] all = refl
-place_same p q r h (x ∷ xs) all =
-    let parts = and_parts (r x) (list_all r xs) all in
-    rw (place_same p q r h xs parts.1, h x parts.0) refl
+  pub place_same : (xs : List X) → list_all r xs ≡ true → last_place p xs ≡ last_place q xs
+  unfolding last_place
+  place_same [] all = refl
+  place_same (x ∷ xs) all =
+      let parts = and_parts (r x) (list_all r xs) all in
+      rw (place_same xs parts.1, h x parts.0) refl
 
 pub all_weaker : {X : Type 0} (r q : X → Bool) → ((x : X) → r x ≡ true → q x ≡ true) → (xs : List X)
     → list_all r xs ≡ true → list_all q xs ≡ true
@@ -151,8 +152,7 @@ all_none H p k (x ∷ es) h =
 
 -- where a lone key stands below a prefix, it does below a longer one
 agree_longer : (H : List ℕ → List ℕ) (p q : List Bool) (e x : List ℕ × List ℕ) → is_below H (p ++ q) e ≡ true
-    → (not (is_below H p x) || same_bits (key_bits H e.0) (key_bits H x.0)) ≡ true
-    → is_below H p x ≡ is_below H (p ++ q) x
+    → is_alike H p e x ≡ true → is_below H p x ≡ is_below H (p ++ q) x
 agree_longer H p q e x under t = either (is_below H p x) refl
   where
     either : (b : Bool) → is_below H p x ≡ b → is_below H p x ≡ is_below H (p ++ q) x
@@ -171,16 +171,13 @@ pub lone_longer : (H : List ℕ → List ℕ) (es : List (List ℕ × List ℕ))
     → last_with (is_below H p) es ≡ Some e → is_lone H es p e ≡ true → is_below H (p ++ q) e ≡ true
     → LoneLonger H es p q e
 lone_longer H es p q e last lone under = record {
-  is_last = sym (last_same (is_below H p) (is_below H (p ++ q))
-      (λ f. not (is_below H p f) || same_bits (key_bits H e.0) (key_bits H f.0)) (λ f t. agree_longer H p q e f under t)
-      es lone) ∙ last;
-  alone = all_weaker (λ f. not (is_below H p f) || same_bits (key_bits H e.0) (key_bits H f.0))
-      (λ f. not (is_below H (p ++ q) f) || same_bits (key_bits H e.0) (key_bits H f.0))
+  is_last = sym (last_same (is_below H p) (is_below H (p ++ q)) (is_alike H p e)
+      (λ f t. agree_longer H p q e f under t) es lone) ∙ last;
+  alone = all_weaker (is_alike H p e) (is_alike H (p ++ q) e)
       (λ f t. ap (λ b. not b || same_bits (key_bits H e.0) (key_bits H f.0)) (sym (agree_longer H p q e f under t)) ∙ t)
       es lone;
-  is_version = sym (place_same (is_below H p) (is_below H (p ++ q))
-      (λ f. not (is_below H p f) || same_bits (key_bits H e.0) (key_bits H f.0)) (λ f t. agree_longer H p q e f under t)
-      es lone);
+  is_version = sym (place_same (is_below H p) (is_below H (p ++ q)) (is_alike H p e)
+      (λ f t. agree_longer H p q e f under t) es lone);
 }
 
 -- elsewhere below the shorter prefix nothing stands
@@ -193,8 +190,7 @@ lone_elsewhere H es p q e lone off = by_last (last_with (is_below H (p ++ q)) es
     by_last (Some x) h =
         let here = last_passes (is_below H (p ++ q)) es x h in
         let up : is_below H p x ≡ true = shorter (is_below H p x) refl here in
-        let all = all_last (λ f. not (is_below H p f) || same_bits (key_bits H e.0) (key_bits H f.0))
-        (is_below H (p ++ q)) es x lone h in
+        let all = all_last (is_alike H p e) (is_below H (p ++ q)) es x lone h in
         let same : same_bits (key_bits H e.0) (key_bits H x.0) ≡ true = rw up at all in
         let there : is_below H (p ++ q) e ≡ true = ap (begins (p ++ q))
         (same_bits-true (key_bits H e.0) (key_bits H x.0) same) ∙ here in

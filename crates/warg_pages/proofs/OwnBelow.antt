@@ -19,7 +19,7 @@ use Rattle.warg_pages.proofs.PageFormat.{one_page, same_parts}
 use Rattle.warg_pages.proofs.KeyPrefixes.{length-bits_from}
 use Rattle.warg_pages.proofs.BitParts.{key_at}
 use Rattle.warg_pages.proofs.OwnPages.{own_slots}
-use Rattle.warg_pages.proofs.OwnDescent.{OwnSlot, own_slot_over, bits_of_taken}
+use Rattle.warg_pages.proofs.OwnDescent.{own_slot_over, bits_of_taken}
 use Rattle.warg_pages.proofs.HeldHalves.{begins-rest}
 use Rattle.warg_pages.proofs.LoneSlots.{lone_of, last_passes, some_same}
 use Rattle.warg_pages.proofs.OneMore.{with_one}
@@ -121,36 +121,26 @@ own_over H gives es prefix s (Some f) x lone bytes short l e is =
           (H f.0, leaf_digest H f.1) ∷ []) version_is;
     }
 
-pub own_lone_below : (H : List ℕ → List ℕ) → GivesHashes H → (bytes_at : List ℕ → ℕ → Option (List ℕ)) (prefix : List ℕ)
-    (x : SlotAt) (lone : List ℕ × List ℕ) (es : List (List ℕ × List ℕ)) → length prefix < 32
-    → IsOwnBelow H bytes_at prefix (Some x) es → x.lone ≡ Some lone → OwnLoneBelow H es prefix x lone
-own_lone_below H gives bytes_at prefix x lone es short own is = own_over H gives es prefix own.byte
-    (last_with (is_below H (bits_of_bytes prefix)) es) x lone own.are_bytes short refl own.is_slot is
-
 -- what an own slot of a page says of it
-own_slot_below : (H : List ℕ → List ℕ) (bytes_at : List ℕ → ℕ → Option (List ℕ)) (prefix : List ℕ) (x : SlotAt)
-    (es : List (List ℕ × List ℕ)) → IsOwnBelow H bytes_at prefix (Some x) es → OwnSlot H es (bits_of_bytes prefix) x
-own_slot_below H bytes_at prefix x es own = own_slot_over H es (bits_of_bytes prefix) own.byte _ x refl
-    (sym own.is_slot)
+module _ {H : List ℕ → List ℕ} (gives : GivesHashes H) {bytes_at : List ℕ → ℕ → Option (List ℕ)} {prefix : List ℕ}
+    {x : SlotAt} {es : List (List ℕ × List ℕ)} (own : IsOwnBelow H bytes_at prefix (Some x) es)
+    (short : length prefix < 32) where
+  pub own_lone_below : {lone : List ℕ × List ℕ} → x.lone ≡ Some lone → OwnLoneBelow H es prefix x lone
+  own_lone_below {lone} is = own_over H gives es prefix own.byte (last_with (is_below H (bits_of_bytes prefix)) es) x
+      lone own.are_bytes short refl own.is_slot is
 
-own_bytes_below : (H : List ℕ → List ℕ) (bytes_at : List ℕ → ℕ → Option (List ℕ)) (prefix : List ℕ) (x : SlotAt)
-    (es : List (List ℕ × List ℕ)) → length prefix < 32 → IsOwnBelow H bytes_at prefix (Some x) es → x.lone ≡ None
-    → bytes_at prefix x.version ≡ Some (page_bytes (page_of H es (bits_of_bytes prefix)))
-own_bytes_below H bytes_at prefix x es short own none =
-    let slot = own_slot_below H bytes_at prefix x es own in
-    ap (bytes_at prefix) slot.version ∙ own.pages prefix own.are_bytes short (slot.page none)
+  own_bytes_below : x.lone ≡ None → bytes_at prefix x.version ≡ Some (page_bytes (page_of H es (bits_of_bytes prefix)))
+  own_bytes_below none =
+      let slot = own_slot_over H es (bits_of_bytes prefix) own.byte _ x refl (sym own.is_slot) in
+      ap (bytes_at prefix) slot.version ∙ own.pages prefix own.are_bytes short (slot.page none)
 
-pub own_page_below : (H : List ℕ → List ℕ) → GivesHashes H → (bytes_at : List ℕ → ℕ → Option (List ℕ)) (prefix : List ℕ)
-    (x : SlotAt) (page : List SlotAt) (es : List (List ℕ × List ℕ)) → length prefix < 32 → IsPage page
-    → IfSome (bytes_at prefix x.version) (λ known. known ≡ page_bytes page)
-    → IsOwnBelow H bytes_at prefix (Some x) es → x.lone ≡ None → page ≡ page_of H es (bits_of_bytes prefix)
-own_page_below H gives bytes_at prefix x page es short is at own none =
-    one_page page (page_of H es (bits_of_bytes prefix)) is (own_slots H es (bits_of_bytes prefix) gives own.fits)
-    (sym (rw (own_bytes_below H bytes_at prefix x es short own none) at at))
+  pub own_page_below : {page : List SlotAt} → IsPage page
+      → IfSome (bytes_at prefix x.version) (λ known. known ≡ page_bytes page) → x.lone ≡ None
+      → page ≡ page_of H es (bits_of_bytes prefix)
+  own_page_below {page} is at none = one_page page (page_of H es (bits_of_bytes prefix)) is
+      (own_slots H es (bits_of_bytes prefix) gives own.fits) (sym (rw (own_bytes_below none) at at))
 
-pub own_page_refused : (H : List ℕ → List ℕ) → GivesHashes H → (bytes_at : List ℕ → ℕ → Option (List ℕ))
-    (prefix : List ℕ) (x : SlotAt) (es : List (List ℕ × List ℕ)) → length prefix < 32
-    → ((slots : List SlotAt) → IsPage slots → bytes_at prefix x.version ≢ Some (page_bytes slots))
-    → IsOwnBelow H bytes_at prefix (Some x) es → x.lone ≡ None → ⊥
-own_page_refused H gives bytes_at prefix x es short fault own none = fault (page_of H es (bits_of_bytes prefix))
-    (own_slots H es (bits_of_bytes prefix) gives own.fits) (own_bytes_below H bytes_at prefix x es short own none)
+  pub own_page_refused : ((slots : List SlotAt) → IsPage slots → bytes_at prefix x.version ≢ Some (page_bytes slots))
+      → x.lone ≡ None → ⊥
+  own_page_refused fault none = fault (page_of H es (bits_of_bytes prefix))
+      (own_slots H es (bits_of_bytes prefix) gives own.fits) (own_bytes_below none)

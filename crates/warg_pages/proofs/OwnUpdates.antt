@@ -49,13 +49,17 @@ changes_next H gives prefix changes byte n more short lt are =
     (length-bits prefix) short lt))
     ∙ ap (changes_below H n more) (sym (bits-more prefix byte))
 
-pub changes_there : (H : List ℕ → List ℕ) → GivesHashes H → (bytes_at : List ℕ → ℕ → Option (List ℕ)) (prefix : List ℕ)
-    (slots : List SlotAt) (changes : List ChangeAt) (byte : ℕ) (old more : List (List ℕ × List ℕ)) → length prefix < 32
-    → byte < 256
-    → IsOwnChange H bytes_at prefix slots changes old more → filter (goes_to (length prefix) byte) changes
-    ≡ changes_below H (length old) more (bits_of_bytes (prefix ++ byte ∷ []))
-changes_there H gives bytes_at prefix slots changes byte old more short lt own =
-    changes_next H gives prefix changes byte (length old) more short lt own.are_changes
+-- the bits of a prefix with a byte more
+abbrev bits_with : List ℕ → ℕ → List Bool
+bits_with prefix byte = bits_of_bytes (prefix ++ byte ∷ [])
+
+sizes : (prefix : List ℕ) (byte : ℕ) → length (bits_with prefix byte) ≡ 8 * length prefix + 8
+sizes prefix byte = length-bits (prefix ++ byte ∷ []) ∙ (let n = length-append prefix (byte ∷ []) in omega arith)
+
+slot_of-with : (H : List ℕ → List ℕ) (es : List (List ℕ × List ℕ)) (prefix : List ℕ) (byte : ℕ)
+    → slot_over H es (bits_with prefix byte) byte (last_with (is_below H (bits_with prefix byte)) es)
+    ≡ slot_of H es (bits_of_bytes prefix) byte
+slot_of-with H es prefix byte = ap (λ p. slot_over H es p byte (last_with (is_below H p) es)) (bits-more prefix byte)
 
 -- the last of them is that of the last insertion below
 pub record LastThere (H : List ℕ → List ℕ) (n : ℕ) (q : List Bool) (more : List (List ℕ × List ℕ))
@@ -71,161 +75,25 @@ last_there H n q more c e = by_last (last_with (is_below H q) more) refl (sym (l
     by_last : (o : Option (List ℕ × List ℕ)) → last_with (is_below H q) more ≡ o
         → option_map (put_by H (n + last_place (is_below H q) more)) (last_with (is_below H q) more) ≡ Some c
         → LastThere H n q more c
-    by_last None l h = absurd (let none : None
-        ≡ Some c = sym (ap (option_map (put_by H (n + last_place (is_below H q) more))) l) ∙ h in cc)
-    by_last (Some f) l h = record {
-      last = f;
-      is_last = l;
-      is_change = some_same (sym h ∙ ap (option_map (put_by H (n + last_place (is_below H q) more))) l);
-    }
+    by_last None l h = absurd (let none : None ≡ Some c = rw l at h in cc)
+    by_last (Some f) l h = record { last = f; is_last = l; is_change = some_same (sym (rw l at h)) }
 
 none_there : (H : List ℕ → List ℕ) (n : ℕ) (q : List Bool) (more : List (List ℕ × List ℕ))
     → last_of (changes_below H n more q) ≡ None → last_with (is_below H q) more ≡ None
-none_there H n q more e = by_last (last_with (is_below H q) more) refl (sym (last_change H q n more) ∙ e)
+none_there H n q more e = by_last (last_with (is_below H q) more) (sym (last_change H q n more) ∙ e)
   where
-    by_last : (o : Option (List ℕ × List ℕ)) → last_with (is_below H q) more ≡ o
-        → option_map (put_by H (n + last_place (is_below H q) more)) (last_with (is_below H q) more) ≡ None
-        → last_with (is_below H q) more ≡ None
-    by_last None l h = l
-    by_last (Some f) l h = absurd (let some : Some (put_by H (n + last_place (is_below H q) more) f)
-        ≡ None = sym (ap (option_map (put_by H (n + last_place (is_below H q) more))) l) ∙ h in cc)
-
--- the slot before
-own_there : (H : List ℕ → List ℕ) (bytes_at : List ℕ → ℕ → Option (List ℕ)) (prefix : List ℕ) (slots : List SlotAt)
-    (changes : List ChangeAt) (byte : ℕ) (old more : List (List ℕ × List ℕ)) → byte < 256
-    → IsOwnChange H bytes_at prefix slots changes old more → slot_at slots byte
-    ≡ slot_of H old (bits_of_bytes prefix) byte
-own_there H bytes_at prefix slots changes byte old more lt own = ap (λ xs. slot_at xs byte) own.are_slots
-    ∙ own_slot_at H old (bits_of_bytes prefix) byte lt
-
-pub own_below : (H : List ℕ → List ℕ) (bytes_at : List ℕ → ℕ → Option (List ℕ)) (prefix : List ℕ) (slots : List SlotAt)
-    (changes : List ChangeAt) (byte : ℕ) (old more : List (List ℕ × List ℕ)) → byte < 256
-    → IsOwnChange H bytes_at prefix slots changes old more → IsOwnBelow H bytes_at (prefix ++ byte ∷ [])
-    (slot_at slots byte) old
-own_below H bytes_at prefix slots changes byte old more lt own =
-    let fits = own.fits in
-    record {
-      pages = own.pages;
-      fits = omega arith;
-      are_bytes = All-append IsByte prefix (byte ∷ []) own.are_bytes (All-cons IsByte byte [] lt (All-nil IsByte));
-      byte = byte;
-      is_slot = own_there H bytes_at prefix slots changes byte old more lt own
-          ∙ ap (λ q. slot_over H old q byte (last_with (is_below H q) old)) (sym (bits-more prefix byte));
-    }
-
--- with no change the slot stays
-pub slot_stays : (H : List ℕ → List ℕ) → GivesHashes H → (bytes_at : List ℕ → ℕ → Option (List ℕ)) (prefix : List ℕ)
-    (slots : List SlotAt) (changes : List ChangeAt) (byte : ℕ) (old more : List (List ℕ × List ℕ)) → length prefix < 32
-    → byte < 256
-    → last_of (filter (goes_to (length prefix) byte) changes) ≡ None
-    → IsOwnChange H bytes_at prefix slots changes old more
-    → IsUpdatedSlot H old more prefix byte (slot_at slots byte) []
-slot_stays H gives bytes_at prefix slots changes byte old more short lt last own = record {
-  is_slot = own_there H bytes_at prefix slots changes byte old more lt own
-      ∙ sym (quiet_slot H old more (bits_of_bytes prefix) byte
-      (ap (λ q. last_with (is_below H q) more) (sym (bits-more prefix byte)) ∙ none));
-  changed = none_among H old more (GoesOn (prefix ++ byte ∷ [])) nowhere;
-}
-  where
-    none : last_with (is_below H (bits_of_bytes (prefix ++ byte ∷ []))) more ≡ None
-    none = none_there H (length old) (bits_of_bytes (prefix ++ byte ∷ [])) more
-        (ap last_of (sym (changes_there H gives bytes_at prefix slots changes byte old more short lt own)) ∙ last)
-
-    nowhere : (below : List ℕ) → GoesOn (prefix ++ byte ∷ []) below → ChangesAt H old more below → ⊥
-    nowhere below kind changes =
-        let bits : bits_of_bytes below ≡ bits_of_bytes (prefix ++ byte ∷ []) ++ bits_of_bytes kind.0 =
-        ap bits_of_bytes kind.1 ∙ bits-append (prefix ++ byte ∷ []) kind.0 in
-        let no_one = ap (λ q. last_with (is_below H q) more) bits ∙ none_longer H (bits_of_bytes (prefix ++ byte ∷ []))
-        (bits_of_bytes kind.0) more none in
-        let same = quiet_version H old more (bits_of_bytes below) no_one in
-        let le = version_within (is_below H (bits_of_bytes below)) old in
-        let later = changes.later in omega arith
-
--- where a key stays alone, its slot is that of the last change
-sizes : (prefix : List ℕ) (byte : ℕ) → length (bits_of_bytes (prefix ++ byte ∷ [])) ≡ 8 * length prefix + 8
-sizes prefix byte = length-bits (prefix ++ byte ∷ []) ∙ (let n = length-append prefix (byte ∷ []) in omega arith)
-
-alone_after : (H : List ℕ → List ℕ) → (bytes_at : List ℕ → ℕ → Option (List ℕ)) (prefix : List ℕ) (slots : List SlotAt)
-    (changes there : List ChangeAt) (byte : ℕ) (e : List ℕ × List ℕ) (old more : List (List ℕ × List ℕ)) → byte < 256
-    → there ≡ changes_below H (length old) more (bits_of_bytes (prefix ++ byte ∷ []))
-    → StaysAlone (H e.0) (slot_at slots byte) there → IsOwnChange H bytes_at prefix slots changes old more
-    → is_lone H (old ++ more) (bits_of_bytes (prefix ++ byte ∷ [])) e ≡ true
-alone_after H bytes_at prefix slots changes there byte e old more lt are stays own =
-    let below = own_below H bytes_at prefix slots changes byte old more lt own in
-    stays_lone H old more (bits_of_bytes (prefix ++ byte ∷ [])) byte (length old) e
-    (subst_both (own_there H bytes_at prefix slots changes byte old more lt own
-    ∙ ap (λ q. slot_over H old q byte (last_with (is_below H q) old)) (sym (bits-more prefix byte))) are stays)
-  where
-    subst_both : {o r : Option SlotAt} {xs ys : List ChangeAt} → o ≡ r → xs ≡ ys → StaysAlone (H e.0) o xs
-        → StaysAlone (H e.0) r ys
-    subst_both {r = r} {xs = xs} p q h =
-        let P : Option SlotAt → Type 0 = λ o. StaysAlone (H e.0) o xs in
-        let Q : List ChangeAt → Type 0 = λ l. StaysAlone (H e.0) r l in subst Q q (subst P p h)
-
-pub slot_alone : (H : List ℕ → List ℕ) → GivesHashes H → (bytes_at : List ℕ → ℕ → Option (List ℕ)) (prefix : List ℕ)
-    (slots : List SlotAt) (changes : List ChangeAt) (byte : ℕ) (c : ChangeAt) (old more : List (List ℕ × List ℕ))
-    → length prefix < 32 → byte < 256
-    → last_of (filter (goes_to (length prefix) byte) changes) ≡ Some c
-    → StaysAlone c.key (slot_at slots byte) (filter (goes_to (length prefix) byte) changes)
-    → IsOwnChange H bytes_at prefix slots changes old more
-    → IsUpdatedSlot H old more prefix byte (Some (lone_slot H (length prefix) byte c.version (c.key, c.leaf))) []
-slot_alone H gives bytes_at prefix slots changes byte c old more short lt last stays own =
-    let are = changes_there H gives bytes_at prefix slots changes byte old more short lt own in
-    let there = last_there H (length old) (bits_of_bytes (prefix ++ byte ∷ [])) more c (ap last_of (sym are) ∙ last) in
-    let P : ChangeAt → Type 0 = λ c. StaysAlone c.key (slot_at slots byte)
-    (filter (goes_to (length prefix) byte) changes)
-    → IsUpdatedSlot H old more prefix byte (Some (lone_slot H (length prefix) byte c.version (c.key, c.leaf))) [] in
-    subst P (sym there.is_change) (λ stays. of_last there.last there.is_last
-    (alone_after H bytes_at prefix slots changes _ byte there.last old more lt are stays own)) stays
-  where
-    of_last : (e : List ℕ × List ℕ) → last_with (is_below H (bits_of_bytes (prefix ++ byte ∷ []))) more ≡ Some e
-        → is_lone H (old ++ more) (bits_of_bytes (prefix ++ byte ∷ [])) e ≡ true
-        → IsUpdatedSlot H old more prefix byte
-        (Some (lone_slot H (length prefix) byte
-        (length old + last_place (is_below H (bits_of_bytes (prefix ++ byte ∷ []))) more)
-        (H e.0, leaf_digest H e.1))) []
-    of_last e is_last lone =
-        let q : List Bool = bits_of_bytes (prefix ++ byte ∷ []) in
-        let size = sizes prefix byte in
-        let of_all = last_with-later (is_below H q) old more e is_last in
-        record {
-          is_slot = ap (λ v. Some (lone_slot H (length prefix) byte v (H e.0, leaf_digest H e.1)))
-              (sym (last_place-later (is_below H q) old more e is_last))
-              ∙ sym (lone_slot_is H (old ++ more) q (length prefix) byte e size short of_all lone)
-              ∙ ap (λ p. slot_over H (old ++ more) p byte (last_with (is_below H p) (old ++ more)))
-              (bits-more prefix byte);
-          changed = none_among H old more (GoesOn (prefix ++ byte ∷ [])) (λ below kind changes.
-              let bits : bits_of_bytes below ≡ q ++ bits_of_bytes kind.0 = ap bits_of_bytes kind.1
-              ∙ bits-append (prefix ++ byte ∷ []) kind.0 in
-              no_page_lone H (old ++ more) q (bits_of_bytes kind.0) e (omega arith) of_all lone
-              (ap (stands H (old ++ more)) (sym bits) ∙ changes.is_there));
-        }
-
--- and else the page below it changes
-other_alone : (H : List ℕ → List ℕ) → GivesHashes H → (bytes_at : List ℕ → ℕ → Option (List ℕ)) (prefix : List ℕ)
-    (slots : List SlotAt) (changes there : List ChangeAt) (byte : ℕ) (e : List ℕ × List ℕ)
-    (old more : List (List ℕ × List ℕ)) → byte < 256
-    → there ≡ changes_below H (length old) more (bits_of_bytes (prefix ++ byte ∷ []))
-    → ¬ StaysAlone (H e.0) (slot_at slots byte) there → IsOwnChange H bytes_at prefix slots changes old more
-    → ¬ (is_lone H (old ++ more) (bits_of_bytes (prefix ++ byte ∷ [])) e ≡ true)
-other_alone H gives bytes_at prefix slots changes there byte e old more lt are other own lone =
-    other (subst_both (sym (own_there H bytes_at prefix slots changes byte old more lt own
-    ∙ ap (λ q. slot_over H old q byte (last_with (is_below H q) old)) (sym (bits-more prefix byte)))) (sym are)
-    (lone_stays H gives old more (bits_of_bytes (prefix ++ byte ∷ [])) byte (length old) e lone))
-  where
-    subst_both : {o r : Option SlotAt} {xs ys : List ChangeAt} → o ≡ r → xs ≡ ys → StaysAlone (H e.0) o xs
-        → StaysAlone (H e.0) r ys
-    subst_both {r = r} {xs = xs} p q h =
-        let P : Option SlotAt → Type 0 = λ o. StaysAlone (H e.0) o xs in
-        let Q : List ChangeAt → Type 0 = λ l. StaysAlone (H e.0) r l in subst Q q (subst P p h)
+    by_last : (o : Option (List ℕ × List ℕ)) → option_map (put_by H (n + last_place (is_below H q) more)) o ≡ None
+        → o ≡ None
+    by_last None h = refl
+    by_last (Some f) h = absurd (cc)
 
 named_digest : (H : List ℕ → List ℕ) (old : List (List ℕ × List ℕ)) (prefix : List ℕ) (byte : ℕ) (slot : Option SlotAt)
-    → slot ≡ slot_over H old (bits_of_bytes (prefix ++ byte ∷ [])) byte
-    (last_with (is_below H (bits_of_bytes (prefix ++ byte ∷ []))) old)
+    → slot ≡ slot_over H old (bits_with prefix byte) byte
+    (last_with (is_below H (bits_with prefix byte)) old)
     → slot_digest H (length prefix) slot ≡ root_of_levels H (256 - 8 * length (prefix ++ byte ∷ []))
-    (below (map_of H old) (bits_of_bytes (prefix ++ byte ∷ [])))
+    (below (map_of H old) (bits_with prefix byte))
 named_digest H old prefix byte slot is =
-    let q : List Bool = bits_of_bytes (prefix ++ byte ∷ []) in
+    let q : List Bool = bits_with prefix byte in
     let size = sizes prefix byte in
     let height : 256 - length q ≡ slot_height (length prefix) = omega arith in
     let all : slot_height (length prefix) ≡ 256 - 8 * length (prefix ++ byte ∷ []) = let n = length-append prefix
@@ -238,89 +106,166 @@ named_digest H old prefix byte slot is =
     as_digest None = refl
     as_digest (Some x) = refl
 
+-- an own slot's lone key has the slot's digest
+has_digest : (H : List ℕ → List ℕ) (es : List (List ℕ × List ℕ)) (q : List Bool) (depth s : ℕ)
+    (last : Option (List ℕ × List ℕ)) → length q ≡ 8 * depth + 8 → depth < 32 → last_with (is_below H q) es ≡ last
+    → HasLoneDigest H depth (slot_over H es q s last)
+has_digest H es q depth s None size lt l = tt
+has_digest H es q depth s (Some e) size lt l = λ lone is.
+    let found = lone_of (is_lone H es q e) (H e.0, leaf_digest H e.1) lone is in
+    let height : 256 - length q ≡ slot_height depth = omega arith in
+    let P : List ℕ × List ℕ → Type 0 = λ v. lone_root H v.0 v.1 (slot_height depth) ≡ root_of_levels H (256 - length q)
+    (below (map_of H es) q) in
+    subst P found.1 (sym (lone_over_is H es q s e l found.0 (omega arith)
+    ∙ ap (lone_root H (H e.0) (leaf_digest H e.1)) height))
+
+-- a byte of an own page, and the changes that go to it
+module _ {H : List ℕ → List ℕ} (gives : GivesHashes H) {bytes_at : List ℕ → ℕ → Option (List ℕ)} {prefix : List ℕ}
+    {slots : List SlotAt} {changes : List ChangeAt} {old more : List (List ℕ × List ℕ)}
+    (own : IsOwnChange H bytes_at prefix slots changes old more) (byte : ℕ) (short : length prefix < 32)
+    (lt : byte < 256) where
+  abbrev here : List ChangeAt
+  here = filter (goes_to (length prefix) byte) changes
+
+  are_here : here ≡ changes_below H (length old) more (bits_with prefix byte)
+  are_here = changes_next H gives prefix changes byte (length old) more short lt own.are_changes
+
+  -- the slot before
+  slot_before : slot_at slots byte ≡ slot_of H old (bits_of_bytes prefix) byte
+  slot_before = ap (λ xs. slot_at xs byte) own.are_slots ∙ own_slot_at H old (bits_of_bytes prefix) byte lt
+
+  slot_is : slot_at slots byte
+      ≡ slot_over H old (bits_with prefix byte) byte (last_with (is_below H (bits_with prefix byte)) old)
+  slot_is = slot_before ∙ sym (slot_of-with H old prefix byte)
+
+  pub own_below : IsOwnBelow H bytes_at (prefix ++ byte ∷ []) (slot_at slots byte) old
+  own_below = let fits = own.fits in record {
+    pages = own.pages;
+    fits = omega arith;
+    are_bytes = All-append IsByte prefix (byte ∷ []) own.are_bytes (All-cons IsByte byte [] lt (All-nil IsByte));
+    byte = byte;
+    is_slot = slot_is;
+  }
+
+  -- with no change the slot stays
+  pub slot_stays : last_of here ≡ None → IsUpdatedSlot H old more prefix byte (slot_at slots byte) []
+  slot_stays last = record {
+    is_slot = slot_before ∙ sym (quiet_slot H old more (bits_of_bytes prefix) byte
+        (ap (λ q. last_with (is_below H q) more) (sym (bits-more prefix byte)) ∙ none));
+    changed = none_among H old more (GoesOn (prefix ++ byte ∷ [])) nowhere;
+  }
+    where
+      none : last_with (is_below H (bits_with prefix byte)) more ≡ None
+      none = none_there H (length old) (bits_with prefix byte) more (ap last_of (sym are_here) ∙ last)
+
+      nowhere : (below : List ℕ) → GoesOn (prefix ++ byte ∷ []) below → ChangesAt H old more below → ⊥
+      nowhere below kind changes =
+          let bits : bits_of_bytes below ≡ bits_with prefix byte ++ bits_of_bytes kind.0 =
+          ap bits_of_bytes kind.1 ∙ bits-append (prefix ++ byte ∷ []) kind.0 in
+          let no_one = ap (λ q. last_with (is_below H q) more) bits ∙ none_longer H (bits_with prefix byte)
+          (bits_of_bytes kind.0) more none in
+          let same = quiet_version H old more (bits_of_bytes below) no_one in
+          let le = version_within (is_below H (bits_of_bytes below)) old in
+          let later = changes.later in omega arith
+
+  last_here : (c : ChangeAt) → last_of here ≡ Some c → LastThere H (length old) (bits_with prefix byte) more c
+  last_here c last = last_there H (length old) (bits_with prefix byte) more c (ap last_of (sym are_here) ∙ last)
+
+  -- where a key stays alone, its slot is that of the last change
+  pub slot_alone : (c : ChangeAt) → last_of here ≡ Some c → StaysAlone c.key (slot_at slots byte) here
+      → IsUpdatedSlot H old more prefix byte (Some (lone_slot H (length prefix) byte c.version (c.key, c.leaf))) []
+  slot_alone c last stays =
+      let q : List Bool = bits_with prefix byte in
+      let size = sizes prefix byte in
+      let there = last_here c last in
+      let e = there.last in
+      let lone : is_lone H (old ++ more) q e ≡ true = stays_lone H old more q byte (length old) e
+      (rw (there.is_change, slot_is, are_here) at stays) in
+      let of_all = last_with-later (is_below H q) old more e there.is_last in
+      rw there.is_change record {
+        is_slot = ap (λ v. Some (lone_slot H (length prefix) byte v (H e.0, leaf_digest H e.1)))
+            (sym (last_place-later (is_below H q) old more e there.is_last))
+            ∙ sym (lone_slot_is H (old ++ more) q (length prefix) byte e size short of_all lone)
+            ∙ slot_of-with H (old ++ more) prefix byte;
+        changed = none_among H old more (GoesOn (prefix ++ byte ∷ [])) (λ below kind changes.
+            let bits : bits_of_bytes below ≡ q ++ bits_of_bytes kind.0 = ap bits_of_bytes kind.1
+            ∙ bits-append (prefix ++ byte ∷ []) kind.0 in
+            no_page_lone H (old ++ more) q (bits_of_bytes kind.0) e (omega arith) of_all lone
+            (ap (stands H (old ++ more)) (sym bits) ∙ changes.is_there));
+      }
+
+  -- and else the page below it changes
+  not_alone : {c : ChangeAt} (there : LastThere H (length old) (bits_with prefix byte) more c)
+      → ¬ StaysAlone c.key (slot_at slots byte) here
+      → ¬ (is_lone H (old ++ more) (bits_with prefix byte) there.last ≡ true)
+  not_alone there other lone = other (rw (there.is_change, slot_is, are_here)
+      (lone_stays H gives old more (bits_with prefix byte) byte (length old) there.last lone))
+
+  pub page_changes : (c : ChangeAt) (page : List SlotAt) → length prefix < 31 → last_of here ≡ Some c
+      → ¬ StaysAlone c.key (slot_at slots byte) here
+      → IsReadBelow H bytes_at (prefix ++ byte ∷ []) (slot_at slots byte) page
+      → IsOwnUpdate H bytes_at (prefix ++ byte ∷ []) c.version (slot_digest H (length prefix) (slot_at slots byte)) page
+      here old more
+  page_changes c page low last other read =
+      let q : List Bool = bits_with prefix byte in
+      let there = last_here c last in
+      let number : c.version ≡ length old + last_place (is_below H q) more =
+      ap (λ (c : ChangeAt). c.version) there.is_change in
+      let of_all = last_with-later (is_below H q) old more there.last there.is_last in
+      let place = last_place-later (is_below H q) old more there.last there.is_last in
+      let some = some_version (is_below H q) more there.last there.is_last in
+      let n = length-append prefix (byte ∷ []) in
+      record {
+        own = record {
+          pages = own.pages;
+          fits = own.fits;
+          are_bytes = own_below.are_bytes;
+          are_slots = read old own_below;
+          are_changes = are_here;
+        };
+        changed = record {
+          are_bytes = own_below.are_bytes;
+          short = omega arith;
+          is_there = page_not_lone H (old ++ more) q there.last of_all (not_alone there other);
+          later = omega arith;
+        };
+        is_version = number ∙ sym place;
+        is_digest = named_digest H old prefix byte (slot_at slots byte) slot_is;
+      }
+
+  -- two key digests don't share all their bytes
+  pub none_at_last : (c : ChangeAt) → length prefix ≡ 31 → last_of here ≡ Some c
+      → ¬ StaysAlone c.key (slot_at slots byte) here → ⊥
+  none_at_last c full last other =
+      let q : List Bool = bits_with prefix byte in
+      let there = last_here c last in
+      let size = sizes prefix byte in
+      not_alone there other (all_one H q there.last (old ++ more) (omega arith)
+      (last_passes (is_below H q) more there.last there.is_last))
+
+  pub slot_has_digest : HasLoneDigest H (length prefix) (slot_at slots byte)
+  slot_has_digest = rw slot_is (has_digest H old (bits_with prefix byte) (length prefix) byte
+      (last_with (is_below H (bits_with prefix byte)) old) (sizes prefix byte) short refl)
+
 -- the digest of the page before
-pub digest_before : (H : List ℕ → List ℕ) (bytes_at : List ℕ → ℕ → Option (List ℕ)) (prefix : List ℕ) (number : ℕ)
-    (named : List ℕ) (slots : List SlotAt) (changes : List ChangeAt) (old more : List (List ℕ × List ℕ))
-    → length prefix < 32
-    → IsOwnUpdate H bytes_at prefix number named slots changes old more → page_digest H (length prefix) slots ≡ named
-digest_before H bytes_at prefix number named slots changes old more short own =
+pub digest_before : {H : List ℕ → List ℕ} {bytes_at : List ℕ → ℕ → Option (List ℕ)} {prefix : List ℕ} {number : ℕ}
+    {named : List ℕ} {slots : List SlotAt} {changes : List ChangeAt} {old more : List (List ℕ × List ℕ)}
+    → IsOwnUpdate H bytes_at prefix number named slots changes old more → length prefix < 32
+    → page_digest H (length prefix) slots ≡ named
+digest_before {H} {prefix = prefix} {old = old} own short =
     ap (page_digest H (length prefix)) own.own.are_slots ∙ page_root H old (bits_of_bytes prefix) (length prefix) short
     (length-bits prefix) ∙ sym own.is_digest
 
-pub page_changes : (H : List ℕ → List ℕ) → GivesHashes H → (bytes_at : List ℕ → ℕ → Option (List ℕ)) (prefix : List ℕ)
-    (slots : List SlotAt) (changes : List ChangeAt) (byte : ℕ) (c : ChangeAt) (page : List SlotAt)
-    (old more : List (List ℕ × List ℕ)) → length prefix < 31 → byte < 256
-    → last_of (filter (goes_to (length prefix) byte) changes) ≡ Some c → ¬ StaysAlone c.key (slot_at slots byte)
-    (filter (goes_to (length prefix) byte) changes) → IsReadBelow H bytes_at (prefix ++ byte ∷ [])
-    (slot_at slots byte) page
-    → IsOwnChange H bytes_at prefix slots changes old more → IsOwnUpdate H bytes_at (prefix ++ byte ∷ []) c.version
-    (slot_digest H (length prefix) (slot_at slots byte)) page (filter (goes_to (length prefix) byte) changes) old
-    more
-page_changes H gives bytes_at prefix slots changes byte c page old more short lt last other read own =
-    let q : List Bool = bits_of_bytes (prefix ++ byte ∷ []) in
-    let are = changes_there H gives bytes_at prefix slots changes byte old more (omega arith) lt own in
-    let there = last_there H (length old) q more c (ap last_of (sym are) ∙ last) in
-    let below = own_below H bytes_at prefix slots changes byte old more lt own in
-    let key : c.key ≡ H there.last.0 = ap (λ (c : ChangeAt). c.key) there.is_change in
-    let number : c.version ≡ length old + last_place (is_below H q) more =
-    ap (λ (c : ChangeAt). c.version) there.is_change in
-    let P : List ℕ → Type 0 = λ k. ¬ StaysAlone k (slot_at slots byte)
-    (filter (goes_to (length prefix) byte) changes) in
-    let not_lone = other_alone H gives bytes_at prefix slots changes _ byte there.last old more lt are
-    (subst P key other) own in
-    let of_all = last_with-later (is_below H q) old more there.last there.is_last in
-    let place = last_place-later (is_below H q) old more there.last there.is_last in
-    let some = some_version (is_below H q) more there.last there.is_last in
-    let n = length-append prefix (byte ∷ []) in
-    record {
-      own = record {
-        pages = own.pages;
-        fits = own.fits;
-        are_bytes = below.are_bytes;
-        are_slots = read old below;
-        are_changes = are;
-      };
-      changed = record {
-        are_bytes = below.are_bytes;
-        short = omega arith;
-        is_there = page_not_lone H (old ++ more) q there.last of_all not_lone;
-        later = omega arith;
-      };
-      is_version = number ∙ sym place;
-      is_digest = named_digest H old prefix byte (slot_at slots byte)
-          (own_there H bytes_at prefix slots changes byte old more lt own
-          ∙ ap (λ p. slot_over H old p byte (last_with (is_below H p) old)) (sym (bits-more prefix byte)));
-    }
-
--- two key digests don't share all their bytes
-pub none_at_last : (H : List ℕ → List ℕ) → GivesHashes H → (bytes_at : List ℕ → ℕ → Option (List ℕ)) (prefix : List ℕ)
-    (slots : List SlotAt) (changes : List ChangeAt) (byte : ℕ) (c : ChangeAt) (old more : List (List ℕ × List ℕ))
-    → length prefix ≡ 31 → byte < 256
-    → last_of (filter (goes_to (length prefix) byte) changes) ≡ Some c → ¬ StaysAlone c.key (slot_at slots byte)
-    (filter (goes_to (length prefix) byte) changes) → IsOwnChange H bytes_at prefix slots changes old more → ⊥
-none_at_last H gives bytes_at prefix slots changes byte c old more full lt last other own =
-    let q : List Bool = bits_of_bytes (prefix ++ byte ∷ []) in
-    let are = changes_there H gives bytes_at prefix slots changes byte old more (omega arith) lt own in
-    let there = last_there H (length old) q more c (ap last_of (sym are) ∙ last) in
-    let key : c.key ≡ H there.last.0 = ap (λ (c : ChangeAt). c.key) there.is_change in
-    let P : List ℕ → Type 0 = λ k. ¬ StaysAlone k (slot_at slots byte)
-    (filter (goes_to (length prefix) byte) changes) in
-    let not_lone = other_alone H gives bytes_at prefix slots changes _ byte there.last old more lt are
-    (subst P key other) own in
-    let size = sizes prefix byte in
-    not_lone (all_one H q there.last (old ++ more) (omega arith)
-    (last_passes (is_below H q) more there.last there.is_last))
-
 -- the slot of a page that changed
-pub slot_of_page : (H : List ℕ → List ℕ) (bytes_at : List ℕ → ℕ → Option (List ℕ)) (prefix : List ℕ) (byte number : ℕ)
-    (named digest : List ℕ) (slots : List SlotAt) (changes : List ChangeAt) (pages : List ChangedPageAt)
-    (old more : List (List ℕ × List ℕ))
+pub slot_of_page : {H : List ℕ → List ℕ} {bytes_at : List ℕ → ℕ → Option (List ℕ)} {number : ℕ}
+    {named digest : List ℕ} {slots : List SlotAt} {changes : List ChangeAt} {pages : List ChangedPageAt}
+    {old more : List (List ℕ × List ℕ)} (prefix : List ℕ) (byte : ℕ)
     → IsOwnUpdate H bytes_at (prefix ++ byte ∷ []) number named slots changes old more
     → IsUpdated H old more (prefix ++ byte ∷ []) digest pages
     → IsUpdatedSlot H old more prefix byte (Some record { byte = byte; version = number; digest = digest; lone = None })
     pages
-slot_of_page H bytes_at prefix byte number named digest slots changes pages old more own updated =
-    let q : List Bool = bits_of_bytes (prefix ++ byte ∷ []) in
+slot_of_page {H} {number = number} {digest = digest} {old = old} {more = more} prefix byte own updated =
+    let q : List Bool = bits_with prefix byte in
     let size = sizes prefix byte in
     let all = length-bits (prefix ++ byte ∷ []) in
     let root : digest ≡ root_of_levels H (256 - length q) (below (map_of H (old ++ more)) q) = updated.is_root
@@ -328,8 +273,7 @@ slot_of_page H bytes_at prefix byte number named digest slots changes pages old 
     record {
       is_slot = (λ i. Some record { byte = byte; version = own.is_version i; digest = root i; lone = None })
           ∙ sym (page_slot_is H (old ++ more) q byte (last_with (is_below H q) (old ++ more))
-          (omega arith) own.changed.is_there)
-          ∙ ap (λ p. slot_over H (old ++ more) p byte (last_with (is_below H p) (old ++ more))) (bits-more prefix byte);
+          (omega arith) own.changed.is_there) ∙ slot_of-with H (old ++ more) prefix byte;
       changed = updated.changed;
     }
 
@@ -356,16 +300,17 @@ slots_below xs (Some x) n all is = All-append (λ (x : SlotAt). x.byte < n + 1) 
     (All-nil (λ (x : SlotAt). x.byte < n + 1)))
 
 -- all of them
-pub page_updated : (H : List ℕ → List ℕ) (bytes_at : List ℕ → ℕ → Option (List ℕ)) (prefix : List ℕ) (number : ℕ)
-    (named : List ℕ) (slots : List SlotAt) (changes : List ChangeAt) (fresh : List SlotAt) (pages : List ChangedPageAt)
-    (old more : List (List ℕ × List ℕ)) → length prefix < 32
-    → IsOwnUpdate H bytes_at prefix number named slots changes old more
+pub page_updated : {H : List ℕ → List ℕ} {bytes_at : List ℕ → ℕ → Option (List ℕ)} {prefix : List ℕ} {number : ℕ}
+    {named : List ℕ} {slots : List SlotAt} {changes : List ChangeAt} {fresh : List SlotAt}
+    {old more : List (List ℕ × List ℕ)} (pages : List ChangedPageAt)
+    → IsOwnUpdate H bytes_at prefix number named slots changes old more → length prefix < 32
     → fresh ≡ filter_map (slot_of H (old ++ more) (bits_of_bytes prefix)) (numbers 0 256)
     → AreChangedAmong H old more (GoesBelow prefix 256) pages
     → IsUpdated H old more prefix (page_digest H (length prefix) fresh)
     (pages ++ record { prefix = prefix; version = number; page = fresh } ∷ [])
 unfolding page_of
-page_updated H bytes_at prefix number named slots changes fresh pages old more short own are among =
+page_updated {H} {prefix = prefix} {number = number} {fresh = fresh} {old = old} {more = more} pages own short are
+    among =
     let page : fresh ≡ page_of H (old ++ more) (bits_of_bytes prefix) = are in
     let named : record { prefix = prefix; version = number; page = fresh } ≡ page_at H (old ++ more) prefix =
     λ i. record { prefix = prefix; version = own.is_version i; page = page i } in
@@ -375,31 +320,6 @@ page_updated H bytes_at prefix number named slots changes fresh pages old more s
           (length prefix) short (length-bits prefix);
       changed = subst P (sym named) (whole_among H old more prefix pages among own.changed);
     }
-
--- an own slot's lone key has the slot's digest
-has_digest : (H : List ℕ → List ℕ) (es : List (List ℕ × List ℕ)) (q : List Bool) (depth s : ℕ)
-    (last : Option (List ℕ × List ℕ)) → length q ≡ 8 * depth + 8 → depth < 32 → last_with (is_below H q) es ≡ last
-    → HasLoneDigest H depth (slot_over H es q s last)
-has_digest H es q depth s None size lt l = tt
-has_digest H es q depth s (Some e) size lt l = λ lone is.
-    let found = lone_of (is_lone H es q e) (H e.0, leaf_digest H e.1) lone is in
-    let height : 256 - length q ≡ slot_height depth = omega arith in
-    let P : List ℕ × List ℕ → Type 0 = λ v. lone_root H v.0 v.1 (slot_height depth) ≡ root_of_levels H (256 - length q)
-    (below (map_of H es) q) in
-    subst P found.1 (sym (lone_over_is H es q s e l found.0 (omega arith)
-    ∙ ap (lone_root H (H e.0) (leaf_digest H e.1)) height))
-
-pub slot_has_digest : (H : List ℕ → List ℕ) (bytes_at : List ℕ → ℕ → Option (List ℕ)) (prefix : List ℕ)
-    (slots : List SlotAt) (changes : List ChangeAt) (byte : ℕ) (old more : List (List ℕ × List ℕ)) → length prefix < 32
-    → byte < 256
-    → IsOwnChange H bytes_at prefix slots changes old more → HasLoneDigest H (length prefix) (slot_at slots byte)
-slot_has_digest H bytes_at prefix slots changes byte old more short lt own =
-    let q : List Bool = bits_of_bytes (prefix ++ byte ∷ []) in
-    let below = own_below H bytes_at prefix slots changes byte old more lt own in
-    let same : slot_at slots byte ≡ slot_over H old q byte (last_with (is_below H q) old) =
-    own_there H bytes_at prefix slots changes byte old more lt own
-    ∙ ap (λ p. slot_over H old p byte (last_with (is_below H p) old)) (sym (bits-more prefix byte)) in
-    rw same (has_digest H old q (length prefix) byte (last_with (is_below H q) old) (sizes prefix byte) short refl)
 
 -- the slot of a byte has it
 pub slot_at-byte : (xs : List SlotAt) (s : ℕ) → IfSome (slot_at xs s) (λ x. x.byte ≡ s)

@@ -1,5 +1,5 @@
 -- The way down from a prefix, over any pages and over those of insertions.
-use Rattle.std.proofs.Common.{◌≡◌, ℕ, zero, suc, ◌+◌, ◌-◌, ◌*◌, ◌<◌, Bool, true, false, not, ◌||◌, cond, eqb, List, [], ◌∷◌, ◌++◌, length, take, get_or, Option, Some, None, refl, sym, ap, subst, ◌∙◌, ◌≢◌, arith, inl, inr, append_assoc, length-append, unwrap_or}
+use Rattle.std.proofs.Common.{◌≡◌, ℕ, zero, suc, ◌+◌, ◌-◌, ◌*◌, ◌<◌, ◌≤◌, Bool, true, false, not, ◌||◌, cond, eqb, List, [], ◌∷◌, ◌++◌, length, take, get_or, Option, Some, None, refl, sym, ap, subst, ◌∙◌, ◌≢◌, arith, inl, inr, append_assoc, length-append, unwrap_or}
 use Rattle.std.proofs.lemmas.Bool.{cases_Bool, and_parts, false_from_ne_true, eqb-true}
 use Rattle.std.proofs.lemmas.List.{append-nil, append_cancel_left, length-take}
 use Rattle.std.proofs.lemmas.List.Elements.{All-take}
@@ -34,6 +34,13 @@ use Rattle.warg_pages.proofs.OwnDescent.{own_slot_is, own_peers_below, own_slot_
 use Rattle.warg_pages.proofs.ValuesAbove.{PeersAbove, value_above-append, value_above-empty, root_above, IsPeers-append}
 use Rattle.warg_pages.proofs.LoneEnds.{nothing_end}
 
+-- the bits of a key digest above a depth, and with those of its byte there
+abbrev bits_above : List ℕ → ℕ → List Bool
+bits_above k depth = bits_from k 0 (8 * depth)
+
+abbrev bits_through : List ℕ → ℕ → List Bool
+bits_through k depth = bits_above k depth ++ byte_bits (get_or k depth 0)
+
 -- the eight bits of a page, and those below it
 pub rest_at : (k : List ℕ) (depth : ℕ) → depth < 32 → last_bits k (256 - 8 * depth)
     ≡ bits_from k (8 * depth) 8 ++ last_bits k (slot_height depth)
@@ -50,26 +57,72 @@ unfolding peers_below
 eight_peers H depth slots s zero = refl
 eight_peers H depth slots s (suc n) = ap suc (eight_peers H depth slots s n)
 
--- over any page
-below_page : (H : List ℕ → List ℕ) (k digest y : List ℕ) (depth : ℕ) (page : List SlotAt)
-    (more : List (Option (List ℕ))) → depth < 32 → page_value H depth page k ≡ digest
-    → value_above H 0 more y (last_bits k (slot_height depth)) ≡ digest_at H (slot_height depth) page (get_or k depth 0)
-    → value_above H 0 (page_peers H depth page k ++ more) y (last_bits k (256 - 8 * depth)) ≡ digest
-below_page H k digest y depth page more lt leads foot =
-    let height : length (last_bits k (slot_height depth)) + 0 ≡ slot_height depth =
-    rw (length-last_bits k (slot_height depth)) (omega arith) in
-    let sizes : length (page_peers H depth page k) ≡ length (bits_from k (8 * depth) 8) = eight_peers H depth page
-    (get_or k depth 0) 8 ∙ sym (length-bits_from k (8 * depth) 8) in
-    ap (value_above H 0 (page_peers H depth page k ++ more) y) (rest_at k depth lt)
-    ∙ value_above-append H 0 (page_peers H depth page k) more y (bits_from k (8 * depth) 8)
-    (last_bits k (slot_height depth)) sizes
-    ∙ (λ i. value_above H (height i) (page_peers H depth page k) (foot i) (bits_from k (8 * depth) 8)) ∙ leads
-
 pub nothing_value : (H : List ℕ → List ℕ) (k : List ℕ) (height : ℕ)
     → value_above H 0 [] (empty_root H 0) (last_bits k height) ≡ empty_root H height
 nothing_value H k height = value_above-empty H 0 (last_bits k height)
     ∙ ap (empty_root H) (let n : length (last_bits k height) + 0 ≡ height = rw (length-last_bits k height)
     (omega arith) in n)
+
+-- over any page with a digest
+module _ (H : List ℕ → List ℕ) (k digest : List ℕ) (depth : ℕ) (page : List SlotAt) (lt : depth < 32)
+    (leads : page_value H depth page k ≡ digest) where
+  below_page : (y : List ℕ) (more : List (Option (List ℕ)))
+      → value_above H 0 more y (last_bits k (slot_height depth))
+      ≡ digest_at H (slot_height depth) page (get_or k depth 0)
+      → value_above H 0 (page_peers H depth page k ++ more) y (last_bits k (256 - 8 * depth)) ≡ digest
+  below_page y more foot =
+      let height : length (last_bits k (slot_height depth)) + 0 ≡ slot_height depth =
+      rw (length-last_bits k (slot_height depth)) (omega arith) in
+      let sizes : length (page_peers H depth page k) ≡ length (bits_from k (8 * depth) 8) = eight_peers H depth page
+      (get_or k depth 0) 8 ∙ sym (length-bits_from k (8 * depth) 8) in
+      ap (value_above H 0 (page_peers H depth page k ++ more) y) (rest_at k depth lt)
+      ∙ value_above-append H 0 (page_peers H depth page k) more y (bits_from k (8 * depth) 8)
+      (last_bits k (slot_height depth)) sizes
+      ∙ (λ i. value_above H (height i) (page_peers H depth page k) (foot i) (bits_from k (8 * depth) 8)) ∙ leads
+
+  few_below : (more : List (Option (List ℕ))) → length more ≤ slot_height depth
+      → length (page_peers H depth page k ++ more) ≤ 256 - 8 * depth
+  few_below more few = omega (
+    arith,
+    eight_peers H depth page (get_or k depth 0) 8,
+    length-append (page_peers H depth page k) more,
+  )
+
+  -- the digest of a slot, or of none
+  foot_of : {o : Option SlotAt} → slot_at page (get_or k depth 0) ≡ o
+      → digest_at H (slot_height depth) page (get_or k depth 0) ≡ digest_of H (slot_height depth) o
+  foot_of there = digest_at-slot H (slot_height depth) page (get_or k depth 0)
+      ∙ ap (digest_of H (slot_height depth)) there
+
+  -- a slot that isn't there
+  pub missing_way : slot_at page (get_or k depth 0) ≡ None → IsWayDown H k depth digest (page_peers H depth page k) None
+  missing_way none = rw (← append-nil (page_peers H depth page k)) record {
+    few = few_below [] (omega arith);
+    leads = below_page (empty_root H 0) [] (nothing_value H k (slot_height depth) ∙ sym (foot_of none));
+  }
+
+  -- the way ends at a lone key
+  pub lone_way : {slot : SlotAt} {lone : List ℕ × List ℕ} {more : List (Option (List ℕ))} {held : Option (ℕ × List ℕ)}
+      → slot_at page (get_or k depth 0) ≡ Some slot → EndsAt H k depth slot lone more held
+      → IsWayDown H k depth digest (page_peers H depth page k ++ more) held
+  lone_way there ends = record {
+    few = few_below _ ends.few;
+    leads = below_page _ _ (ends.leads ∙ sym (foot_of there));
+  }
+
+  -- the way goes on below a slot
+  pub next_way : {slot : SlotAt} {more : List (Option (List ℕ))} {held : Option (ℕ × List ℕ)}
+      → slot_at page (get_or k depth 0) ≡ Some slot → IsWayDown H k (depth + 1) slot.digest more held
+      → IsWayDown H k depth digest (page_peers H depth page k ++ more) held
+  next_way {slot} {more} {held} there way = record {
+    few = few_below more (omega arith);
+    leads = below_page _ more
+        (ap (λ h. value_above H 0 more (unwrap_or (held_leaf held) (empty_root H 0)) (last_bits k h)) next_height
+        ∙ way.leads ∙ sym (foot_of there));
+  }
+    where
+      next_height : slot_height depth ≡ 256 - 8 * (depth + 1)
+      next_height = omega arith
 
 -- over an own page
 own_foot : (H : List ℕ → List ℕ) (es : List (List ℕ × List ℕ)) (p : List Bool) (depth s : ℕ) → depth < 32
@@ -110,156 +163,40 @@ own_value H es k depth lt is =
     (page_peers H depth (page_of H es p) k) (own_above H es p depth s lt n byte))
     ∙ ap (λ h. root_of_levels H h (below (map_of H es) p)) height
 
--- what a source of own pages has
-pub own_bytes : (H : List ℕ → List ℕ) (bytes_at : List ℕ → ℕ → Option (List ℕ)) (k digest : List ℕ) (depth number : ℕ)
-    (es : List (List ℕ × List ℕ)) → depth < 32 → IsDigest k → IsOwnAt H bytes_at k depth digest number es
-    → bytes_at (take depth k) number ≡ Some (page_bytes (page_of H es (bits_from k 0 (8 * depth))))
-own_bytes H bytes_at k digest depth number es lt is own =
-    let size = is.has_32 in
-    let bits : bits_of_bytes (take depth k) ≡ bits_from k 0 (8 * depth) = bits_of_taken k depth (omega arith) in
-    let short : length (take depth k) < 32 = let all = length-take depth k in omega arith in
-    ap (bytes_at (take depth k)) (own.is_version ∙ ap (version H es) (sym bits))
-    ∙ own.pages (take depth k) (All-take IsByte depth k is.are_bytes) short (ap (stands H es) bits ∙ own.is_there)
-    ∙ ap (λ p. Some (page_bytes (page_of H es p))) bits
-
-pub own_page_is : (H : List ℕ → List ℕ) → GivesHashes H → (bytes_at : List ℕ → ℕ → Option (List ℕ)) (k digest : List ℕ)
-    (depth number : ℕ) (page : List SlotAt) (es : List (List ℕ × List ℕ)) → depth < 32 → IsDigest k → IsPage page
-    → IfSome (bytes_at (take depth k) number) (λ known. known ≡ page_bytes page)
-    → IsOwnAt H bytes_at k depth digest number es → page ≡ page_of H es (bits_from k 0 (8 * depth))
-own_page_is H gives bytes_at k digest depth number page es lt is page_is at own =
-    one_page page (page_of H es (bits_from k 0 (8 * depth))) page_is
-    (own_slots H es (bits_from k 0 (8 * depth)) gives own.fits)
-    (sym (rw (own_bytes H bytes_at k digest depth number es lt is own) at at))
-
-pub own_page_there : (H : List ℕ → List ℕ) → GivesHashes H → (bytes_at : List ℕ → ℕ → Option (List ℕ))
-    (k digest : List ℕ) (depth number : ℕ) (es : List (List ℕ × List ℕ)) → depth < 32 → IsDigest k
-    → ((slots : List SlotAt) → IsPage slots → bytes_at (take depth k) number ≢ Some (page_bytes slots))
-    → IsOwnAt H bytes_at k depth digest number es → ⊥
-own_page_there H gives bytes_at k digest depth number es lt is none own =
-    none (page_of H es (bits_from k 0 (8 * depth))) (own_slots H es (bits_from k 0 (8 * depth)) gives own.fits)
-    (own_bytes H bytes_at k digest depth number es lt is own)
-
-pub own_page_value : (H : List ℕ → List ℕ) → GivesHashes H → (bytes_at : List ℕ → ℕ → Option (List ℕ))
-    (k digest : List ℕ) (depth number : ℕ) (page : List SlotAt) (es : List (List ℕ × List ℕ)) → depth < 32 → IsDigest k
-    → IsPage page
-    → IfSome (bytes_at (take depth k) number) (λ known. known ≡ page_bytes page) → page_value H depth page k ≢ digest
-    → IsOwnAt H bytes_at k depth digest number es → ⊥
-own_page_value H gives bytes_at k digest depth number page es lt is page_is at other own =
-    other (ap (λ xs. page_value H depth xs k)
-    (own_page_is H gives bytes_at k digest depth number page es lt is page_is at own) ∙ own_value H es k depth lt is
-    ∙ sym own.is_digest)
-
 -- the peers of an own page, and those below it
 own_append : (H : List ℕ → List ℕ) (es : List (List ℕ × List ℕ)) (k : List ℕ) (depth : ℕ)
     (more : List (Option (List ℕ))) → depth < 32 → IsDigest k
-    → IsPeers H (λ h. None) (below (map_of H es) (bits_from k 0 (8 * depth) ++ byte_bits (get_or k depth 0)))
-    (last_bits k (slot_height depth)) more
-    → IsPeers H (λ h. None) (below (map_of H es) (bits_from k 0 (8 * depth))) (last_bits k (256 - 8 * depth))
-    (page_peers H depth (page_of H es (bits_from k 0 (8 * depth))) k ++ more)
+    → IsPeers H (λ h. None) (below (map_of H es) (bits_through k depth)) (last_bits k (slot_height depth)) more
+    → IsPeers H (λ h. None) (below (map_of H es) (bits_above k depth)) (last_bits k (256 - 8 * depth))
+    (page_peers H depth (page_of H es (bits_above k depth)) k ++ more)
 own_append H es k depth more lt is rest =
     let size = is.has_32 in
     let s : ℕ = get_or k depth 0 in
-    let p : List Bool = bits_from k 0 (8 * depth) in
+    let p : List Bool = bits_above k depth in
     let byte : s < 256 = is.are_bytes depth 0 (omega arith) in
     let above = own_above H es p depth s lt (length-bits_from k 0 (8 * depth)) byte in
-    let height : slot_height depth ≡ length (last_bits k (slot_height depth)) =
-    sym (length-last_bits k (slot_height depth)) in
-    let over : PeersAbove H (length (last_bits k (slot_height depth))) (below (map_of H es) p) (byte_bits s)
-    (page_peers H depth (page_of H es p) k) = at_height (slot_height depth)
-    (length (last_bits k (slot_height depth))) p s height above in
-    let all = IsPeers-append H (below (map_of H es) p) (byte_bits s) (last_bits k (slot_height depth))
-    (page_peers H depth (page_of H es p) k) more over (at_held p s (shifted H es p (byte_bits s)) rest) in
-    at_bits p (λ i. (sym (byte_at_depth k depth) i) ++ last_bits k (slot_height depth)) all
-  where
-    at_height : (m n : ℕ) (p : List Bool) (s : ℕ) → m ≡ n → PeersAbove H m (below (map_of H es) p) (byte_bits s)
-        (page_peers H depth (page_of H es (bits_from k 0 (8 * depth))) k) → PeersAbove H n (below (map_of H es) p)
-        (byte_bits s) (page_peers H depth (page_of H es (bits_from k 0 (8 * depth))) k)
-    at_height m n p s e h = let P : ℕ → Type 0 = λ j. PeersAbove H j (below (map_of H es) p) (byte_bits s)
-        (page_peers H depth (page_of H es (bits_from k 0 (8 * depth))) k) in subst P e h
-
-    at_held : (p : List Bool) (s : ℕ) {f g : List Bool → Option (List ℕ)} → f ≡ g
-        → IsPeers H (λ h. None) f (last_bits k (slot_height depth)) more
-        → IsPeers H (λ h. None) g (last_bits k (slot_height depth)) more
-    at_held p s e h = let P : (List Bool → Option (List ℕ))
-        → Type 0 = λ f. IsPeers H (λ h. None) f (last_bits k (slot_height depth)) more in subst P e h
-
-    at_bits : (p : List Bool) {q : List Bool} → q ≡ bits_from k (8 * depth) 8 ++ last_bits k (slot_height depth)
-        → IsPeers H (λ h. None) (below (map_of H es) p) q
-        (page_peers H depth (page_of H es (bits_from k 0 (8 * depth))) k ++ more)
-        → IsPeers H (λ h. None) (below (map_of H es) p) (last_bits k (256 - 8 * depth))
-        (page_peers H depth (page_of H es (bits_from k 0 (8 * depth))) k ++ more)
-    at_bits p e h = let P : List Bool → Type 0 = λ q. IsPeers H (λ h. None) (below (map_of H es) p) q
-        (page_peers H depth (page_of H es (bits_from k 0 (8 * depth))) k ++ more) in
-        subst P (e ∙ sym (rest_at k depth lt)) h
+    let P : (List Bool → Option (List ℕ)) → Type 0 = λ f.
+    IsPeers H (λ h. None) f (last_bits k (slot_height depth)) more in
+    rw (rest_at k depth lt, byte_at_depth k depth)
+    (IsPeers-append H (below (map_of H es) p) (byte_bits s) (last_bits k (slot_height depth))
+    (page_peers H depth (page_of H es p) k) more (rw (length-last_bits k (slot_height depth)) above)
+    (subst P (shifted H es p (byte_bits s)) rest))
 
 -- what stands at the whole digest
 own_whole : (H : List ℕ → List ℕ) (es : List (List ℕ × List ℕ)) (k : List ℕ) (depth : ℕ) → depth < 32
-    → get (map_of H es) (last_bits k 256) ≡ below (map_of H es)
-    (bits_from k 0 (8 * depth) ++ byte_bits (get_or k depth 0)) (last_bits k (slot_height depth))
-own_whole H es k depth lt =
-    let p : List Bool = bits_from k 0 (8 * depth) in
-    ap (get (map_of H es)) (key_at k (8 * depth) (omega arith)
-    ∙ ap (λ t. p ++ t) (rest_at k depth lt ∙ (λ i. byte_at_depth k depth i ++ last_bits k (slot_height depth)))
-    ∙ sym (append_assoc p (byte_bits (get_or k depth 0)) (last_bits k (slot_height depth))))
+    → get (map_of H es) (last_bits k 256) ≡ below (map_of H es) (bits_through k depth) (last_bits k (slot_height depth))
+own_whole H es k depth lt = ap (get (map_of H es)) (key_at k (8 * depth) (omega arith)
+    ∙ ap (λ t. bits_above k depth ++ t)
+    (rest_at k depth lt ∙ ap (λ b. b ++ last_bits k (slot_height depth)) (byte_at_depth k depth))
+    ∙ sym (append_assoc (bits_above k depth) (byte_bits (get_or k depth 0)) (last_bits k (slot_height depth))))
 
--- a slot that isn't there
-pub missing_way : (H : List ℕ → List ℕ) (k digest : List ℕ) (depth : ℕ) (page : List SlotAt) → depth < 32
-    → page_value H depth page k ≡ digest → slot_at page (get_or k depth 0) ≡ None
-    → IsWayDown H k depth digest (page_peers H depth page k) None
-missing_way H k digest depth page lt leads none = record {
-  few = (let size = eight_peers H depth page (get_or k depth 0) 8 in omega arith);
-  leads = ap (λ os. value_above H 0 os (empty_root H 0) (last_bits k (256 - 8 * depth)))
-      (sym (append-nil (page_peers H depth page k))) ∙ below_page H k digest (empty_root H 0) depth page [] lt leads
-      foot;
-}
-  where
-    foot : value_above H 0 [] (empty_root H 0) (last_bits k (slot_height depth)) ≡ digest_at H (slot_height depth) page
-        (get_or k depth 0)
-    foot = nothing_value H k (slot_height depth) ∙ sym (digest_at-slot H (slot_height depth) page (get_or k depth 0)
-        ∙ ap (digest_of H (slot_height depth)) none)
-
-pub missing_own : (H : List ℕ → List ℕ) → GivesHashes H → (bytes_at : List ℕ → ℕ → Option (List ℕ)) (k digest : List ℕ)
-    (depth number : ℕ) (page : List SlotAt) (es : List (List ℕ × List ℕ)) → depth < 32 → IsDigest k → IsPage page
-    → IfSome (bytes_at (take depth k) number) (λ known. known ≡ page_bytes page)
-    → slot_at page (get_or k depth 0) ≡ None → IsOwnAt H bytes_at k depth digest number es
-    → IsOwnWay H es k depth (page_peers H depth page k) None
-missing_own H gives bytes_at k digest depth number page es lt is page_is at none at_own =
-    let size = is.has_32 in
-    let same = own_page_is H gives bytes_at k digest depth number page es lt is page_is at at_own in
-    let byte : get_or k depth 0 < 256 = is.are_bytes depth 0 (omega arith) in
-    let p : List Bool = bits_from k 0 (8 * depth) in
-    let no_one : slot_of H es p (get_or k depth 0) ≡ None = sym (own_slot_at H es p (get_or k depth 0) byte)
-    ∙ ap (λ xs. slot_at xs (get_or k depth 0)) (sym same) ∙ none in
-    let nothing : (q : List Bool) → below (map_of H es) (p ++ byte_bits (get_or k depth 0)) q ≡ None =
-    no_slot H es (p ++ byte_bits (get_or k depth 0)) (get_or k depth 0) _ refl no_one in
-    let peers = own_append H es k depth [] lt is
-    (nothing_end H (below (map_of H es) (p ++ byte_bits (get_or k depth 0))) (last_bits k (slot_height depth))
-    nothing) in
-    record {
-      are_peers = at_page es same (append-nil (page_peers H depth (page_of H es p) k)) peers;
-      is_leaf = own_whole H es k depth lt ∙ nothing (last_bits k (slot_height depth));
-      is_index = tt;
-    }
-  where
-    at_page : (es : List (List ℕ × List ℕ)) {xs : List SlotAt} {os : List (Option (List ℕ))} → page ≡ xs
-        → os ≡ page_peers H depth xs k → IsPeers H (λ h. None) (below (map_of H es) (bits_from k 0 (8 * depth)))
-        (last_bits k (256 - 8 * depth)) os
-        → IsPeers H (λ h. None) (below (map_of H es) (bits_from k 0 (8 * depth))) (last_bits k (256 - 8 * depth))
-        (page_peers H depth page k)
-    at_page es same e h = let P : List (Option (List ℕ))
-        → Type 0 = λ os. IsPeers H (λ h. None) (below (map_of H es) (bits_from k 0 (8 * depth)))
-        (last_bits k (256 - 8 * depth)) os in subst P (e ∙ ap (λ xs. page_peers H depth xs k) (sym same)) h
-
--- the peers of a given page that is an own one
-at_own_page : (H : List ℕ → List ℕ) (es : List (List ℕ × List ℕ)) (k : List ℕ) (depth : ℕ) (page : List SlotAt)
-    (more : List (Option (List ℕ))) → page ≡ page_of H es (bits_from k 0 (8 * depth))
-    → IsPeers H (λ h. None) (below (map_of H es) (bits_from k 0 (8 * depth))) (last_bits k (256 - 8 * depth))
-    (page_peers H depth (page_of H es (bits_from k 0 (8 * depth))) k ++ more)
-    → IsPeers H (λ h. None) (below (map_of H es) (bits_from k 0 (8 * depth))) (last_bits k (256 - 8 * depth))
-    (page_peers H depth page k ++ more)
-at_own_page H es k depth page more same h = let P : List SlotAt
-    → Type 0 = λ xs. IsPeers H (λ h. None) (below (map_of H es) (bits_from k 0 (8 * depth)))
-    (last_bits k (256 - 8 * depth)) (page_peers H depth xs k ++ more) in subst P (sym same) h
+-- the height below a byte
+height_through : (k : List ℕ) (depth : ℕ) → 256 - length (bits_through k depth) ≡ slot_height depth
+height_through k depth = rw (
+  length-append (bits_above k depth) (byte_bits (get_or k depth 0)),
+  length-bits_from k 0 (8 * depth),
+  length-bits_from (get_or k depth 0 ∷ []) 0 8,
+) (omega arith)
 
 -- own slots of insertions, by cases on the last one
 pub begins-whole : (a b : List Bool) → length a ≡ length b → begins a b ≡ same_bits a b
@@ -352,178 +289,143 @@ own_lone_over H es p s (Some e) x lone l h is =
 
 -- so it stands alone below the slot
 own_stands : (H : List ℕ → List ℕ) (es : List (List ℕ × List ℕ)) (k : List ℕ) (depth : ℕ) (slot : SlotAt)
-    (lone : List ℕ × List ℕ) → depth < 32 → OwnLone H es (bits_from k 0 (8 * depth) ++ byte_bits (get_or k depth 0))
-    slot lone
+    (lone : List ℕ × List ℕ) → OwnLone H es (bits_through k depth) slot lone
     → StandsAlone H (bits_from k 0 (8 * depth + 8)) lone (slot_height depth) slot.digest
-    (below (map_of H es) (bits_from k 0 (8 * depth) ++ byte_bits (get_or k depth 0)))
-own_stands H es k depth slot lone lt own =
-    let p : List Bool = bits_from k 0 (8 * depth) in
-    let more : bits_from k 0 (8 * depth + 8) ≡ p ++ byte_bits (get_or k depth 0) =
-    (let all : 8 * depth + 8 ≡ 8 * (depth + 1) = omega arith in ap (bits_from k 0) all ∙ prefix_more k depth) in
-    let height : 256 - length (p ++ byte_bits (get_or k depth 0)) ≡ slot_height depth =
-    rw (
-      length-append p (byte_bits (get_or k depth 0)),
-      length-bits_from k 0 (8 * depth),
-      length-bits_from (get_or k depth 0 ∷ []) 0 8,
-    ) (omega arith) in
-    record {
-      rest = own.alone.rest;
-      begins = own.alone.begins ∙ ap (λ t. t ++ own.alone.rest) (sym more);
-      alone = own.alone.alone;
-      is_root = own.alone.is_root ∙ ap (λ h. root_of_levels H h
-          (below (map_of H es) (p ++ byte_bits (get_or k depth 0)))) height;
-    }
-
--- the way ends at a lone key
-pub lone_way : (H : List ℕ → List ℕ) (k digest : List ℕ) (depth : ℕ) (page : List SlotAt) (slot : SlotAt)
-    (lone : List ℕ × List ℕ) (more : List (Option (List ℕ))) (held : Option (ℕ × List ℕ)) → depth < 32
-    → page_value H depth page k ≡ digest → slot_at page (get_or k depth 0) ≡ Some slot
-    → EndsAt H k depth slot lone more held → IsWayDown H k depth digest (page_peers H depth page k ++ more) held
-lone_way H k digest depth page slot lone more held lt leads there ends = record {
-  few = (let size = eight_peers H depth page (get_or k depth 0) 8 in let few = ends.few in
-      let all = length-append (page_peers H depth page k) more in omega arith);
-  leads = below_page H k digest _ depth page more lt leads
-      (ends.leads ∙ sym (digest_at-slot H (slot_height depth) page (get_or k depth 0)
-      ∙ ap (digest_of H (slot_height depth)) there));
-}
-
-pub lone_own : (H : List ℕ → List ℕ) → GivesHashes H → (bytes_at : List ℕ → ℕ → Option (List ℕ)) (k digest : List ℕ)
-    (depth number : ℕ) (page : List SlotAt) (slot : SlotAt) (lone : List ℕ × List ℕ) (more : List (Option (List ℕ)))
-    (held : Option (ℕ × List ℕ)) (es : List (List ℕ × List ℕ)) → depth < 32 → IsDigest k → IsPage page
-    → IfSome (bytes_at (take depth k) number) (λ known. known ≡ page_bytes page)
-    → slot_at page (get_or k depth 0) ≡ Some slot → slot.lone ≡ Some lone → EndsAt H k depth slot lone more held
-    → IsOwnAt H bytes_at k depth digest number es → IsOwnWay H es k depth (page_peers H depth page k ++ more) held
-lone_own H gives bytes_at k digest depth number page slot lone more held es lt is page_is at there is_lone_key ends
-    at_own =
-    let size = is.has_32 in
-    let same = own_page_is H gives bytes_at k digest depth number page es lt is page_is at at_own in
-    let byte : get_or k depth 0 < 256 = is.are_bytes depth 0 (omega arith) in
-    let p : List Bool = bits_from k 0 (8 * depth) in
-    let slot_is : slot_of H es p (get_or k depth 0) ≡ Some slot = sym (own_slot_at H es p (get_or k depth 0) byte)
-    ∙ ap (λ xs. slot_at xs (get_or k depth 0)) (sym same) ∙ there in
-    let own_is = own_lone_over H es (p ++ byte_bits (get_or k depth 0)) (get_or k depth 0) _ slot lone refl slot_is
-    is_lone_key in
-    let below_it = ends.own (below (map_of H es) (p ++ byte_bits (get_or k depth 0)))
-    (own_stands H es k depth slot lone lt own_is) in
-    record {
-      are_peers = at_own_page H es k depth page more same (own_append H es k depth more lt is below_it.0);
-      is_leaf = own_whole H es k depth lt ∙ below_it.1;
-      is_index = own_index held slot.version (last_bits lone.0 256) es own_is.whole ends.index;
-    }
-  where
-    own_index : (held : Option (ℕ × List ℕ)) (number : ℕ) (bits : List Bool) (es : List (List ℕ × List ℕ))
-        → number ≡ version H es bits → IfSome held (λ h. (h.0 + 1 ≡ number) × (last_bits k 256 ≡ bits))
-        → IfSome held (λ h. h.0 + 1 ≡ version H es (last_bits k 256))
-    own_index None number bits es e h = tt
-    own_index (Some v) number bits es e h = h.0 ∙ e ∙ ap (version H es) (sym h.1)
-
--- an own page's lone key has an end
-pub own_lone_end : (H : List ℕ → List ℕ) → GivesHashes H → (bytes_at : List ℕ → ℕ → Option (List ℕ)) (k digest : List ℕ)
-    (depth number : ℕ) (page : List SlotAt) (slot : SlotAt) (lone : List ℕ × List ℕ) (es : List (List ℕ × List ℕ))
-    → depth < 32 → IsDigest k → IsPage page
-    → IfSome (bytes_at (take depth k) number) (λ known. known ≡ page_bytes page) → slot_at page (get_or k depth 0)
-    ≡ Some slot → slot.lone ≡ Some lone → IsNoLoneKey H k depth slot lone
-    → IsOwnAt H bytes_at k depth digest number es → ⊥
-own_lone_end H gives bytes_at k digest depth number page slot lone es lt is page_is at there is_lone_key fault at_own =
-    let size = is.has_32 in
-    let same = own_page_is H gives bytes_at k digest depth number page es lt is page_is at at_own in
-    let byte : get_or k depth 0 < 256 = is.are_bytes depth 0 (omega arith) in
-    let p : List Bool = bits_from k 0 (8 * depth) in
-    let slot_is : slot_of H es p (get_or k depth 0) ≡ Some slot = sym (own_slot_at H es p (get_or k depth 0) byte)
-    ∙ ap (λ xs. slot_at xs (get_or k depth 0)) (sym same) ∙ there in
-    let own_is = own_lone_over H es (p ++ byte_bits (get_or k depth 0)) (get_or k depth 0) _ slot lone refl slot_is
-    is_lone_key in
-    fault (below (map_of H es) (p ++ byte_bits (get_or k depth 0))) (own_stands H es k depth slot lone lt own_is)
-    own_is.some
-
--- the way goes on below a slot
-own_next : (H : List ℕ → List ℕ) → GivesHashes H → (bytes_at : List ℕ → ℕ → Option (List ℕ)) (k digest : List ℕ)
-    (depth number : ℕ) (page : List SlotAt) (slot : SlotAt) (es : List (List ℕ × List ℕ)) → depth < 32 → IsDigest k
-    → IsPage page
-    → IfSome (bytes_at (take depth k) number) (λ known. known ≡ page_bytes page) → slot_at page (get_or k depth 0)
-    ≡ Some slot → slot.lone ≡ None → IsOwnAt H bytes_at k depth digest number es
-    → IsOwnAt H bytes_at k (depth + 1) slot.digest slot.version es
-own_next H gives bytes_at k digest depth number page slot es lt is page_is at there no_lone at_own =
-    let size = is.has_32 in
-    let same = own_page_is H gives bytes_at k digest depth number page es lt is page_is at at_own in
-    let byte : get_or k depth 0 < 256 = is.are_bytes depth 0 (omega arith) in
-    let p : List Bool = bits_from k 0 (8 * depth) in
-    let slot_is : slot_of H es p (get_or k depth 0) ≡ Some slot = sym (own_slot_at H es p (get_or k depth 0) byte)
-    ∙ ap (λ xs. slot_at xs (get_or k depth 0)) (sym same) ∙ there in
-    let own_is = own_slot_is H es p (get_or k depth 0) slot slot_is in
-    let more = prefix_more k depth in
-    let height : 256 - length (p ++ byte_bits (get_or k depth 0)) ≡ 256 - 8 * (depth + 1) =
-    rw (
-      length-append p (byte_bits (get_or k depth 0)),
-      length-bits_from k 0 (8 * depth),
-      length-bits_from (get_or k depth 0 ∷ []) 0 8,
-    ) (omega arith) in
-    record {
-      pages = at_own.pages;
-      fits = at_own.fits;
-      is_there = ap (stands H es) more ∙ own_is.page no_lone;
-      is_version = own_is.version ∙ ap (version H es) (sym more);
-      is_digest = own_is.digest ∙ (λ i. root_of_levels H (height i) (below (map_of H es) (sym more i)));
-    }
-
-pub next_way : (H : List ℕ → List ℕ) (k digest : List ℕ) (depth : ℕ) (page : List SlotAt) (slot : SlotAt)
-    (more : List (Option (List ℕ))) (held : Option (ℕ × List ℕ)) → depth < 32 → page_value H depth page k ≡ digest
-    → slot_at page (get_or k depth 0) ≡ Some slot → IsWayDown H k (depth + 1) slot.digest more held
-    → IsWayDown H k depth digest (page_peers H depth page k ++ more) held
-next_way H k digest depth page slot more held lt leads there way = record {
-  few = (let size = eight_peers H depth page (get_or k depth 0) 8 in let few = way.few in
-      let all = length-append (page_peers H depth page k) more in omega arith);
-  leads = below_page H k digest _ depth page more lt leads
-      (ap (λ h. value_above H 0 more (unwrap_or (held_leaf held) (empty_root H 0)) (last_bits k h)) (sym height)
-      ∙ way.leads ∙ sym (digest_at-slot H (slot_height depth) page (get_or k depth 0)
-      ∙ ap (digest_of H (slot_height depth)) there));
+    (below (map_of H es) (bits_through k depth))
+own_stands H es k depth slot lone own = record {
+  rest = own.alone.rest;
+  begins = own.alone.begins ∙ ap (λ t. t ++ own.alone.rest) (sym more);
+  alone = own.alone.alone;
+  is_root = own.alone.is_root
+      ∙ ap (λ h. root_of_levels H h (below (map_of H es) (bits_through k depth))) (height_through k depth);
 }
   where
-    height : 256 - 8 * (depth + 1) ≡ slot_height depth
-    height = omega arith
+    more : bits_from k 0 (8 * depth + 8) ≡ bits_through k depth
+    more = let all : 8 * depth + 8 ≡ 8 * (depth + 1) = omega arith in ap (bits_from k 0) all ∙ prefix_more k depth
 
-pub next_own : (H : List ℕ → List ℕ) → GivesHashes H → (bytes_at : List ℕ → ℕ → Option (List ℕ)) (k digest : List ℕ)
-    (depth number : ℕ) (page : List SlotAt) (slot : SlotAt) (more : List (Option (List ℕ))) (held : Option (ℕ × List ℕ))
-    (es : List (List ℕ × List ℕ)) → depth < 32 → IsDigest k → IsPage page
-    → IfSome (bytes_at (take depth k) number) (λ known. known ≡ page_bytes page)
-    → slot_at page (get_or k depth 0) ≡ Some slot → slot.lone ≡ None
-    → (IsOwnAt H bytes_at k (depth + 1) slot.digest slot.version es → IsOwnWay H es k (depth + 1) more held)
-    → IsOwnAt H bytes_at k depth digest number es → IsOwnWay H es k depth (page_peers H depth page k ++ more) held
-next_own H gives bytes_at k digest depth number page slot more held es lt is page_is at there no_lone way at_own =
-    let same = own_page_is H gives bytes_at k digest depth number page es lt is page_is at at_own in
-    let rest = way (own_next H gives bytes_at k digest depth number page slot es lt is page_is at there no_lone
-    at_own) in
-    record {
-      are_peers = at_own_page H es k depth page more same
-          (own_append H es k depth more lt is (at_next es rest.are_peers));
-      is_leaf = rest.is_leaf;
-      is_index = rest.is_index;
-    }
-  where
-    height : 256 - 8 * (depth + 1) ≡ slot_height depth
-    height = omega arith
+-- what a source of own pages has on a key digest's way
+module _ {H : List ℕ → List ℕ} (gives : GivesHashes H) {bytes_at : List ℕ → ℕ → Option (List ℕ)} {k digest : List ℕ}
+    {depth number : ℕ} {es : List (List ℕ × List ℕ)} (own : IsOwnAt H bytes_at k depth digest number es)
+    (lt : depth < 32) (is : IsDigest k) where
+  pub own_bytes : bytes_at (take depth k) number ≡ Some (page_bytes (page_of H es (bits_above k depth)))
+  own_bytes =
+      let size = is.has_32 in
+      let bits : bits_of_bytes (take depth k) ≡ bits_above k depth = bits_of_taken k depth (omega arith) in
+      let short : length (take depth k) < 32 = let all = length-take depth k in omega arith in
+      ap (bytes_at (take depth k)) (own.is_version ∙ ap (version H es) (sym bits))
+      ∙ own.pages (take depth k) (All-take IsByte depth k is.are_bytes) short (ap (stands H es) bits ∙ own.is_there)
+      ∙ ap (λ p. Some (page_bytes (page_of H es p))) bits
 
-    at_next : (es : List (List ℕ × List ℕ))
-        → IsPeers H (λ h. None) (below (map_of H es) (bits_from k 0 (8 * (depth + 1))))
-        (last_bits k (256 - 8 * (depth + 1))) more
-        → IsPeers H (λ h. None) (below (map_of H es) (bits_from k 0 (8 * depth) ++ byte_bits (get_or k depth 0)))
-        (last_bits k (slot_height depth)) more
-    at_next es h =
-        let P : List Bool → Type 0 = λ q. IsPeers H (λ h. None) (below (map_of H es) q)
-        (last_bits k (slot_height depth)) more in
-        let Q : ℕ → Type 0 = λ n. IsPeers H (λ h. None) (below (map_of H es) (bits_from k 0 (8 * (depth + 1))))
-        (last_bits k n) more in
-        subst P (prefix_more k depth) (subst Q height h)
+  pub own_page_there : ((slots : List SlotAt) → IsPage slots → bytes_at (take depth k) number ≢ Some (page_bytes slots))
+      → ⊥
+  own_page_there none = none (page_of H es (bits_above k depth)) (own_slots H es (bits_above k depth) gives own.fits)
+      own_bytes
 
-pub own_next_end : (H : List ℕ → List ℕ) → GivesHashes H → (bytes_at : List ℕ → ℕ → Option (List ℕ)) (k digest : List ℕ)
-    (depth number : ℕ) (page : List SlotAt) (slot : SlotAt) (es : List (List ℕ × List ℕ)) → depth < 32 → IsDigest k
-    → IsPage page
-    → IfSome (bytes_at (take depth k) number) (λ known. known ≡ page_bytes page) → slot_at page (get_or k depth 0)
-    ≡ Some slot → slot.lone ≡ None
-    → ((more : List (List ℕ × List ℕ)) → IsOwnAt H bytes_at k (depth + 1) slot.digest slot.version more → ⊥)
-    → IsOwnAt H bytes_at k depth digest number es → ⊥
-own_next_end H gives bytes_at k digest depth number page slot es lt is page_is at there no_lone fault at_own =
-    fault es (own_next H gives bytes_at k digest depth number page slot es lt is page_is at there no_lone at_own)
+-- and so of a page that it gives there
+module _ {H : List ℕ → List ℕ} (gives : GivesHashes H) {bytes_at : List ℕ → ℕ → Option (List ℕ)} {k digest : List ℕ}
+    {depth number : ℕ} {es : List (List ℕ × List ℕ)} (own : IsOwnAt H bytes_at k depth digest number es)
+    (lt : depth < 32) (is : IsDigest k) {page : List SlotAt} (page_is : IsPage page)
+    (at : IfSome (bytes_at (take depth k) number) (λ known. known ≡ page_bytes page)) where
+  pub own_page_is : page ≡ page_of H es (bits_above k depth)
+  own_page_is = one_page page (page_of H es (bits_above k depth)) page_is
+      (own_slots H es (bits_above k depth) gives own.fits) (sym (rw (own_bytes gives own lt is) at at))
+
+  pub own_page_value : page_value H depth page k ≢ digest → ⊥
+  own_page_value other = other (ap (λ xs. page_value H depth xs k) own_page_is ∙ own_value H es k depth lt is
+      ∙ sym own.is_digest)
+
+  -- the slot of the byte there
+  slot_there : {o : Option SlotAt} → slot_at page (get_or k depth 0) ≡ o
+      → slot_of H es (bits_above k depth) (get_or k depth 0) ≡ o
+  slot_there there =
+      let size = is.has_32 in
+      sym (own_slot_at H es (bits_above k depth) (get_or k depth 0) (is.are_bytes depth 0 (omega arith)))
+      ∙ ap (λ xs. slot_at xs (get_or k depth 0)) (sym own_page_is) ∙ there
+
+  peers_there : (more : List (Option (List ℕ)))
+      → IsPeers H (λ h. None) (below (map_of H es) (bits_through k depth)) (last_bits k (slot_height depth)) more
+      → IsPeers H (λ h. None) (below (map_of H es) (bits_above k depth)) (last_bits k (256 - 8 * depth))
+      (page_peers H depth page k ++ more)
+  peers_there more rest =
+      let P : List SlotAt → Type 0 = λ xs. IsPeers H (λ h. None) (below (map_of H es) (bits_above k depth))
+      (last_bits k (256 - 8 * depth)) (page_peers H depth xs k ++ more) in
+      subst P (sym own_page_is) (own_append H es k depth more lt is rest)
+
+  -- a slot that isn't there
+  pub missing_own : slot_at page (get_or k depth 0) ≡ None → IsOwnWay H es k depth (page_peers H depth page k) None
+  missing_own none =
+      let nothing : (q : List Bool) → below (map_of H es) (bits_through k depth) q ≡ None =
+      no_slot H es (bits_through k depth) (get_or k depth 0) _ refl (slot_there none) in
+      record {
+        are_peers = rw (← append-nil (page_peers H depth page k)) (peers_there []
+            (nothing_end H (below (map_of H es) (bits_through k depth)) (last_bits k (slot_height depth)) nothing));
+        is_leaf = own_whole H es k depth lt ∙ nothing (last_bits k (slot_height depth));
+        is_index = tt;
+      }
+
+  -- the way ends at a lone key
+  lone_there : {slot : SlotAt} {lone : List ℕ × List ℕ} → slot_at page (get_or k depth 0) ≡ Some slot
+      → slot.lone ≡ Some lone → OwnLone H es (bits_through k depth) slot lone
+  lone_there there is_lone_key = own_lone_over H es (bits_through k depth) (get_or k depth 0) _ _ _ refl
+      (slot_there there) is_lone_key
+
+  pub lone_own : {slot : SlotAt} {lone : List ℕ × List ℕ} {more : List (Option (List ℕ))} {held : Option (ℕ × List ℕ)}
+      → slot_at page (get_or k depth 0) ≡ Some slot → slot.lone ≡ Some lone → EndsAt H k depth slot lone more held
+      → IsOwnWay H es k depth (page_peers H depth page k ++ more) held
+  lone_own {slot} {lone} {more} {held} there is_lone_key ends =
+      let own_is = lone_there there is_lone_key in
+      let below_it = ends.own (below (map_of H es) (bits_through k depth)) (own_stands H es k depth slot lone own_is) in
+      record {
+        are_peers = peers_there more below_it.0;
+        is_leaf = own_whole H es k depth lt ∙ below_it.1;
+        is_index = index held _ own_is.whole ends.index;
+      }
+    where
+      index : (held : Option (ℕ × List ℕ)) (bits : List Bool) → slot.version ≡ version H es bits
+          → IfSome held (λ h. (h.0 + 1 ≡ slot.version) × (last_bits k 256 ≡ bits))
+          → IfSome held (λ h. h.0 + 1 ≡ version H es (last_bits k 256))
+      index None bits e h = tt
+      index (Some v) bits e h = h.0 ∙ e ∙ ap (version H es) (sym h.1)
+
+  -- an own page's lone key has an end
+  pub own_lone_end : {slot : SlotAt} {lone : List ℕ × List ℕ} → slot_at page (get_or k depth 0) ≡ Some slot
+      → slot.lone ≡ Some lone → IsNoLoneKey H k depth slot lone → ⊥
+  own_lone_end {slot} {lone} there is_lone_key fault =
+      let own_is = lone_there there is_lone_key in
+      fault (below (map_of H es) (bits_through k depth)) (own_stands H es k depth slot lone own_is) own_is.some
+
+  -- the way goes on below a slot
+  own_next : {slot : SlotAt} → slot_at page (get_or k depth 0) ≡ Some slot → slot.lone ≡ None
+      → IsOwnAt H bytes_at k (depth + 1) slot.digest slot.version es
+  own_next {slot} there no_lone =
+      let own_is = own_slot_is H es (bits_above k depth) (get_or k depth 0) slot (slot_there there) in
+      let more = prefix_more k depth in
+      let height : 256 - length (bits_through k depth) ≡ 256 - 8 * (depth + 1) =
+      height_through k depth ∙ (let same : slot_height depth ≡ 256 - 8 * (depth + 1) = omega arith in same) in
+      record {
+        pages = own.pages;
+        fits = own.fits;
+        is_there = ap (stands H es) more ∙ own_is.page no_lone;
+        is_version = own_is.version ∙ ap (version H es) (sym more);
+        is_digest = own_is.digest ∙ (λ i. root_of_levels H (height i) (below (map_of H es) (sym more i)));
+      }
+
+  pub next_own : {slot : SlotAt} {more : List (Option (List ℕ))} {held : Option (ℕ × List ℕ)}
+      → slot_at page (get_or k depth 0) ≡ Some slot → slot.lone ≡ None
+      → (IsOwnAt H bytes_at k (depth + 1) slot.digest slot.version es → IsOwnWay H es k (depth + 1) more held)
+      → IsOwnWay H es k depth (page_peers H depth page k ++ more) held
+  next_own {slot} {more} {held} there no_lone way =
+      let rest = way (own_next there no_lone) in
+      let next : slot_height depth ≡ 256 - 8 * (depth + 1) = omega arith in
+      record {
+        are_peers = peers_there more (rw (next, ← prefix_more k depth) rest.are_peers);
+        is_leaf = rest.is_leaf;
+        is_index = rest.is_index;
+      }
+
+  pub own_next_end : {slot : SlotAt} → slot_at page (get_or k depth 0) ≡ Some slot → slot.lone ≡ None
+      → ((more : List (List ℕ × List ℕ)) → IsOwnAt H bytes_at k (depth + 1) slot.digest slot.version more → ⊥) → ⊥
+  own_next_end there no_lone fault = fault es (own_next there no_lone)
 
 -- no page stands at a whole digest
 pub all_one : (H : List ℕ → List ℕ) (p : List Bool) (e : List ℕ × List ℕ) (es : List (List ℕ × List ℕ)) → length p ≡ 256

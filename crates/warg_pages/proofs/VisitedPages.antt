@@ -34,20 +34,20 @@ use Rattle.warg_pages.proofs.PagesBelow.{page_at_bytes}
 use Rattle.warg_pages.proofs.PrefixBytes.{length-bits, bits-more, same_bytes}
 
 -- slot after slot
-pub slots_more : (IsLone : List ℕ → SlotAt → List ℕ × List ℕ → Type 0) (From : List ℕ → ℕ → List ℕ → List ChangedPageAt → Type 0) (prefix : List ℕ)
-    (items : List SlotAt) (x : SlotAt) (rest : List SlotAt) (these more : List ChangedPageAt) → items ≡ x ∷ rest
-    → AreOfSlot IsLone From prefix x x.lone these → AreOfSlots IsLone From prefix rest more
-    → AreOfSlots IsLone From prefix items (these ++ more)
-unfolding AreOfSlots
-slots_more IsLone From prefix items x rest these more e first others =
-    let P : List SlotAt → Type 0 = λ xs. AreOfSlots IsLone From prefix xs (these ++ more) in
-    subst P (sym e) (these, more, refl, first, others)
+module _ (IsLone : List ℕ → SlotAt → List ℕ × List ℕ → Type 0)
+    (From : List ℕ → ℕ → List ℕ → List ChangedPageAt → Type 0) (prefix : List ℕ) where
+  pub slots_more : (items : List SlotAt) (x : SlotAt) (rest : List SlotAt) (these more : List ChangedPageAt)
+      → items ≡ x ∷ rest → AreOfSlot IsLone From prefix x x.lone these → AreOfSlots IsLone From prefix rest more
+      → AreOfSlots IsLone From prefix items (these ++ more)
+  unfolding AreOfSlots
+  slots_more items x rest these more e first others =
+      let P : List SlotAt → Type 0 = λ xs. AreOfSlots IsLone From prefix xs (these ++ more) in
+      subst P (sym e) (these, more, refl, first, others)
 
-pub no_slots : (IsLone : List ℕ → SlotAt → List ℕ × List ℕ → Type 0) (From : List ℕ → ℕ → List ℕ → List ChangedPageAt → Type 0) (prefix : List ℕ)
-    (items : List SlotAt) → items ≡ [] → AreOfSlots IsLone From prefix items []
-unfolding AreOfSlots
-no_slots IsLone From prefix items e =
-    let P : List SlotAt → Type 0 = λ xs. AreOfSlots IsLone From prefix xs [] in subst P (sym e) refl
+  pub no_slots : (items : List SlotAt) → items ≡ [] → AreOfSlots IsLone From prefix items []
+  unfolding AreOfSlots
+  no_slots items e =
+      let P : List SlotAt → Type 0 = λ xs. AreOfSlots IsLone From prefix xs [] in subst P (sym e) refl
 
 -- a page and those below it
 pub page_from : (H : List ℕ → List ℕ) (IsLone : List ℕ → SlotAt → List ℕ × List ℕ → Type 0)
@@ -92,39 +92,30 @@ own_root H bytes_at root count es fits some own =
       is_digest = at.is_digest;
     }
 
-own_bytes : (H : List ℕ → List ℕ) (bytes_at : List ℕ → ℕ → Option (List ℕ)) (prefix digest : List ℕ) (number : ℕ)
-    (es : List (List ℕ × List ℕ)) → length prefix < 32 → IsOwnFrom H bytes_at prefix number digest es
-    → bytes_at prefix number ≡ Some (page_bytes (page_of H es (bits_of_bytes prefix)))
-own_bytes H bytes_at prefix digest number es lt own =
-    ap (bytes_at prefix) own.is_version ∙ own.pages prefix own.are_bytes lt own.is_there
+module _ {H : List ℕ → List ℕ} (gives : GivesHashes H) {bytes_at : List ℕ → ℕ → Option (List ℕ)}
+    {prefix digest : List ℕ} {number : ℕ} {es : List (List ℕ × List ℕ)}
+    (own : IsOwnFrom H bytes_at prefix number digest es) (lt : length prefix < 32) where
+  own_bytes : bytes_at prefix number ≡ Some (page_bytes (page_of H es (bits_of_bytes prefix)))
+  own_bytes = ap (bytes_at prefix) own.is_version ∙ own.pages prefix own.are_bytes lt own.is_there
 
-pub own_refused : (H : List ℕ → List ℕ) → GivesHashes H → (bytes_at : List ℕ → ℕ → Option (List ℕ))
-    (prefix digest : List ℕ) (number : ℕ) (es : List (List ℕ × List ℕ)) → length prefix < 32
-    → ((slots : List SlotAt) → IsPage slots → bytes_at prefix number ≢ Some (page_bytes slots))
-    → IsOwnFrom H bytes_at prefix number digest es → ⊥
-own_refused H gives bytes_at prefix digest number es lt fault own =
-    fault (page_of H es (bits_of_bytes prefix)) (own_slots H es (bits_of_bytes prefix) gives own.fits)
-    (own_bytes H bytes_at prefix digest number es lt own)
+  own_is_page : IsPage (page_of H es (bits_of_bytes prefix))
+  own_is_page = own_slots H es (bits_of_bytes prefix) gives own.fits
 
-pub own_page : (H : List ℕ → List ℕ) → GivesHashes H → (bytes_at : List ℕ → ℕ → Option (List ℕ)) (prefix digest : List ℕ)
-    (number : ℕ) (page : List SlotAt) (es : List (List ℕ × List ℕ)) → length prefix < 32 → IsPage page
-    → IfSome (bytes_at prefix number) (λ known. known ≡ page_bytes page) → IsOwnFrom H bytes_at prefix number digest es
-    → page ≡ page_of H es (bits_of_bytes prefix)
-own_page H gives bytes_at prefix digest number page es lt is at own =
-    one_page page (page_of H es (bits_of_bytes prefix)) is (own_slots H es (bits_of_bytes prefix) gives own.fits)
-    (sym (rw (own_bytes H bytes_at prefix digest number es lt own) at at))
+  pub own_refused : ((slots : List SlotAt) → IsPage slots → bytes_at prefix number ≢ Some (page_bytes slots)) → ⊥
+  own_refused fault = fault (page_of H es (bits_of_bytes prefix)) own_is_page own_bytes
 
-pub own_digest : (H : List ℕ → List ℕ) → GivesHashes H → (bytes_at : List ℕ → ℕ → Option (List ℕ)) (prefix digest : List ℕ)
-    (number : ℕ) (page : List SlotAt) (es : List (List ℕ × List ℕ)) → length prefix < 32 → IsPage page
-    → IfSome (bytes_at prefix number) (λ known. known ≡ page_bytes page) → IsOwnFrom H bytes_at prefix number digest es
-    → page_digest H (length prefix) page ≡ digest
-own_digest H gives bytes_at prefix digest number page es lt is at own =
-    ap (page_digest H (length prefix)) (own_page H gives bytes_at prefix digest number page es lt is at own)
-    ∙ page_at_bytes H es prefix lt ∙ sym own.is_digest
+  pub own_page : {page : List SlotAt} → IsPage page → IfSome (bytes_at prefix number) (λ known. known ≡ page_bytes page)
+      → page ≡ page_of H es (bits_of_bytes prefix)
+  own_page {page} is at = one_page page (page_of H es (bits_of_bytes prefix)) is own_is_page (sym (rw own_bytes at at))
 
-pub own_end : (H : List ℕ → List ℕ) (bytes_at : List ℕ → ℕ → Option (List ℕ)) (prefix digest : List ℕ) (number : ℕ)
-    (es : List (List ℕ × List ℕ)) → length prefix ≡ 32 → IsOwnFrom H bytes_at prefix number digest es → ⊥
-own_end H bytes_at prefix digest number es full own =
+  pub own_digest : {page : List SlotAt} → IsPage page
+      → IfSome (bytes_at prefix number) (λ known. known ≡ page_bytes page) → page_digest H (length prefix) page ≡ digest
+  own_digest is at = ap (page_digest H (length prefix)) (own_page is at) ∙ page_at_bytes H es prefix lt
+      ∙ sym own.is_digest
+
+pub own_end : {H : List ℕ → List ℕ} {bytes_at : List ℕ → ℕ → Option (List ℕ)} {prefix digest : List ℕ} {number : ℕ}
+    {es : List (List ℕ × List ℕ)} → IsOwnFrom H bytes_at prefix number digest es → length prefix ≡ 32 → ⊥
+own_end {H} {bytes_at} {prefix} {digest} {number} {es} own full =
     no_way H bytes_at prefix digest (length prefix) number es full record {
       pages = own.pages;
       fits = own.fits;
@@ -160,15 +151,16 @@ among f byte first (suc n) i x lt e = by_first (f first) refl i lt e (λ j. amon
         (omega arith, ap f at ∙ o ∙ ap Some (sym is))
     by_first (Some y) o (suc j) low is rest = later (rest j (omega arith) is)
 
-pub own_slot : (H : List ℕ → List ℕ) (bytes_at : List ℕ → ℕ → Option (List ℕ)) (prefix digest : List ℕ) (number : ℕ)
-    (page : List SlotAt) (es : List (List ℕ × List ℕ)) (i : ℕ) (x : SlotAt)
-    → page ≡ page_of H es (bits_of_bytes prefix) → i < length page → x ≡ get_or page i x
-    → IsOwnFrom H bytes_at prefix number digest es → IsOwnSlot H bytes_at prefix x es
+pub own_slot : {H : List ℕ → List ℕ} {bytes_at : List ℕ → ℕ → Option (List ℕ)} {prefix digest : List ℕ} {number : ℕ}
+    {page : List SlotAt} {es : List (List ℕ × List ℕ)} → IsOwnFrom H bytes_at prefix number digest es
+    → page ≡ page_of H es (bits_of_bytes prefix) → (i : ℕ) (x : SlotAt) → i < length page → x ≡ get_or page i x
+    → IsOwnSlot H bytes_at prefix x es
 unfolding page_of
-own_slot H bytes_at prefix digest number page es i x same lt e own =
+own_slot {H} {prefix = prefix} {es = es} own same i x lt e =
     let p : List Bool = bits_of_bytes prefix in
     let found = among (slot_of H es p) (λ s y is. slot_is p s y is) 0 256 i x
-    (let P : List SlotAt → Type 0 = λ xs. i < length xs in subst P same lt) (e ∙ ap (λ xs. get_or xs i x) same) in record {
+    (let P : List SlotAt → Type 0 = λ xs. i < length xs in subst P same lt) (e ∙ ap (λ xs. get_or xs i x) same) in
+    record {
       pages = own.pages;
       fits = own.fits;
       are_bytes = own.are_bytes;
@@ -180,10 +172,10 @@ own_slot H bytes_at prefix digest number page es i x same lt e own =
     slot_is p s y is = rw is at (slot_byte H es (p ++ byte_bits s) s (last_with (is_below H (p ++ byte_bits s)) es))
 
 -- what stands below a slot
-pub own_below : (H : List ℕ → List ℕ) (bytes_at : List ℕ → ℕ → Option (List ℕ)) (prefix below : List ℕ) (x : SlotAt)
-    (es : List (List ℕ × List ℕ)) → below ≡ prefix ++ x.byte ∷ [] → x.lone ≡ None → IsOwnSlot H bytes_at prefix x es
-    → IsOwnFrom H bytes_at below x.version x.digest es
-own_below H bytes_at prefix longer x es e none own =
+pub own_below : {H : List ℕ → List ℕ} {bytes_at : List ℕ → ℕ → Option (List ℕ)} {prefix longer : List ℕ} {x : SlotAt}
+    {es : List (List ℕ × List ℕ)} → IsOwnSlot H bytes_at prefix x es → longer ≡ prefix ++ x.byte ∷ [] → x.lone ≡ None
+    → IsOwnFrom H bytes_at longer x.version x.digest es
+own_below {H} {prefix = prefix} {longer = longer} {x = x} {es = es} own e none =
     let p : List Bool = bits_of_bytes prefix in
     let slot = own_slot_is H es p x.byte x own.is_slot in
     let bits : bits_of_bytes longer ≡ p ++ byte_bits x.byte = ap bits_of_bytes e ∙ bits-more prefix x.byte in
@@ -213,10 +205,11 @@ held_alone : (lone : List ℕ × List ℕ) (b : Bool) → cond b (Some lone.1) N
 held_alone lone true = refl
 held_alone lone false = refl
 
-pub own_lone : (H : List ℕ → List ℕ) → GivesHashes H → (bytes_at : List ℕ → ℕ → Option (List ℕ)) (prefix : List ℕ)
-    (x : SlotAt) (lone : List ℕ × List ℕ) (es : List (List ℕ × List ℕ)) → length prefix < 32 → x.lone ≡ Some lone
-    → IsOwnSlot H bytes_at prefix x es → IsLoneBelow H prefix x lone
-own_lone H gives bytes_at prefix x lone es lt is own = record { begins = begins; digest = digest }
+pub own_lone : {H : List ℕ → List ℕ} {bytes_at : List ℕ → ℕ → Option (List ℕ)} {prefix : List ℕ} {x : SlotAt}
+    {lone : List ℕ × List ℕ} {es : List (List ℕ × List ℕ)} → GivesHashes H → IsOwnSlot H bytes_at prefix x es
+    → length prefix < 32 → x.lone ≡ Some lone → IsLoneBelow H prefix x lone
+own_lone {H} {prefix = prefix} {x = x} {lone = lone} {es = es} gives own lt is =
+    record { begins = begins; digest = digest }
   where
     p : List Bool
     p = bits_of_bytes prefix ++ byte_bits x.byte
@@ -244,7 +237,7 @@ own_lone H gives bytes_at prefix x lone es lt is own = record { begins = begins;
         let front = (same_parts p slot.alone.rest (bits_from lone.0 0 (8 * depth)) (last_bits lone.0 (256 - 8 * depth))
         (ap length (sym bits) ∙ length-bits longer ∙ ap (λ n. 8 * n) size ∙ sym (length-bits_from lone.0 0 (8 * depth)))
         (sym slot.alone.begins ∙ key_at lone.0 (8 * depth) (omega arith))).0 in
-        let taken : length (take depth lone.0) ≡ length longer = (let n = length-take depth lone.0 in omega (arith, size)) in
+        let taken : length (take depth lone.0) ≡ length longer = omega (arith, size, length-take depth lone.0) in
         same_bytes (take depth lone.0) longer (All-take IsByte depth lone.0 is_digest.are_bytes)
         (All-append IsByte prefix (x.byte ∷ []) own.are_bytes (All-cons IsByte x.byte [] own.is_byte
         (λ i d lt. absurd (omega arith)))) taken (bits_of_taken lone.0 depth (omega arith) ∙ sym front ∙ sym bits)

@@ -28,6 +28,10 @@ use Rattle.warg_pages.proofs.BitParts.{key_at}
 use Rattle.warg_pages.proofs.PrefixBytes.{length-bits, bits-more}
 use Rattle.warg_pages.proofs.OwnDescent.{bits_of_taken}
 
+-- the slots with a lone key
+abbrev pub with_lone : List SlotAt → List SlotAt
+with_lone xs = filter (λ x. is_some x.lone) xs
+
 -- what the lone keys of slots hold
 abbrev pub held_among : List SlotAt → List Bool → Option (List ℕ)
 held_among xs bits = held_by (filter_map (λ x. x.lone) xs) bits
@@ -55,7 +59,7 @@ or_none : (a : Option (List ℕ)) → option_or a None ≡ a
 or_none None = refl
 or_none (Some x) = refl
 
--- the slots with a lone key hold the same
+-- they hold the same
 one_kept : (x : SlotAt) (o : Option (List ℕ × List ℕ)) (ys : List SlotAt) (ls : List (List ℕ × List ℕ)) → x.lone ≡ o
     → filter_map (λ x. x.lone) ys ≡ ls
     → filter_map (λ x. x.lone) (cond (is_some x.lone) (x ∷ ys) ys) ≡ cons_option x.lone ls
@@ -63,9 +67,9 @@ one_kept x None ys ls e same = rw e same
 one_kept x (Some l) ys ls e same = rw e (ap (λ rest. l ∷ rest) same)
 
 kept_lones : (xs : List SlotAt)
-    → filter_map (λ x. x.lone) (filter (λ x. is_some x.lone) xs) ≡ filter_map (λ x. x.lone) xs
+    → filter_map (λ x. x.lone) (with_lone xs) ≡ filter_map (λ x. x.lone) xs
 kept_lones [] = refl
-kept_lones (x ∷ xs) = one_kept x x.lone (filter (λ x. is_some x.lone) xs) _ refl (kept_lones xs)
+kept_lones (x ∷ xs) = one_kept x x.lone (with_lone xs) _ refl (kept_lones xs)
 
 -- a slot among those with a lone key
 one_in_kept : (b : Bool) (y : SlotAt) (ys xs : List SlotAt) (x : SlotAt) → (Contains ys x → Contains xs x)
@@ -76,9 +80,9 @@ one_in_kept true y ys xs x in_xs h = elim (among y ys x h) [
 ]
 one_in_kept false y ys xs x in_xs h = later_among y xs x (in_xs h)
 
-pub in_kept : (xs : List SlotAt) (x : SlotAt) → Contains (filter (λ x. is_some x.lone) xs) x → Contains xs x
+pub in_kept : (xs : List SlotAt) (x : SlotAt) → Contains (with_lone xs) x → Contains xs x
 in_kept [] x h = h
-in_kept (y ∷ xs) x h = one_in_kept (is_some y.lone) y (filter (λ x. is_some x.lone) xs) xs x (in_kept xs x) h
+in_kept (y ∷ xs) x h = one_in_kept (is_some y.lone) y (with_lone xs) xs x (in_kept xs x) h
 
 -- the lone keys of slots begin with bytes
 abbrev pub BeginWith : List ℕ → List SlotAt → Type 0
@@ -183,19 +187,6 @@ page_below H bytes height x ys e held = record {
     later : (y : SlotAt) (l : List ℕ × List ℕ) → Contains (x ∷ ys) y → y.lone ≡ Some l → Contains ys y
     later y l at is = elim (among x ys y at) [ inl same ↦ absurd (cc) | inr rest ↦ rest ]
 
-pub slot_held : (H : List ℕ → List ℕ) (AreFrom : List ℕ → ℕ → List ℕ → List ChangedPageAt
-    → Type 0) (prefix : List ℕ) (x : SlotAt)
-    (o : Option (List ℕ × List ℕ)) (pages : List ChangedPageAt) → x.lone ≡ o → IsSlot x
-    → ((version : ℕ) (digest : List ℕ) (pages : List ChangedPageAt)
-    → AreFrom (prefix ++ x.byte ∷ []) version digest pages
-    → IsHeldBelow H (prefix ++ x.byte ∷ []) digest (slot_height (length prefix)) (lone_slots pages))
-    → AreOfSlot (IsLoneBelow H) AreFrom prefix x o pages
-    → IsHeldBelow H (prefix ++ x.byte ∷ []) x.digest (slot_height (length prefix)) (x ∷ lone_slots pages)
-slot_held H AreFrom prefix x None pages e is below h = page_below H (prefix ++ x.byte ∷ []) (slot_height
-    (length prefix)) x
-    (lone_slots pages) e (below x.version x.digest pages h)
-slot_held H AreFrom prefix x (Some l) pages e is below h = rw h.0 (lone_held H prefix x l e is h.1)
-
 -- one part of four
 left_only : (a b c d : Option (List ℕ)) → option_or b d ≡ None
     → option_or a (option_or b (option_or c d)) ≡ option_or a c
@@ -292,35 +283,45 @@ one_more_slot H prefix n x xs ys zs short le lt slot others = record {
         (held_among ys bits) (held_among zs bits) (sym (held_among-append (x ∷ []) ys bits) ∙ none_here s low apart r)))
 
 -- the slots of a page
-slots_held : (H : List ℕ → List ℕ) (AreFrom : List ℕ → ℕ → List ℕ → List ChangedPageAt
-    → Type 0) (prefix : List ℕ) (n : ℕ)
-    (slots : List SlotAt) (pages : List ChangedPageAt) → length prefix < 32 → Ascends slots → All IsSlot slots
-    → All (λ x. n ≤ x.byte) slots
-    → ((byte version : ℕ) (digest : List ℕ) (pages : List ChangedPageAt)
-    → AreFrom (prefix ++ byte ∷ []) version digest pages
-    → IsHeldBelow H (prefix ++ byte ∷ []) digest (slot_height (length prefix)) (lone_slots pages))
-    → AreOfSlots (IsLoneBelow H) AreFrom prefix slots pages → AreHeldFrom H prefix n slots (slots ++ lone_slots pages)
-unfolding AreOfSlots digest_at
-slots_held H AreFrom prefix n [] pages short ascend are low below h = rw h record {
-  begin = λ y l c e. absurd (let lt = c.1 in omega arith);
-  root = λ s within. sym (root-nothing H (slot_height (length prefix)));
-  apart = λ y z k l m c d is_y is_z. absurd (let lt = c.1 in omega arith);
-}
-slots_held H AreFrom prefix n (x ∷ xs) pages short ascend are low below h =
-    let is : IsSlot x = All-head IsSlot x xs are in
-    let at : n ≤ x.byte = All-head (λ (y : SlotAt). n ≤ y.byte) x xs low in
-    let split : lone_slots pages ≡ lone_slots h.0 ++ lone_slots h.1 = ap lone_slots h.2
-    ∙ flat_map-append (λ (p : ChangedPageAt). filter (λ x. is_some x.lone) p.page) h.0 h.1 in
-    rw split (one_more_slot H prefix n x xs (lone_slots h.0) (lone_slots h.1) short at is.is_byte
-    (slot_held H AreFrom prefix x x.lone h.0 refl is (below x.byte) h.3)
-    (slots_held H AreFrom prefix (x.byte + 1) xs h.1 short
-    (λ i j d lt within. ascend (suc i) (suc j) d (omega arith) (omega arith)) (All-tail IsSlot x xs are)
-    (λ i d within. let later = ascend 0 (suc i) d (omega arith) (omega arith) in omega arith) below h.4))
+module _ (H : List ℕ → List ℕ) (AreFrom : List ℕ → ℕ → List ℕ → List ChangedPageAt → Type 0) (prefix : List ℕ) where
+  pub slot_held : (x : SlotAt) (o : Option (List ℕ × List ℕ)) (pages : List ChangedPageAt) → x.lone ≡ o → IsSlot x
+      → ((version : ℕ) (digest : List ℕ) (pages : List ChangedPageAt)
+      → AreFrom (prefix ++ x.byte ∷ []) version digest pages
+      → IsHeldBelow H (prefix ++ x.byte ∷ []) digest (slot_height (length prefix)) (lone_slots pages))
+      → AreOfSlot (IsLoneBelow H) AreFrom prefix x o pages
+      → IsHeldBelow H (prefix ++ x.byte ∷ []) x.digest (slot_height (length prefix)) (x ∷ lone_slots pages)
+  slot_held x None pages e is below h = page_below H (prefix ++ x.byte ∷ []) (slot_height (length prefix)) x
+      (lone_slots pages) e (below x.version x.digest pages h)
+  slot_held x (Some l) pages e is below h = rw h.0 (lone_held H prefix x l e is h.1)
+
+  slots_held : (n : ℕ) (slots : List SlotAt) (pages : List ChangedPageAt) → length prefix < 32 → Ascends slots
+      → All IsSlot slots → All (λ x. n ≤ x.byte) slots
+      → ((byte version : ℕ) (digest : List ℕ) (pages : List ChangedPageAt)
+      → AreFrom (prefix ++ byte ∷ []) version digest pages
+      → IsHeldBelow H (prefix ++ byte ∷ []) digest (slot_height (length prefix)) (lone_slots pages))
+      → AreOfSlots (IsLoneBelow H) AreFrom prefix slots pages
+      → AreHeldFrom H prefix n slots (slots ++ lone_slots pages)
+  unfolding AreOfSlots digest_at
+  slots_held n [] pages short ascend are low below h = rw h record {
+    begin = λ y l c e. absurd (let lt = c.1 in omega arith);
+    root = λ s within. sym (root-nothing H (slot_height (length prefix)));
+    apart = λ y z k l m c d is_y is_z. absurd (let lt = c.1 in omega arith);
+  }
+  slots_held n (x ∷ xs) pages short ascend are low below h =
+      let is : IsSlot x = All-head IsSlot x xs are in
+      let at : n ≤ x.byte = All-head (λ (y : SlotAt). n ≤ y.byte) x xs low in
+      let split : lone_slots pages ≡ lone_slots h.0 ++ lone_slots h.1 = ap lone_slots h.2
+      ∙ flat_map-append (λ (p : ChangedPageAt). with_lone p.page) h.0 h.1 in
+      rw split (one_more_slot H prefix n x xs (lone_slots h.0) (lone_slots h.1) short at is.is_byte
+      (slot_held x x.lone h.0 refl is (below x.byte) h.3)
+      (slots_held (x.byte + 1) xs h.1 short
+      (λ i j d lt within. ascend (suc i) (suc j) d (omega arith) (omega arith)) (All-tail IsSlot x xs are)
+      (λ i d within. let later = ascend 0 (suc i) d (omega arith) (omega arith) in omega arith) below h.4))
 
 -- a slot of a page or below it
-pub in_page : (slots ys : List SlotAt) (y : SlotAt) → Contains (filter (λ x. is_some x.lone) slots ++ ys) y
+pub in_page : (slots ys : List SlotAt) (y : SlotAt) → Contains (with_lone slots ++ ys) y
     → Contains (slots ++ ys) y
-in_page slots ys y h = elim (Contains-append_cases (filter (λ x. is_some x.lone) slots) ys y h) [
+in_page slots ys y h = elim (Contains-append_cases (with_lone slots) ys y h) [
   | inl own ↦ Contains-append_left slots ys y (in_kept slots y own)
   | inr later ↦ Contains-append_right slots ys y later
 ]
@@ -341,9 +342,8 @@ page_held H prefix version slots below short held = record {
   begin = λ y l c e. (let at = held.begin y l (in_page slots (lone_slots below) y c) e in
       (at.3, begin_shorter prefix l.0 at.0 at.4));
   root = root_over-below H (slot_height (length prefix)) 8 0 (digest_at H (slot_height (length prefix)) slots)
-      (λ r. held_among (filter (λ x. is_some x.lone) slots ++ lone_slots below) (bits_of_bytes prefix ++ r)) at_byte
-      ∙ ap (λ k. root_of_levels H k (λ r. held_among (filter (λ x. is_some x.lone) slots ++ lone_slots below)
-      (bits_of_bytes prefix ++ r)))
+      (λ r. held_among (with_lone slots ++ lone_slots below) (bits_of_bytes prefix ++ r)) at_byte
+      ∙ ap (λ k. root_of_levels H k (λ r. held_among (with_lone slots ++ lone_slots below) (bits_of_bytes prefix ++ r)))
       height;
   apart = λ y z k l m c d is_y is_z. held.apart y z k l m (in_page slots (lone_slots below) y c) (in_page slots
       (lone_slots below) z d) is_y is_z;
@@ -353,10 +353,10 @@ page_held H prefix version slots below short held = record {
     height = omega arith
 
     kept : (bits : List Bool) → held_among (slots ++ lone_slots below) bits
-        ≡ held_among (filter (λ x. is_some x.lone) slots ++ lone_slots below) bits
+        ≡ held_among (with_lone slots ++ lone_slots below) bits
     kept bits = ap (λ l. held_by l bits) (filter_map-append (λ (x : SlotAt). x.lone) slots (lone_slots below)
         ∙ ap (λ l. l ++ filter_map (λ x. x.lone) (lone_slots below)) (sym (kept_lones slots))
-        ∙ sym (filter_map-append (λ (x : SlotAt). x.lone) (filter (λ x. is_some x.lone) slots) (lone_slots below)))
+        ∙ sym (filter_map-append (λ (x : SlotAt). x.lone) (with_lone slots) (lone_slots below)))
 
     bits_at : (q r : List Bool) → length q ≡ 8
         → bits_of_bytes (prefix ++ number q ∷ []) ++ r ≡ bits_of_bytes prefix ++ (q ++ r)
@@ -366,7 +366,7 @@ page_held H prefix version slots below short held = record {
 
     at_byte : (q : List Bool) → length q ≡ 8 → digest_at H (slot_height (length prefix)) slots (0 + number q)
         ≡ root_of_levels H (slot_height (length prefix))
-        (λ r. held_among (filter (λ x. is_some x.lone) slots ++ lone_slots below) (bits_of_bytes prefix ++ (q ++ r)))
+        (λ r. held_among (with_lone slots ++ lone_slots below) (bits_of_bytes prefix ++ (q ++ r)))
     at_byte q m =
         let at : 0 + number q ≡ number q = omega arith in
         let low : number q < 256 = rw m at (number_below q) in

@@ -20,4 +20,4 @@ pub own_entry : (H : List ℕ → List ℕ) (insertions : List (List ℕ × List
     → index + 1 ≡ version H insertions (key_bits H key) → get (map_of H insertions) (key_bits H key) ≡ Some leaf
     → last_under H (key_bits H key) insertions ≡ Some (key, value)
     → (slice_get (entries_of insertions) index ≡ Some (entry_of (key, value))) × (leaf_digest H value ≡ leaf)
-own_entry = held.own_entry
+own_entry H insertions key value leaf index at is_held = held.own_entry H insertions key leaf index at is_held value

@@ -38,7 +38,7 @@ module _ (key leaf entry : List ℕ) (index : ℕ) (peers : List (Option (List �
       → IsKeyIn insertions key found
   own insertions (Held at value others) small there held is = (
     ap (λ (i : ℕ). i + 1) is.0 ∙ held.place,
-    own_value sha256 insertions key value.items entry leaf index small there is.2 held.place held.held,
+    own_value sha256 insertions key leaf index held.place held.held value.items entry small there is.2,
     subst (λ (p : List (Option (List ℕ))). Proves sha256 256 (map_of sha256 insertions) (key_bits sha256 key) p)
         (sym is.1) held.proves,
   )

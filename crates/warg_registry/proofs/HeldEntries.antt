@@ -42,45 +42,6 @@ lasts p q same (x ∷ xs) = elim (lasts p q same xs) [
   ]
 ]
 
--- So the entry at a held key's index is that of the last insertion under the key's digest.
-pub last_entry : (H : List ℕ → List ℕ) (insertions : List (List ℕ × List ℕ)) (key leaf : List ℕ) (index : ℕ)
-    → index + 1 ≡ version H insertions (key_bits H key) → get (map_of H insertions) (key_bits H key) ≡ Some leaf
-    → (e : List ℕ × List ℕ) × (last_under H (key_bits H key) insertions ≡ Some e)
-    × (slice_get (entries_of insertions) index ≡ Some (entry_of e)) × (key_bits H e.0 ≡ key_bits H key)
-    × (leaf_digest H e.1 ≡ leaf)
-last_entry H insertions key leaf index at held =
-    let bits = key_bits H key in
-    let same = λ (e : List ℕ × List ℕ). begins_all bits (key_bits H e.0) (all_bits H key ∙ sym (all_bits H e.0)) in
-    elim (lasts (is_below H bits) (λ e. same_bits bits (key_bits H e.0)) same insertions) [
-      | inl h ↦ absurd (omega (arith, at, h.0))
-      | inr h ↦
-          let place : index ≡ h.0 = omega (arith, at, h.2) in
-          let there : slice_get (entries_of insertions) index ≡ Some (entry_of h.1) =
-          rw place (slice_get-map entry_of insertions h.0 ∙ ap (option_map entry_of) h.4) in
-          let last : Some (leaf_digest H h.1.1) ≡ get (map_of H insertions) bits =
-          ap (option_map (λ e. leaf_digest H e.1)) (sym h.3) ∙ sym (last_held H bits insertions) in
-          let leaves : Some (leaf_digest H h.1.1) ≡ Some leaf = last ∙ held in
-          (h.1, h.3, there, sym (same_bits-true bits (key_bits H h.1.0) h.5), cc)
-    ]
-
-pub held_entry : (H : List ℕ → List ℕ) (insertions : List (List ℕ × List ℕ)) (key leaf : List ℕ) (index : ℕ)
-    → index + 1 ≡ version H insertions (key_bits H key) → get (map_of H insertions) (key_bits H key) ≡ Some leaf
-    → (e : List ℕ × List ℕ) × (slice_get (entries_of insertions) index ≡ Some (entry_of e))
-    × (key_bits H e.0 ≡ key_bits H key) × (leaf_digest H e.1 ≡ leaf)
-held_entry H insertions key leaf index at held =
-    let last = last_entry H insertions key leaf index at held in
-    (last.0, last.2, last.3, last.4)
-
-pub own_entry : (H : List ℕ → List ℕ) (insertions : List (List ℕ × List ℕ)) (key value leaf : List ℕ) (index : ℕ)
-    → index + 1 ≡ version H insertions (key_bits H key) → get (map_of H insertions) (key_bits H key) ≡ Some leaf
-    → last_under H (key_bits H key) insertions ≡ Some (key, value)
-    → (slice_get (entries_of insertions) index ≡ Some (entry_of (key, value))) × (leaf_digest H value ≡ leaf)
-own_entry H insertions key value leaf index at held own =
-    let last = last_entry H insertions key leaf index at held in
-    let both : Some last.0 ≡ Some (key, value) = sym last.1 ∙ own in
-    let same : last.0 ≡ (key, value) = cc in
-    (last.2 ∙ ap (λ e. Some (entry_of e)) same, ap (λ e. leaf_digest H e.1) (sym same) ∙ last.4)
-
 -- An entry of fewer than 2^64 bytes is of a key and a value whose lengths 8 bytes can say.
 pub small_insertion : (key value entry : List ℕ) → length entry < 2 ^ 64 → entry ≡ entry_of (key, value)
     → IsInsertion (key, value)
@@ -90,36 +51,61 @@ small_insertion key value entry small is =
     let right = length-append value [] in
     (omega (arith, size, left, right, small), omega (arith, size, left, right, small))
 
--- The entry at a held key's index, if it is one of the key itself, is that of the last insertion under its digest.
-pub own_value : (H : List ℕ → List ℕ) (insertions : List (List ℕ × List ℕ)) (key value entry leaf : List ℕ) (index : ℕ)
-    → length entry < 2 ^ 64 → slice_get (entries_of insertions) index ≡ Some entry → entry ≡ entry_of (key, value)
-    → index + 1 ≡ version H insertions (key_bits H key) → get (map_of H insertions) (key_bits H key) ≡ Some leaf
-    → last_under H (key_bits H key) insertions ≡ Some (key, value)
-own_value H insertions key value entry leaf index small there is at held =
-    let last = last_entry H insertions key leaf index at held in
-    let both : Some entry ≡ Some (entry_of last.0) = sym there ∙ last.2 in
-    let same : entry_of (key, value) ≡ entry_of last.0 = let e : entry ≡ entry_of last.0 = cc in sym is ∙ e in
-    last.1 ∙ ap (λ (e : List ℕ × List ℕ). Some e)
-    (sym (one_insertion (key, value) last.0 (small_insertion key value entry small is) same))
+-- Of a key that is held with this leaf digest, at this index:
+module _ (H : List ℕ → List ℕ) (insertions : List (List ℕ × List ℕ)) (key leaf : List ℕ) (index : ℕ)
+    (at : index + 1 ≡ version H insertions (key_bits H key))
+    (held : get (map_of H insertions) (key_bits H key) ≡ Some leaf) where
+  -- the entry there is that of the last insertion under the key's digest,
+  pub last_entry : (e : List ℕ × List ℕ) × (last_under H (key_bits H key) insertions ≡ Some e)
+      × (slice_get (entries_of insertions) index ≡ Some (entry_of e)) × (key_bits H e.0 ≡ key_bits H key)
+      × (leaf_digest H e.1 ≡ leaf)
+  last_entry =
+      let bits = key_bits H key in
+      let same = λ (e : List ℕ × List ℕ). begins_all bits (key_bits H e.0) (all_bits H key ∙ sym (all_bits H e.0)) in
+      elim (lasts (is_below H bits) (λ e. same_bits bits (key_bits H e.0)) same insertions) [
+        | inl h ↦ absurd (omega (arith, at, h.0))
+        | inr h ↦
+            let place : index ≡ h.0 = omega (arith, at, h.2) in
+            let there : slice_get (entries_of insertions) index ≡ Some (entry_of h.1) =
+            rw place (slice_get-map entry_of insertions h.0 ∙ ap (option_map entry_of) h.4) in
+            let last : Some (leaf_digest H h.1.1) ≡ get (map_of H insertions) bits =
+            ap (option_map (λ e. leaf_digest H e.1)) (sym h.3) ∙ sym (last_held H bits insertions) in
+            let leaves : Some (leaf_digest H h.1.1) ≡ Some leaf = last ∙ held in
+            (h.1, h.3, there, sym (same_bits-true bits (key_bits H h.1.0) h.5), cc)
+      ]
 
--- It is one of the key itself, where the last insertion under the key's digest is.
-pub entry_of_key : (H : List ℕ → List ℕ) (insertions : List (List ℕ × List ℕ)) (key entry leaf : List ℕ) (index : ℕ)
-    → length entry < 2 ^ 64 → slice_get (entries_of insertions) index ≡ Some entry
-    → index + 1 ≡ version H insertions (key_bits H key) → get (map_of H insertions) (key_bits H key) ≡ Some leaf
-    → ((e : List ℕ × List ℕ) → last_under H (key_bits H key) insertions ≡ Some e → e.0 ≡ key)
-    → (value : List ℕ) × IsInsertion (key, value) × (entry ≡ entry_of (key, value)) × (leaf_digest H value ≡ leaf)
-entry_of_key H insertions key entry leaf index small there at held own =
-    let last = last_entry H insertions key leaf index at held in
-    let value = last.0.1 in
-    let both : Some entry ≡ Some (entry_of last.0) = sym there ∙ last.2 in
-    let same : entry ≡ entry_of last.0 = cc in
-    let is : entry ≡ entry_of (key, value) = same ∙ ap (λ (k : List ℕ). entry_of (k, value)) (own last.0 last.1) in
-    (value, small_insertion key value entry small is, is, last.4)
+  pub held_entry : (e : List ℕ × List ℕ) × (slice_get (entries_of insertions) index ≡ Some (entry_of e))
+      × (key_bits H e.0 ≡ key_bits H key) × (leaf_digest H e.1 ≡ leaf)
+  held_entry = (last_entry.0, last_entry.2, last_entry.3, last_entry.4)
 
--- There is an entry at its index.
-pub held_within : (H : List ℕ → List ℕ) (insertions : List (List ℕ × List ℕ)) (key leaf : List ℕ) (index : ℕ)
-    → index + 1 ≡ version H insertions (key_bits H key) → get (map_of H insertions) (key_bits H key) ≡ Some leaf
-    → index < length (entries_of insertions)
-held_within H insertions key leaf index at held =
-    let last = last_entry H insertions key leaf index at held in
-    slice_get_within (entries_of insertions) index (entry_of last.0) last.2
+  pub own_entry : (value : List ℕ) → last_under H (key_bits H key) insertions ≡ Some (key, value)
+      → (slice_get (entries_of insertions) index ≡ Some (entry_of (key, value))) × (leaf_digest H value ≡ leaf)
+  own_entry value own =
+      let both : Some last_entry.0 ≡ Some (key, value) = sym last_entry.1 ∙ own in
+      let same : last_entry.0 ≡ (key, value) = cc in
+      (last_entry.2 ∙ ap (λ e. Some (entry_of e)) same, ap (λ e. leaf_digest H e.1) (sym same) ∙ last_entry.4)
+
+  -- and that insertion is of the key itself, if this entry is,
+  pub own_value : (value entry : List ℕ) → length entry < 2 ^ 64 → slice_get (entries_of insertions) index ≡ Some entry
+      → entry ≡ entry_of (key, value) → last_under H (key_bits H key) insertions ≡ Some (key, value)
+  own_value value entry small there is =
+      let both : Some entry ≡ Some (entry_of last_entry.0) = sym there ∙ last_entry.2 in
+      let same : entry ≡ entry_of last_entry.0 = cc in
+      last_entry.1 ∙ ap (λ (e : List ℕ × List ℕ). Some e)
+      (sym (one_insertion (key, value) last_entry.0 (small_insertion key value entry small is) (sym is ∙ same)))
+
+  -- as this entry is, if that insertion is.
+  pub entry_of_key : (entry : List ℕ) → length entry < 2 ^ 64 → slice_get (entries_of insertions) index ≡ Some entry
+      → ((e : List ℕ × List ℕ) → last_under H (key_bits H key) insertions ≡ Some e → e.0 ≡ key)
+      → (value : List ℕ) × IsInsertion (key, value) × (entry ≡ entry_of (key, value)) × (leaf_digest H value ≡ leaf)
+  entry_of_key entry small there own =
+      let value = last_entry.0.1 in
+      let both : Some entry ≡ Some (entry_of last_entry.0) = sym there ∙ last_entry.2 in
+      let same : entry ≡ entry_of last_entry.0 = cc in
+      let is : entry ≡ entry_of (key, value) =
+      same ∙ ap (λ (k : List ℕ). entry_of (k, value)) (own last_entry.0 last_entry.1) in
+      (value, small_insertion key value entry small is, is, last_entry.4)
+
+  -- There is an entry at its index.
+  pub held_within : index < length (entries_of insertions)
+  held_within = slice_get_within (entries_of insertions) index (entry_of last_entry.0) last_entry.2

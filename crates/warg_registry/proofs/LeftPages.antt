@@ -15,9 +15,12 @@ or_second : (a b : Bool) → b ≡ true → (a || b) ≡ true
 or_second true b e = refl
 or_second false b e = e
 
+-- the pages among these names are gone
+abbrev pub ArePagesGone : Files → List (String Global) → Type 0
+ArePagesGone files names = All (λ name. is_page (string_bytes name) ≡ true → files (string_bytes name) ≡ None) names
+
 -- a page that was removed is gone
-gone : (new : Files) (names : List (String Global)) (n : List ℕ)
-    → All (λ name. is_page (string_bytes name) ≡ true → new (string_bytes name) ≡ None) names → is_page n ≡ true
+gone : (new : Files) (names : List (String Global)) (n : List ℕ) → ArePagesGone new names → is_page n ≡ true
     → Contains (bytes_of names) n → new n ≡ None
 gone new names n removed page there =
     let found = of_mapped (λ (k : String Global). string_bytes k) names n there in
@@ -40,13 +43,13 @@ page_stays old new kept served prunes n page there = ⊎_elim
 
 -- what is spare is so in files that are the same
 pub spare_in : (k m a b : ℕ) (s t : Files) (n : List ℕ) → k ≡ m → a ≡ b → t ≡ s → IsSpare k a s n → IsSpare m b t n
-spare_in k m a b s t n kept served same spare = subst (λ (f : Files). IsSpare m b f n) (sym same)
-    (subst (λ i. IsSpare m i s n) served (subst (λ i. IsSpare i a s n) kept spare))
+spare_in k m a b s t n kept served same spare =
+    subst (λ (was : ℕ × ℕ × Files). IsSpare was.0 was.1 was.2 n) (λ i. (kept i, served i, sym same i)) spare
 
 -- of a folder in which files are pruned and pages are removed, each page that is left was there, and wasn't to go
 pub left : (before mid pruned new : Files) (names : List (String Global)) (kept served : ℕ) (P : List ℕ → Type 0)
     → mid ≡ before → IsPruned kept served mid pruned → IsWithoutPages (bytes_of names) pruned new
-    → All (λ name. is_page (string_bytes name) ≡ true → new (string_bytes name) ≡ None) names
+    → ArePagesGone new names
     → ((n : List ℕ) → is_page n ≡ true → IsSome (before n) → Contains (bytes_of names) n ⊎ P n)
     → (n : List ℕ) → is_page n ≡ true → IsSome (new n) → P n
 left before mid pruned new names kept served P same prunes without removed spare n page there =

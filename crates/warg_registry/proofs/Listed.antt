@@ -1,16 +1,25 @@
 -- Elements of lists that are made of others.
-use Rattle.std.proofs.Common.{◌≡◌, ◌⊎◌, zero, suc, Bool, true, List, [], ◌∷◌, map, refl, sym, ap, ◌∙◌, subst, inl, inr, arith}
+use Rattle.std.proofs.Common.{◌≡◌, ◌⊎◌, ℕ, zero, suc, Bool, true, List, [], ◌∷◌, map, refl, sym, ap, ◌∙◌, subst, inl, inr, arith}
 use Rattle.std.specs.List.{Contains, filter, flat_map}
+use Rattle.std.specs.declared.alloc.Global.{Global}
+use Rattle.std.specs.declared.vec.Vec.{Vec}
 use Rattle.std.proofs.lemmas.Bool.{cases_Bool}
 use Rattle.std.proofs.lemmas.List.Elements.{Contains-append_left, Contains-append_right, Contains-append_cases}
+
+-- the bytes of vectors
+abbrev pub items_of : List (Vec ℕ Global) → List (List ℕ)
+items_of vectors = map (λ (v : Vec ℕ Global). v.items) vectors
 
 -- nothing is an element of no list
 pub none_there : {X : Type 0} (x : X) → Contains [] x → ⊥
 none_there x h = let lt = h.1 in absurd (omega arith)
 
 -- the first element, and the others
+pub first_is : {X : Type 0} (xs : List X) {x y : X} → y ≡ x → Contains (y ∷ xs) x
+first_is xs e = (0, omega arith, e)
+
 pub first_there : {X : Type 0} (xs : List X) (x : X) → Contains (x ∷ xs) x
-first_there xs x = (0, omega arith, refl)
+first_there xs x = first_is xs refl
 
 pub later_there : {X : Type 0} (xs : List X) (x y : X) → Contains xs x → Contains (y ∷ xs) x
 later_there xs x y h = Contains-append_right (y ∷ []) xs x h
@@ -29,7 +38,7 @@ there_cases xs x y h = elim (Contains-append_cases (y ∷ []) xs x h) [
 pub mapped_there : {X Y : Type 0} (f : X → Y) (xs : List X) (x : X) → Contains xs x → Contains (map f xs) (f x)
 mapped_there f [] x h = absurd (none_there x h)
 mapped_there f (y ∷ xs) x h = elim (there_cases xs x y h) [
-  | inl e ↦ subst (λ z. Contains (f y ∷ map f xs) (f z)) e (first_there (map f xs) (f y))
+  | inl e ↦ first_is (map f xs) (ap f e)
   | inr more ↦ later_there (map f xs) (f x) (f y) (mapped_there f xs x more)
 ]
 
@@ -46,7 +55,7 @@ pub passed_there : {X : Type 0} (p : X → Bool) (xs : List X) (x : X) → p x �
     → Contains (filter p xs) x
 passed_there p [] x passes h = absurd (none_there x h)
 passed_there p (y ∷ xs) x passes h = elim (there_cases xs x y h) [
-  | inl e ↦ rw (ap p e ∙ passes) (subst (λ z. Contains (y ∷ filter p xs) z) e (first_there (filter p xs) y))
+  | inl e ↦ rw (ap p e ∙ passes) (first_is (filter p xs) e)
   | inr more ↦ elim (cases_Bool (p y)) [
     | inl t ↦ rw t (later_there (filter p xs) x y (passed_there p xs x passes more))
     | inr f ↦ rw f (passed_there p xs x passes more)
@@ -58,7 +67,7 @@ pub of_passed : {X : Type 0} (p : X → Bool) (xs : List X) (x : X) → Contains
 of_passed p [] x h = absurd (none_there x h)
 of_passed p (y ∷ xs) x h = elim (cases_Bool (p y)) [
   | inl t ↦ elim (there_cases (filter p xs) x y (rw t at h)) [
-    | inl e ↦ (sym (ap p e) ∙ t, subst (λ z. Contains (y ∷ xs) z) e (first_there xs y))
+    | inl e ↦ (sym (ap p e) ∙ t, first_is xs e)
     | inr more ↦ let found = of_passed p xs x more in (found.0, later_there xs x y found.1)
   ]
   | inr f ↦ let found = of_passed p xs x (rw f at h) in (found.0, later_there xs x y found.1)

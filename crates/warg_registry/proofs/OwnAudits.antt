@@ -4,7 +4,7 @@ use Rattle.std.proofs.lemmas.Bool.{cond-true, eqb-true}
 use Rattle.std.proofs.lemmas.List.{length-take-le, length-map}
 use Rattle.std.proofs.lemmas.List.Elements.{All-take}
 use Rattle.std.specs.Prelude.{slice_get}
-use Rattle.std.specs.List.{AllPairs, Contains, filter, filter_map, cons_option}
+use Rattle.std.specs.List.{AllPairs, Contains, filter_map, cons_option}
 use Rattle.std.specs.Option.{is_some}
 use Rattle.warg_crypto.specs.Digests.{IsByte}
 use Rattle.warg_crypto.specs.Collisions.{GivesHashes}
@@ -17,10 +17,10 @@ use Rattle.warg_pages.specs.Visits.{IsLoneBelow, IsAllowed, AreAllPages, lone_sl
 use Rattle.warg_pages.specs.Audits.{IsLoneAmong, IsHeldIn, AreInPages, count_last}
 use Rattle.warg_pages.proofs.ForCallers.{own_visit, visit_own, lone_apart}
 use Rattle.warg_registry.proofs.DistinctLists.{one_pair_more, pairs_then, pairs-map, no_more}
-use Rattle.warg_registry.proofs.Listed.{none_there, first_there, later_there, there_cases, mapped_there, of_mapped, passed_there, of_passed, joined_there, of_joined}
+use Rattle.warg_registry.proofs.Listed.{none_there, first_is, first_there, later_there, there_cases, mapped_there, of_mapped, passed_there, of_passed, joined_there, of_joined}
 use Rattle.warg_registry.proofs.OwnLones as own
 use Rattle.warg_registry.proofs.RegistryPages.{number_there}
-use Rattle.warg_registry.proofs.VisitedApart.{visited_pages, one_page_visited, key_of, keys_apart}
+use Rattle.warg_registry.proofs.VisitedApart.{visited_pages, one_page_visited, key_of, lones_of, keys_apart}
 
 -- what is made of some elements
 made_there : {X Y : Type 0} (f : X → Option Y) (xs : List X) (x : X) (y : Y) → Contains xs x → f x ≡ Some y
@@ -33,7 +33,7 @@ made_there {X = X} {Y = Y} f (z ∷ xs) x y there is = one (f z) refl (made_ther
     one None e rest = ⊎_elim (λ same. absurd (let clash : None ≡ Some y = sym e ∙ ap f same ∙ is in cc))
         (λ later. rest later is) (there_cases xs x z there)
     one (Some w) e rest = ⊎_elim (λ same. let both : Some w ≡ Some y = sym e ∙ ap f same ∙ is in
-        let one : w ≡ y = cc in subst (λ v. Contains (w ∷ filter_map f xs) v) one (first_there (filter_map f xs) w))
+        first_is (filter_map f xs) (cc))
         (λ later. later_there (filter_map f xs) y w (rest later is)) (there_cases xs x z there)
 
 of_made : {X Y : Type 0} (f : X → Option Y) (xs : List X) (y : Y) → Contains (filter_map f xs) y
@@ -52,8 +52,12 @@ of_made {X = X} {Y = Y} f (z ∷ xs) y there = one (f z) refl there
 -- an element at its place
 there_at : {X : Type 0} (xs : List X) (i : ℕ) (x : X) → slice_get xs i ≡ Some x → Contains xs x
 there_at [] i x is = absurd (cc)
-there_at (y ∷ xs) zero x is = let same : y ≡ x = cc in subst (λ z. Contains (y ∷ xs) z) same (first_there xs y)
+there_at (y ∷ xs) zero x is = first_is xs (cc)
 there_at (y ∷ xs) (suc i) x is = later_there xs x y (there_at xs i x is)
+
+-- the versions of lone keys
+abbrev versions : List ChangedPageAt → List ℕ
+versions all = map (λ (x : SlotAt). x.version) (lone_slots all)
 
 -- the versions of those that are the last ones of their keys
 abbrev picked : ℕ → List ℕ → List ℕ
@@ -101,7 +105,7 @@ picked_first first v vs is =
     let P : List ℕ → Type 0 = λ ws. Contains ws (suc (first + zero)) in
     subst P (sym (cond-true _ (v ∷ picked (first + 1) vs) (picked (first + 1) vs) (eq-eqb v (first + 1)
     (omega (arith, is)))))
-    (subst (Contains (v ∷ picked (first + 1) vs)) is (first_there (picked (first + 1) vs) v))
+    (first_is (picked (first + 1) vs) is)
 
 picked_later : (first v w : ℕ) (vs : List ℕ) → Contains (picked (first + 1) vs) v → Contains (picked first (w ∷ vs)) v
 picked_later first v w vs h = one (eqb w (first + 1))
@@ -112,15 +116,14 @@ picked_later first v w vs h = one (eqb w (first + 1))
 
 -- where insertions are in pages, each such version is one of a lone key, and each lone key's version is such a one
 picked_within : (H : List ℕ → List ℕ) (all : List ChangedPageAt) (first : ℕ) (es : List (List ℕ × List ℕ)) (vs : List ℕ)
-    → AreInPages H all first es vs → (v : ℕ) → Contains (picked first vs) v
-    → Contains (map (λ (x : SlotAt). x.version) (lone_slots all)) v
+    → AreInPages H all first es vs → (v : ℕ) → Contains (picked first vs) v → Contains (versions all) v
 unfolding AreInPages
 picked_within H all first [] [] are v h = absurd (none_there v h)
 picked_within H all first [] (w ∷ vs) are v h = absurd are
 picked_within H all first (e ∷ es) [] are v h = absurd are
 picked_within H all first (e ∷ es) (w ∷ vs) are v h =
     let held = are.0.held in
-    ⊎_elim (λ here. subst (Contains (map (λ (x : SlotAt). x.version) (lone_slots all))) (held.is_version ∙ here.1)
+    ⊎_elim (λ here. subst (Contains (versions all)) (held.is_version ∙ here.1)
     (mapped_there (λ (x : SlotAt). x.version) (lone_slots all) held.slot held.there))
     (λ later. picked_within H all (first + 1) es vs are.1 v later) (picked_cases first v w vs h)
 
@@ -158,7 +161,7 @@ module _ (H : List ℕ → List ℕ) (gives : GivesHashes H) (bytes_at : List �
   own_lone : (x : SlotAt) → Contains (lone_slots all) x → own.IsOfLast H gives es x
   unfolding page_of
   own_lone x there =
-      let page = of_joined (λ (p : ChangedPageAt). filter (λ x. is_some x.lone) p.page) all x there in
+      let page = of_joined (λ (p : ChangedPageAt). lones_of p.page) all x there in
       let kept = of_passed (λ (x : SlotAt). is_some x.lone) page.0.page x page.2 in
       let P : ChangedPageAt → Type 0 = λ p. Contains p.page x in
       let slot = of_made (slot_of H es (bits_of_bytes page.0.prefix)) (numbers 0 256) x
@@ -185,9 +188,8 @@ module _ (H : List ℕ → List ℕ) (gives : GivesHashes H) (bytes_at : List �
         a.leaf,
         record {
           slot = a.slot;
-          there = joined_there (λ (p : ChangedPageAt). filter (λ x. is_some x.lone) p.page) all
-              (page_at H es prefix) a.slot
-              page (passed_there (λ (x : SlotAt). is_some x.lone) (page_of H es (bits_of_bytes prefix)) a.slot
+          there = joined_there (λ (p : ChangedPageAt). lones_of p.page) all (page_at H es prefix) a.slot page
+              (passed_there (λ (x : SlotAt). is_some x.lone) (page_of H es (bits_of_bytes prefix)) a.slot
               (ap is_some a.is_lone) slot);
           is_version = refl;
           is_lone = a.is_lone;
@@ -219,13 +221,14 @@ module _ (H : List ℕ → List ℕ) (gives : GivesHashes H) (bytes_at : List �
   -- there are as many lone keys as last insertions of their keys
   pub own_count : (vs : List ℕ) → AreInPages H all 0 es vs → count_last 0 vs ≡ length (lone_slots all)
   own_count vs in_pages =
-      let versions = map (λ (x : SlotAt). x.version) (lone_slots all) in
-      let size : length versions ≡ length (lone_slots all) = length-map (lone_slots all) (λ (x : SlotAt). x.version) in
-      let few = no_more (picked 0 vs) versions (picked_apart 0 vs) (picked_within H all 0 es vs in_pages) in
-      let many = no_more versions (picked 0 vs) (pairs-map (λ (x : SlotAt). x.version) (lone_slots all) apart) within in
+      let size : length (versions all) ≡ length (lone_slots all) =
+      length-map (lone_slots all) (λ (x : SlotAt). x.version) in
+      let few = no_more (picked 0 vs) (versions all) (picked_apart 0 vs) (picked_within H all 0 es vs in_pages) in
+      let many = no_more (versions all) (picked 0 vs)
+      (pairs-map (λ (x : SlotAt). x.version) (lone_slots all) apart) within in
       omega (arith, size, few, many, length-picked 0 vs)
     where
-      within : (v : ℕ) → Contains (map (λ (x : SlotAt). x.version) (lone_slots all)) v → Contains (picked 0 vs) v
+      within : (v : ℕ) → Contains (versions all) v → Contains (picked 0 vs) v
       within v h =
           let from = of_mapped (λ (x : SlotAt). x.version) (lone_slots all) v h in
           let last = own_lone from.0 from.1 in

@@ -24,6 +24,10 @@ module _ {F : Type 0} (dev : Ghosts F) {origin : List ℕ} {served kept : List (
   abbrev Log : List (List ℕ × List ℕ) → LogOf
   Log es = registry_of origin es
 
+  -- a registry that serves and keeps these insertions
+  abbrev Stands : List (List ℕ × List ℕ) → List (List ℕ × List ℕ) → RegistryIn F → Type 0
+  Stands these those r = HasRegistry dev.seen dev.may_leave origin these those r
+
   -- what the folder has are the pages of the insertions
   pub own_pages : IsOwnSource sha256 (page_read (dev.seen old.log.folder)) old.root old.count kept
   own_pages = record {
@@ -35,14 +39,12 @@ module _ {F : Type 0} (dev : Ghosts F) {origin : List ℕ} {served kept : List (
   -- reading them changes nothing
   pub read_has : {mid : LogIn F} → Logs old.log mid → Has dev.seen dev.may_leave (Log served) (Log kept) (Log kept) mid
   read_has {mid = mid} read = has_read dev.seen dev.may_leave dev.moment dev.left_since (Log served) (Log kept)
-      (Log kept)
-      old.log mid read.same read.read has.log
+      (Log kept) old.log mid read.same read.read has.log
 
   -- where there is no insertion, all is as it was
   pub none_published : (more : List (List ℕ × List ℕ)) → length more ≡ 0
-      → (now : List (List ℕ × List ℕ)) × HasRegistry dev.seen dev.may_leave origin now (kept ++ more) old
-  none_published more none =
-      (served, subst (λ all. HasRegistry dev.seen dev.may_leave origin served all old) (sym (nothing more none)) has)
+      → (now : List (List ℕ × List ℕ)) × Stands now (kept ++ more) old
+  none_published more none = (served, subst (λ all. Stands served all old) (sym (nothing more none)) has)
     where
       nothing : (es : List (List ℕ × List ℕ)) → length es ≡ 0 → kept ++ es ≡ kept
       nothing [] e = append-nil kept
@@ -94,8 +96,7 @@ module _ {F : Type 0} (dev : Ghosts F) {origin : List ℕ} {served kept : List (
   pub published : (more : List (List ℕ × List ℕ)) {l : LogIn F} {root : List ℕ} {count : ℕ}
       → root ≡ sparse_root sha256 256 (map_of sha256 (kept ++ more))
       → HasNext dev.seen dev.may_leave (Log served) (Log (kept ++ more)) l → count ≡ old.count + length more
-      → (now : List (List ℕ × List ℕ))
-      × HasRegistry dev.seen dev.may_leave origin now (kept ++ more) (with_map l true root count)
+      → (now : List (List ℕ × List ℕ)) × Stands now (kept ++ more) (with_map l true root count)
   published more {l = l} {root = root} {count = count} is_root next counts = ⊎_elim
       (λ was. by_now served (subst Serving was next.2)) (λ is. by_now (kept ++ more) (subst Serving is next.2)) next.1
     where
@@ -103,7 +104,7 @@ module _ {F : Type 0} (dev : Ghosts F) {origin : List ℕ} {served kept : List (
       Serving n = Has dev.seen dev.may_leave n (Log (kept ++ more)) (Log (kept ++ more)) l
 
       by_now : (now : List (List ℕ × List ℕ)) → Serving (Log now) → (now : List (List ℕ × List ℕ))
-          × HasRegistry dev.seen dev.may_leave origin now (kept ++ more) (with_map l true root count)
+          × Stands now (kept ++ more) (with_map l true root count)
       by_now now all = (
         now,
         record {

@@ -52,18 +52,15 @@ module _ {F : Type 0} (dev : Ghosts F) {r t : RegistryRead F} (same : (t.root �
   visited_read insertions all has = record {
     origin = has.origin;
     reads = registry_read has.origin insertions has.reads;
-    are_all = (let P : Files → Type 0 = λ f. AreAllInFiles f t.root t.log.text.length all in
-        let Q : List ℕ → Type 0 = λ root. AreAllInFiles (dev.seen r.log.folder) root t.log.text.length all in
-        let R : Said → Type 0 = λ text. AreAllInFiles (dev.seen r.log.folder) r.root text.length all in
-        subst P (sym read.found) (subst Q (sym same.0) (subst R (sym same.1) has.are_all)));
+    are_all = subst (λ (was : Files × List ℕ × Said). AreAllInFiles was.0 was.1 was.2.length all)
+        (λ i. (sym read.found i, sym same.0 i, sym same.1 i)) has.are_all;
   }
 
 module _ {F : Type 0} (seen : F → Files) (insertions : List (List ℕ × List ℕ)) (all : List ChangedPageAt)
     (r : RegistryRead F) (has : HasVisited seen insertions all r) where
   source : IsOwnSource sha256 (page_read (seen r.log.folder)) r.root r.log.text.length insertions
-  source = read_source has.origin insertions (seen r.log.folder) r.root r.log.text.length r.log.text
-      has.reads.reads.files
-      has.reads.reads.text refl has.reads.is_root
+  source = read_source has.origin insertions (seen r.log.folder) has.reads.reads.files r.root r.log.text.length
+      r.log.text has.reads.reads.text refl has.reads.is_root
 
   fits : r.log.text.length < 2 ^ 64
   fits = let most = has.reads.reads.can.most in
@@ -73,15 +70,14 @@ module _ {F : Type 0} (seen : F → Files) (insertions : List (List ℕ × List 
   pub held_last : (i : ℕ) (e : List ℕ × List ℕ) (held : Option (ℕ × List ℕ)) → slice_get insertions i ≡ Some e
       → IsHeldIn all (sha256 e.0) held → (found : ℕ × List ℕ) × (held ≡ Some found) × (i < found.0)
       × (found.0 ≡ i + 1 → found.1 ≡ leaf_digest sha256 e.1)
-  held_last = own.own_held sha256 IsDigest-sha256 (page_read (seen r.log.folder)) (true ≡ true) r.root r.log.text.length
-      insertions all fits source has.are_all
+  held_last = own.own_held sha256 IsDigest-sha256 (page_read (seen r.log.folder)) (true ≡ true) r.root
+      r.log.text.length insertions all fits source has.are_all
 
   -- they have as many lone keys as last insertions
   pub counted_last : (versions : List ℕ) → AreInPages sha256 all 0 insertions versions
       → count_last 0 versions ≡ length (lone_slots all)
   counted_last = own.own_count sha256 IsDigest-sha256 (page_read (seen r.log.folder)) (true ≡ true) r.root
-      r.log.text.length
-      insertions all fits source has.are_all
+      r.log.text.length insertions all fits source has.are_all
 
 -- insertions of short entries
 pub short_insertions : (es : List (List ℕ × List ℕ)) → AreShort (entries_of es) → All IsInsertion es

@@ -16,8 +16,8 @@ use Rattle.warg_store.proofs.ForCallers.{has_with}
 use Rattle.warg_store.specs.Log.{LogOf, HasPage, Extends, no_entries_with}
 use Rattle.warg_registry.specs.Insertions.{entry_of, entries_of}
 use Rattle.warg_registry.specs.Registry.{line_of}
-use Rattle.warg_registry.specs.Folder.{path_below, pages_of, registry_of, with_entries, with_pages, file_of, files_of, AreFresh, IsNextLog}
-use Rattle.warg_registry.proofs.Listed.{of_mapped, there_cases, later_there, first_there}
+use Rattle.warg_registry.specs.Folder.{pages_of, registry_of, with_entries, with_pages, file_of, files_of, AreFresh, IsNextLog}
+use Rattle.warg_registry.proofs.Listed.{of_mapped, there_cases, later_there, first_is}
 use Rattle.warg_registry.proofs.RegistryPages.{later_path, old_or_changed, changed_there}
 
 -- one entry more
@@ -49,7 +49,7 @@ pub of_pages : (log : LogOf) (fs : List File) (g : File) → Contains (with_page
 of_pages log [] g h = inl h
 of_pages log (f ∷ fs) g h = elim (of_pages (with_page log f) fs g h) [
   | inl was ↦ elim (there_cases log.pages g f was) [
-    | inl e ↦ inr (subst (Contains (f ∷ fs)) e (first_there fs f))
+    | inl e ↦ inr (first_is fs e)
     | inr old ↦ inl old
   ]
   | inr more ↦ inr (later_there fs g f more)
@@ -62,8 +62,7 @@ page_stays log (f ∷ fs) g h = page_stays (with_page log f) fs g (later_there l
 pub page_put : (log : LogOf) (fs : List File) (g : File) → Contains fs g → Contains (with_pages log fs).pages g
 page_put log [] g h = absurd (let lt = h.1 in omega arith)
 page_put log (f ∷ fs) g h = elim (there_cases fs g f h) [
-  | inl e ↦ subst (λ x. Contains (with_pages (with_page log f) fs).pages x) e
-      (page_stays (with_page log f) fs f (first_there log.pages f))
+  | inl e ↦ page_stays (with_page log f) fs g (first_is log.pages e)
   | inr more ↦ page_put (with_page log f) fs g more
 ]
 
@@ -75,59 +74,56 @@ nowhere = record { prefix = []; version = 0; page = [] }
 module _ (served kept more : List (List ℕ × List ℕ)) (changed : List ChangedPageAt)
     (are : AreChangedPages sha256 kept more changed) (older : length served ≤ length kept)
     (fits : length kept + length more < 2 ^ 64) where
-  each_is : (i : ℕ) → i < length changed → ChangesAt sha256 kept more (get_or changed i nowhere).prefix
-      × (get_or changed i nowhere ≡ page_at sha256 (kept ++ more) (get_or changed i nowhere).prefix)
+  -- what is handed out at an index
+  abbrev page : ℕ → ChangedPageAt
+  page i = get_or changed i nowhere
+
+  each_is : (i : ℕ) → i < length changed
+      → ChangesAt sha256 kept more (page i).prefix × (page i ≡ page_at sha256 (kept ++ more) (page i).prefix)
   each_is i lt = are.each i nowhere lt
 
-  version_is : (i : ℕ) → i < length changed → (get_or changed i nowhere).version
-      ≡ version sha256 (kept ++ more) (bits_of_bytes (get_or changed i nowhere).prefix)
+  version_is : (i : ℕ) → i < length changed
+      → (page i).version ≡ version sha256 (kept ++ more) (bits_of_bytes (page i).prefix)
   version_is i lt = ap (λ (c : ChangedPageAt). c.version) (each_is i lt).1
 
-  version_fits : (i : ℕ) → i < length changed → (get_or changed i nowhere).version < 2 ^ 64
+  version_fits : (i : ℕ) → i < length changed → (page i).version < 2 ^ 64
   version_fits i lt = omega (
     arith,
     version_is i lt,
-    version_within sha256 (kept ++ more) (bits_of_bytes (get_or changed i nowhere).prefix),
+    version_within sha256 (kept ++ more) (bits_of_bytes (page i).prefix),
     length-append kept more,
     fits,
   )
 
-  is_later : (i : ℕ) → i < length changed → length kept < (get_or changed i nowhere).version
+  is_later : (i : ℕ) → i < length changed → length kept < (page i).version
   is_later i lt = omega (arith, version_is i lt, (each_is i lt).0.later)
 
   not_listed : (insertions : List (List ℕ × List ℕ)) → length insertions ≤ length kept → (i : ℕ) → i < length changed
-      → HasPage (pages_of insertions) (file_of (get_or changed i nowhere)).0 → ⊥
-  not_listed insertions few i lt = later_path insertions (get_or changed i nowhere).prefix
-      (get_or changed i nowhere).version (each_is i lt).0.are_bytes (version_fits i lt)
-      (omega (arith, is_later i lt, few))
+      → HasPage (pages_of insertions) (file_of (page i)).0 → ⊥
+  not_listed insertions few i lt = later_path insertions (page i).prefix (page i).version (each_is i lt).0.are_bytes
+      (version_fits i lt) (omega (arith, is_later i lt, few))
 
   -- of those put before it none has its path
-  not_before : (i : ℕ) → i < length changed → HasPage (take i (files_of changed)) (file_of (get_or changed i nowhere)).0
-      → ⊥
+  not_before : (i : ℕ) → i < length changed → HasPage (take i (files_of changed)) (file_of (page i)).0 → ⊥
   not_before i lt has =
-      let put = subst (λ (fs : List File). Contains fs ((file_of (get_or changed i nowhere)).0, has.0))
-      (take-map file_of i changed) has.1 in
-      let found = of_mapped file_of (take i changed) ((file_of (get_or changed i nowhere)).0, has.0) put in
+      let put = subst (λ fs. Contains fs ((file_of (page i)).0, has.0)) (take-map file_of i changed) has.1 in
+      let found = of_mapped file_of (take i changed) ((file_of (page i)).0, has.0) put in
       let size = length-take-le i changed (omega (arith, lt)) in
       let j = found.1.0 in
       let before : j < i = omega (arith, found.1.1, size) in
       let here : get_or changed j found.0 ≡ found.0 = sym (get_or-take i changed j found.0 before) ∙ found.1.2 in
-      let there : get_or changed j nowhere ≡ found.0 =
-      get_or_default changed j nowhere found.0 (omega (arith, before, lt)) ∙ here in
-      let path : path_below (get_or changed j nowhere).prefix (get_or changed j nowhere).version
-      ≡ path_below (get_or changed i nowhere).prefix (get_or changed i nowhere).version =
+      let there : page j ≡ found.0 = get_or_default changed j nowhere found.0 (omega (arith, before, lt)) ∙ here in
+      let path : (file_of (page j)).0 ≡ (file_of (page i)).0 =
       ap (λ (c : ChangedPageAt). (file_of c).0) there ∙ ap (λ (f : File). f.0) found.2 in
       let below : j < length changed = omega (arith, before, lt) in
-      are.once j i nowhere before lt (one_path_below (get_or changed j nowhere).prefix
-      (get_or changed i nowhere).prefix (get_or changed j nowhere).version (get_or changed i nowhere).version
+      are.once j i nowhere before lt (one_path_below (page j).prefix (page i).prefix (page j).version (page i).version
       (each_is j below).0.are_bytes (each_is i lt).0.are_bytes (version_fits j below) (version_fits i lt) path).0
 
   pub files_fresh : (origin : List ℕ) (next : LogOf) → length kept < length next.entries → next.pages ≡ pages_of kept
       → AreFresh (registry_of origin served) (registry_of origin kept) next (files_of changed)
   files_fresh origin next grown pages i d lt =
       let low : i < length changed = omega (arith, lt, length-map changed file_of) in
-      let is : (get_or (files_of changed) i d) ≡ file_of (get_or changed i nowhere) =
-      get_or-map file_of changed i nowhere d low in
+      let is : get_or (files_of changed) i d ≡ file_of (page i) = get_or-map file_of changed i nowhere d low in
       subst (λ (f : File). IsFresh (registry_of origin served) (registry_of origin kept)
       (with_pages next (take i (files_of changed))) f.0) (sym is)
       (record {
@@ -141,9 +137,9 @@ module _ (served kept more : List (List ℕ × List ℕ)) (changed : List Change
         not_kept = not_listed kept (omega arith) i low;
         not_next = λ has. ⊎_elim
             (λ was. not_listed kept (omega arith) i low
-            (has.0, subst (λ (ps : List File). Contains ps ((file_of (get_or changed i nowhere)).0, has.0)) pages was))
+            (has.0, subst (λ (ps : List File). Contains ps ((file_of (page i)).0, has.0)) pages was))
             (λ put. not_before i low (has.0, put))
-            (of_pages next (take i (files_of changed)) ((file_of (get_or changed i nowhere)).0, has.0) has.1);
+            (of_pages next (take i (files_of changed)) ((file_of (page i)).0, has.0) has.1);
       })
 
 -- the log of the longer list is the next one

@@ -24,8 +24,8 @@ use Rattle.warg_folder.specs.Names.{checkpoint}
 use Rattle.warg_registry.specs.Insertions.{entry_of, entries_of}
 use Rattle.warg_registry.specs.Registry.{line_of, said_of}
 use Rattle.warg_store.specs.Log.{HasFiles, HasPage, Serves}
-use Rattle.warg_registry.specs.Folder.{path_below, page_file, prefixes_on_way, pages_of, registry_of, page_found, page_read, files_of}
-use Rattle.warg_registry.proofs.Listed.{mapped_there, of_mapped, passed_there, of_passed, joined_there, of_joined, first_there, later_there, there_cases, none_there}
+use Rattle.warg_registry.specs.Folder.{path_below, page_file, prefixes_on_way, pages_of, registry_of, page_found, page_read, file_of, files_of}
+use Rattle.warg_registry.proofs.Listed.{mapped_there, of_mapped, passed_there, of_passed, joined_there, of_joined, first_is, later_there, there_cases, none_there}
 
 -- a page of insertions stands at these bytes
 pub record IsPageAt (insertions : List (List ℕ × List ℕ)) (prefix : List ℕ) : Type 0 where
@@ -45,9 +45,7 @@ number_within first (suc n) k h = elim (there_cases (numbers (first + 1) n) k fi
 pub number_there : (first n k : ℕ) → k < n → Contains (numbers first n) (first + k)
 unfolding numbers
 number_there first zero k lt = absurd (omega (arith, lt))
-number_there first (suc n) zero lt =
-    let same : first ≡ first + zero = omega arith in
-    subst (Contains (first ∷ numbers (first + 1) n)) same (first_there (numbers (first + 1) n) first)
+number_there first (suc n) zero lt = first_is (numbers (first + 1) n) (omega arith)
 number_there first (suc n) (suc k) lt =
     let more = number_there (first + 1) n k (omega (arith, lt)) in
     let same : first + 1 + k ≡ first + suc k = omega arith in
@@ -93,16 +91,6 @@ page_listed insertions prefix at =
     joined_there way insertions found.0 (page_file insertions prefix) found.1
     (mapped_there (page_file insertions) (prefixes_on_way insertions digest) prefix passed)
 
--- a folder with a registry's files has the pages of its insertions
-pub own_files : (origin : List ℕ) (insertions : List (List ℕ × List ℕ)) (files : Files)
-    → HasFiles (registry_of origin insertions) files → AreOwnPages sha256 (page_found files) insertions
-own_files origin insertions files has = λ prefix bytes short there.
-    let at : IsPageAt insertions prefix = record { are_bytes = bytes; short = short; is_there = there } in
-    let found = has.page (page_file insertions prefix) (page_listed insertions prefix at) in
-    let page = page_bytes (page_of sha256 insertions (bits_of_bytes prefix)) in
-    let few = page_is_short sha256 insertions (bits_of_bytes prefix) IsDigest-sha256 in
-    ap (option_map (take 27137)) found ∙ ap (λ b. Some b) (take_all 27137 page (omega (arith, few)))
-
 -- no page of a list has the path of a page of a later version
 pub later_path : (insertions : List (List ℕ × List ℕ)) (prefix : List ℕ) (number : ℕ) → All IsByte prefix
     → number < 2 ^ 64 → length insertions < number → HasPage (pages_of insertions) (path_below prefix number) → ⊥
@@ -129,8 +117,7 @@ old_or_changed old more changed f are h =
             is_there = found.1.is_there;
             later = later;
           }) in
-          inr (subst (Contains (files_of changed)) found.2 (mapped_there
-          (λ (c : ChangedPageAt). (path_below c.prefix c.version, page_bytes c.page)) changed
+          inr (subst (Contains (files_of changed)) found.2 (mapped_there file_of changed
           (page_at sha256 (old ++ more) found.0) there))
       | inr early ↦
           let same = unchanged_page sha256 old more bits found.1.is_there early in
@@ -148,7 +135,7 @@ old_or_changed old more changed f are h =
 pub changed_there : (old more : List (List ℕ × List ℕ)) (changed : List ChangedPageAt) (f : File)
     → AreChangedPages sha256 old more changed → Contains (files_of changed) f → Contains (pages_of (old ++ more)) f
 changed_there old more changed f are h =
-    let c = of_mapped (λ (c : ChangedPageAt). (path_below c.prefix c.version, page_bytes c.page)) changed f h in
+    let c = of_mapped file_of changed f h in
     let each = All-contains
     (λ (c : ChangedPageAt). ChangesAt sha256 old more c.prefix × (c ≡ page_at sha256 (old ++ more) c.prefix)) changed
     c.0 are.each c.1 in
@@ -157,7 +144,7 @@ changed_there old more changed f are h =
       short = each.0.short;
       is_there = each.0.is_there;
     } in
-    let file : page_file (old ++ more) c.0.prefix ≡ (path_below c.0.prefix c.0.version, page_bytes c.0.page) =
+    let file : page_file (old ++ more) c.0.prefix ≡ file_of c.0 =
     sym (ap (λ (d : ChangedPageAt). (path_below c.0.prefix d.version, page_bytes d.page)) each.1) in
     subst (Contains (pages_of (old ++ more))) (file ∙ c.2) (page_listed (old ++ more) c.0.prefix at)
 
@@ -177,20 +164,29 @@ served_checkpoint origin insertions files serves =
       serves.checkpoint.1 ∙ ap (λ (s : Said). Some (text_before s serves.checkpoint.0)) says,
     )
 
--- And those that are read of it.
-pub read_files : (origin : List ℕ) (insertions : List (List ℕ × List ℕ)) (files : Files)
-    → HasFiles (registry_of origin insertions) files → AreOwnPages sha256 (page_read files) insertions
-read_files origin insertions files has = λ prefix bytes short there.
-    ap (λ (o : Option (List ℕ)). Some (unwrap_or o (0 ∷ [])))
-    (own_files origin insertions files has prefix bytes short there)
+-- A folder with a registry's files
+module _ (origin : List ℕ) (insertions : List (List ℕ × List ℕ)) (files : Files)
+    (has : HasFiles (registry_of origin insertions) files) where
+  -- has the pages of its insertions,
+  pub own_files : AreOwnPages sha256 (page_found files) insertions
+  own_files = λ prefix bytes short there.
+      let at : IsPageAt insertions prefix = record { are_bytes = bytes; short = short; is_there = there } in
+      let found = has.page (page_file insertions prefix) (page_listed insertions prefix at) in
+      let page = page_bytes (page_of sha256 insertions (bits_of_bytes prefix)) in
+      let few = page_is_short sha256 insertions (bits_of_bytes prefix) IsDigest-sha256 in
+      ap (option_map (take 27137)) found ∙ ap (λ b. Some b) (take_all 27137 page (omega (arith, few)))
 
--- So whoever reads the checkpoint and the map's root of them has a source of the insertions' pages.
-pub read_source : (origin : List ℕ) (insertions : List (List ℕ × List ℕ)) (files : Files) (root : List ℕ) (count : ℕ)
-    (said : Said) → HasFiles (registry_of origin insertions) files → said ≡ log.said_of (registry_of origin insertions)
-    → count ≡ said.length → root ≡ sparse_root sha256 256 (map_of sha256 insertions)
-    → IsOwnSource sha256 (page_read files) root count insertions
-read_source origin insertions files root count said has is counts is_root = record {
-  pages = read_files origin insertions files has;
-  all = sym (counts ∙ ap (λ (t : Said). t.length) is ∙ length-map insertions entry_of);
-  is_root = is_root;
-}
+  -- and those that are read of it.
+  pub read_files : AreOwnPages sha256 (page_read files) insertions
+  read_files = λ prefix bytes short there.
+      ap (λ (o : Option (List ℕ)). Some (unwrap_or o (0 ∷ []))) (own_files prefix bytes short there)
+
+  -- So whoever reads the checkpoint and the map's root of them has a source of the insertions' pages.
+  pub read_source : (root : List ℕ) (count : ℕ) (said : Said) → said ≡ log.said_of (registry_of origin insertions)
+      → count ≡ said.length → root ≡ sparse_root sha256 256 (map_of sha256 insertions)
+      → IsOwnSource sha256 (page_read files) root count insertions
+  read_source root count said is counts is_root = record {
+    pages = read_files;
+    all = sym (counts ∙ ap (λ (t : Said). t.length) is ∙ length-map insertions entry_of);
+    is_root = is_root;
+  }

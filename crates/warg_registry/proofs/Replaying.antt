@@ -22,30 +22,29 @@ use Rattle.warg_registry.specs.Folder.{page_read, registry_of}
 use Rattle.warg_registry.specs.Insertions.{entry_of, entries_of}
 
 -- no entry yet
-pub none_replayed : (IsFaithful : Type 0) (files : Files) (version : ℕ) (log : Blocks) → StandsFor sha256 log []
+pub none_replayed : {IsFaithful : Type 0} {files : Files} {version : ℕ} {log : Blocks} → StandsFor sha256 log []
     → AreReplayed IsFaithful files version log 0 []
 unfolding AreInPages
-none_replayed IsFaithful files version log stands = record {
+none_replayed stands = record {
   entries = stands;
   in_pages = λ faithful root all led. ([], tt, refl);
 }
 
 -- the same files, where a device is faithful
-pub replayed_at : (IsFaithful : Type 0) (files others : Files) (version number : ℕ) (log : Blocks) (last : ℕ)
-    (es : List (List ℕ × List ℕ)) → (IsFaithful → files ≡ others) → version ≡ number
+pub replayed_at : {IsFaithful : Type 0} {files others : Files} {version number : ℕ} {log : Blocks} {last : ℕ}
+    {es : List (List ℕ × List ℕ)} → (IsFaithful → files ≡ others) → version ≡ number
     → AreReplayed IsFaithful files version log last es → AreReplayed IsFaithful others number log last es
-replayed_at IsFaithful files others version number log last es same at was = record {
+replayed_at same at was = record {
   entries = was.entries;
   in_pages = λ faithful root all led. was.in_pages faithful root all
-      (let P : Files → Type 0 = λ f. AreAllInFiles f root version all in subst P (sym (same faithful))
-      (let Q : ℕ → Type 0 = λ n. AreAllInFiles others root n all in subst Q (sym at) led));
+      (subst (λ (was : Files × ℕ). AreAllInFiles was.0 root was.1 all) (λ i. (sym (same faithful) i, sym at i)) led);
 }
 
 -- as many entries as the log has
-pub replayed_length : (IsFaithful : Type 0) (files : Files) (version : ℕ) (log : Blocks) (last : ℕ)
-    (es : List (List ℕ × List ℕ)) (entries : List (List ℕ)) (n : ℕ) → AreReplayed IsFaithful files version log last es
+pub replayed_length : {IsFaithful : Type 0} {files : Files} {version : ℕ} {log : Blocks} {last : ℕ}
+    {es : List (List ℕ × List ℕ)} (entries : List (List ℕ)) (n : ℕ) → AreReplayed IsFaithful files version log last es
     → entries_of es ≡ take n entries → n ≤ length entries → log.len ≡ n
-replayed_length IsFaithful files version log last es entries n was are le = sym was.entries.count
+replayed_length {es = es} entries n was are le = sym was.entries.count
     ∙ length-map (entries_of es) (leaf_digest sha256) ∙ ap length are ∙ length-take-le n entries le
 
 -- What the pages say of an entry's insertion: whether it is the last one of its key.
@@ -55,14 +54,13 @@ IsLastBy IsFaithful files version index e last = IsFaithful → (root : List ℕ
     × (last ≡ eqb number (index + 1))
 
 -- an entry more
-pub one_replayed : (IsFaithful : Type 0) (files : Files) (version : ℕ) (log new : Blocks) (last after : ℕ)
-    (is_last : Bool)
-    (es : List (List ℕ × List ℕ)) (e : List ℕ × List ℕ)
+pub one_replayed : {IsFaithful : Type 0} {files : Files} {version : ℕ} {log new : Blocks} {last after : ℕ}
+    {es : List (List ℕ × List ℕ)} {e : List ℕ × List ℕ} (is_last : Bool)
     → ((ds : List (List ℕ)) → StandsFor sha256 log ds
     → StandsFor sha256 new (ds ++ leaf_digest sha256 (entry_of e) ∷ []))
     → IsLastBy IsFaithful files version log.len e is_last → after ≡ last + cond is_last 1 0
     → AreReplayed IsFaithful files version log last es → AreReplayed IsFaithful files version new after (es ++ e ∷ [])
-one_replayed IsFaithful files version log new last after is_last es e stands by counts was = record {
+one_replayed {log = log} {new = new} {es = es} {e = e} is_last stands by counts was = record {
   entries = subst (StandsFor sha256 new) (sym leaves) (stands (leaves_of sha256 (entries_of es)) was.entries);
   in_pages = λ faithful root all led.
       let old = was.in_pages faithful root all led in
@@ -107,9 +105,9 @@ other_checkpoints a b e root size =
     let all : are_same a b ≡ true = λ i. (roots i && true) && sizes i in
     true≢false (e ∙ ap not all)
 
-module _ (IsFaithful : Type 0) (files : Files) (version : ℕ) (log : Blocks) (last : ℕ)
-    (found checkpoint : RootAndLength)
-    (es : List (List ℕ × List ℕ)) (was : AreReplayed IsFaithful files version log last es)
+module _ {IsFaithful : Type 0} {files : Files} {version : ℕ} {log : Blocks} {last : ℕ}
+    {es : List (List ℕ × List ℕ)} (found checkpoint : RootAndLength)
+    (was : AreReplayed IsFaithful files version log last es)
     (is_root : (ds : List (List ℕ)) → StandsFor sha256 log ds → found.root ≡ root_of sha256 ds)
     (is_length : found.length ≡ log.len) where
   many : length (entries_of es) ≡ found.length
@@ -123,10 +121,10 @@ module _ (IsFaithful : Type 0) (files : Files) (version : ℕ) (log : Blocks) (l
   of_entries same = (entries_of es, many ∙ same.1, root_is ∙ same.0)
 
   -- and the map that of the insertions
-  pub of_insertions : (found.root ≡ checkpoint.root) × (found.length ≡ checkpoint.length) → (root : List ℕ) (keys : ℕ)
+  pub of_insertions : (found.root ≡ checkpoint.root) × (found.length ≡ checkpoint.length) → {root : List ℕ} {keys : ℕ}
       (all : List ChangedPageAt) → IsFaithful → AreAllInFiles files root version all
       → keys ≡ length (lone_slots all) → last ≡ keys → AreOfRegistry checkpoint root es
-  of_insertions same root keys all faithful led held counted =
+  of_insertions same {root} all faithful led held counted =
       let in_pages = was.in_pages faithful root all led in record {
         count = sym (length-map es entry_of) ∙ many ∙ same.1;
         log_root = root_is ∙ same.0;

@@ -119,8 +119,8 @@ module _ {F : Type 0} (dev : Ghosts F) where
   served_read {old = old} {new = new} {root = root} {was = was} {is = is} view none known =
       subst (λ (x : RegistryRead F). AreServedRead x (with_root new root) old was is) view (record {
         known = here;
-        own = λ origin insertions count counts has. read_source origin insertions (dev.seen old.folder) root count
-            old.text has.reads.files has.reads.text counts has.is_root;
+        own = λ origin insertions count counts has. read_source origin insertions (dev.seen old.folder)
+            has.reads.files root count old.text has.reads.text counts has.is_root;
         same = (refl, ap (λ (l : ServedIn F). l.text) any.0);
         read = λ faithful. ((known (at_served old) (here faithful)).1 refl).1;
         told = any.2;

@@ -1,7 +1,7 @@
 -- A registry while it is pruned: its pages are read, its log is pruned, and pages are removed.
-use Rattle.std.proofs.Common.{◌≡◌, ◌⊎◌, ℕ, Bool, true, None, List, length, sym, subst, string_bytes}
+use Rattle.std.proofs.Common.{◌≡◌, ◌⊎◌, ℕ, Bool, true, List, length, sym, subst}
 use Rattle.std.specs.Prelude.{IsSome}
-use Rattle.std.specs.List.{All, Contains}
+use Rattle.std.specs.List.{Contains}
 use Rattle.std.specs.declared.alloc.Global.{Global}
 use Rattle.std.specs.declared.string.String.{String}
 use Rattle.warg_folder.specs.Files.{Files}
@@ -15,7 +15,7 @@ use Rattle.warg_store.specs.Pruned.{IsNoneOf, ArePagesNotOf, IsPruned, IsWithout
 use Rattle.warg_registry.specs.Folder.{registry_of, pages_of, RegistryIn, HasRegistry, IsLogRead, ReadsOn}
 use Rattle.warg_registry.specs.Pruning.{bytes_of, IsPageOf, OfBoth}
 use Rattle.warg_registry.proofs.FolderMoments.{one_read}
-use Rattle.warg_registry.proofs.LeftPages.{left}
+use Rattle.warg_registry.proofs.LeftPages.{ArePagesGone, left}
 use Rattle.warg_registry.proofs.Publishing.{own_pages, read_has}
 use Rattle.warg_registry.proofs.Sources.{with_map, log_is_read}
 
@@ -59,16 +59,15 @@ module _ {F : Type 0} (dev : Ghosts F) (origin : List ℕ) (served kept : List (
     pub reading : RunsFrom r.log mid
     pub pruning : (pruned : LogIn F) → RunsFrom mid pruned → RunsFrom r.log pruned
     pub removing : (pruned new : LogIn F) → RunsFrom mid pruned → RunsFrom pruned new → RunsFrom r.log new
-    pub none : (names : List (List ℕ))
+    pub none : {slice names : List (String Global)} → slice ≡ names
         → OfPages dev old root count
-        (λ known these those. IsNoneOf names (pages_of these) × IsNoneOf names (pages_of those))
-        → ArePagesNotOf names Served Kept Kept
-    pub remaining : (pruned new : LogIn F) (names : List (String Global))
+        (λ known these those. IsNoneOf (bytes_of names) (pages_of these) × IsNoneOf (bytes_of names) (pages_of those))
+        → ArePagesNotOf (bytes_of slice) Served Kept Kept
+    pub remaining : (pruned new : LogIn F) {slice names : List (String Global)} → slice ≡ names
         → IsPruned (length Kept.entries) (length Served.entries) (dev.seen mid.folder) (dev.seen pruned.folder)
-        → IsWithoutPages (bytes_of names) (dev.seen pruned.folder) (dev.seen new.folder)
-        → All (λ name. is_page (string_bytes name) ≡ true → dev.seen new.folder (string_bytes name) ≡ None) names
-        → OfPages dev old root count (AreAll dev (bytes_of names)) → (n : List ℕ) → is_page n ≡ true
-        → IsSome (dev.seen new.folder n) → IsPageOf served n ⊎ IsPageOf kept n
+        → IsWithoutPages (bytes_of slice) (dev.seen pruned.folder) (dev.seen new.folder)
+        → ArePagesGone (dev.seen new.folder) slice → OfPages dev old root count (AreAll dev (bytes_of names))
+        → (n : List ℕ) → is_page n ≡ true → IsSome (dev.seen new.folder n) → IsPageOf served n ⊎ IsPageOf kept n
 
   module _ {r : RegistryIn F} {old : LogIn F} {takes : Bool} {root : List ℕ} {count : ℕ}
       (view : with_map old takes root count ≡ r) (has : Stands r) where
@@ -90,11 +89,14 @@ module _ {F : Type 0} (dev : Ghosts F) (origin : List ℕ) (served kept : List (
       reading = while_read;
       pruning = λ pruned run. then r.log mid pruned while_read run;
       removing = λ pruned new one two. then r.log pruned new (then r.log mid pruned while_read one) two;
-      none = λ names spare.
-          let none = of_registry _ spare in record { not_served = none.0; not_kept = none.1; not_next = none.1 };
-      remaining = λ pruned new names prunes without removed spare. left (dev.seen old.folder) (dev.seen mid.folder)
-          (dev.seen pruned.folder) (dev.seen new.folder) names (length Kept.entries) (length Served.entries)
-          (λ n. IsPageOf served n ⊎ IsPageOf kept n) here.read.found prunes without removed (of_registry _ spare);
+      none = λ same spare.
+          let none = of_registry _ spare in
+          subst (λ ns. ArePagesNotOf (bytes_of ns) Served Kept Kept) (sym same)
+          (record { not_served = none.0; not_kept = none.1; not_next = none.1 });
+      remaining = λ pruned new {slice} same prunes without removed spare. left (dev.seen old.folder)
+          (dev.seen mid.folder) (dev.seen pruned.folder) (dev.seen new.folder) slice (length Kept.entries)
+          (length Served.entries) (λ n. IsPageOf served n ⊎ IsPageOf kept n) here.read.found prunes without removed
+          (subst (λ ns. AreAll dev (bytes_of ns) old served kept) (sym same) (of_registry _ spare));
     }
       where
         here : Logs dev old mid

@@ -16,18 +16,17 @@ returns-in-Some g c =
     let insertions = pair_bytes g.K.VisitBytes.bytes g.V.VisitBytes.bytes c.args.insertions.now in
     let get = c.in-Some.ensures.lookup in
     let shown : verdict H (nothing_under key c.args.root.now) (by_bundle c.args.bytes.now c.args.at) ≡ Ok true =
-    seen_true _ _ (c.in_ok-is_true.ensures _ c.check_absent.ensures.verdict) c.if-not-branch.false in
-    if_ok _ _ c.witness_absent.result
+    seen_true (c.in_ok-is_true.ensures _ c.check_absent.ensures.verdict) c.if-not-branch.false in
+    if_ok c.witness_absent.result
     (λ finding. absence_convicts H c.args.bytes.now c.args.at key c.args.root.now insertions c.in-Ok.bundle
     c.in-Some.absence.now finding c.in-Ok.ensures.exact
-    (at_place _ _ _ _ (c.as_slice.ensures.value ∙ c.unbundle_all-proofs.ensures.absences) get.3.0 get.1) shown)
+    (at_place (c.as_slice.ensures.value ∙ c.unbundle_all-proofs.ensures.absences) get.3.0 get.1) shown)
     c.witness_absent.ensures.found
 
 pub returns : goal.returns
 returns g c = λ is.
     let H = g.D.SupportedDigest.digest in
     let key = g.K.VisitBytes.bytes c.args.key.now in
-    none_there (λ (b : MapBundle). b.absences) (λ _. leads H (empty_root H 0) key c.args.root.now)
-    c.args.at _ c.in-Ok.bundle c.in-Ok.ensures.exact
-    (past_place _ _ _ (c.as_slice.ensures.value
+    none_there (λ (b : MapBundle). b.absences) (λ _. leads H (empty_root H 0) key c.args.root.now) c.args.at c.in-Ok.ensures.exact
+    (past_place (c.as_slice.ensures.value
     ∙ c.unbundle_all-proofs.ensures.absences) c.in-None.ensures.lookup.3) is.shown

@@ -13,8 +13,8 @@ returns-in-Some g c =
     let entries = map g.V.VisitBytes.bytes c.args.entries.now in
     let shown : verdict H (entry_at c.args.index value c.args.log.now) (by_bundle c.args.bytes.now c.args.at)
     ≡ Ok true =
-    seen_true _ _ (c.in_ok-is_true.ensures _ c.check_entry.ensures.verdict) c.if-not-branch.false in
-    if_ok _ _ c.witness_value.result
+    seen_true (c.in_ok-is_true.ensures _ c.check_entry.ensures.verdict) c.if-not-branch.false in
+    if_ok c.witness_value.result
     (λ finding. entry_convicts H c.args.bytes.now c.args.at c.args.index value c.args.log.now entries c.in-Ok.bundle
     c.in-Some.proof _ finding c.in-Ok.ensures.exact c.in-Some.ensures.leaf c.in-Some.ensures.log_length
     (ap held_digest c.hashes.ensures.value) shown)

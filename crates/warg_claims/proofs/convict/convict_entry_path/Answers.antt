@@ -12,8 +12,8 @@ returns g c =
     let value = g.V.VisitBytes.bytes c.args.value.now in
     let entries = map g.V.VisitBytes.bytes c.args.entries.now in
     let shown : verdict H (entry_at c.args.index value c.args.log.now) (by_path c.args.bytes.now) ≡ Ok true =
-    seen_true _ _ (c.in_ok-is_true.ensures _ c.check_entry_path.ensures.verdict) c.if-not-branch.false in
-    if_ok _ _ c.witness_record.result
+    seen_true (c.in_ok-is_true.ensures _ c.check_entry_path.ensures.verdict) c.if-not-branch.false in
+    if_ok c.witness_record.result
     (λ finding. entry_path_convicts H c.args.bytes.now c.args.index value c.args.log.now entries c.as_slice.result.now
     finding
     (c.in-Ok.ensures.ok ∙ ap Some (sym c.as_slice.ensures.value))

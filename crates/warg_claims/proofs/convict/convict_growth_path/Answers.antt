@@ -13,8 +13,8 @@ returns g c =
     let before = map bytes_of c.args.old_entries.now in
     let after = map bytes_of c.args.new_entries.now in
     let shown : verdict H (growth c.args.old.now c.args.new.now) (by_path c.args.bytes.now) ≡ Ok true =
-    seen_true _ _ (c.in_ok-is_true.ensures _ c.check_growth_path.ensures.verdict) c.if-not-branch.false in
-    if_ok _ _ c.witness_tree.result
+    seen_true (c.in_ok-is_true.ensures _ c.check_growth_path.ensures.verdict) c.if-not-branch.false in
+    if_ok c.witness_tree.result
     (λ finding. growth_path_convicts H c.args.bytes.now c.args.old.now c.args.new.now before after c.as_slice.result.now
     finding (c.in-Ok.ensures.ok ∙ ap Some (sym c.as_slice.ensures.value))
     (length-map c.args.old_entries.now bytes_of ∙ c.if-old_entries-length.false ∙ c.length.ensures)

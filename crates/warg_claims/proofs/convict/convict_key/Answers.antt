@@ -17,11 +17,11 @@ returns-in-Some g c =
     let insertions = pair_bytes g.K.VisitBytes.bytes g.V.VisitBytes.bytes c.args.insertions.now in
     let get = c.in-Some.ensures.lookup in
     let shown : verdict H (value_under key value c.args.root.now) (by_bundle c.args.bytes.now c.args.at) ≡ Ok true =
-    seen_true _ _ (c.in_ok-is_true.ensures _ c.check_key.ensures.verdict) c.if-not-branch.false in
-    if_ok _ _ c.witness_key.result
+    seen_true (c.in_ok-is_true.ensures _ c.check_key.ensures.verdict) c.if-not-branch.false in
+    if_ok c.witness_key.result
     (λ finding. key_convicts H c.args.bytes.now c.args.at key value c.args.root.now insertions c.in-Ok.bundle
     c.in-Some.proof.now finding c.in-Ok.ensures.exact
-    (at_place _ _ _ _ (c.as_slice.ensures.value ∙ c.unbundle-proofs.ensures) get.3.0 get.1) shown)
+    (at_place (c.as_slice.ensures.value ∙ c.unbundle-proofs.ensures) get.3.0 get.1) shown)
     c.witness_key.ensures.found
 
 pub returns : goal.returns
@@ -29,6 +29,5 @@ returns g c = λ is.
     let H = g.D.SupportedDigest.digest in
     let key = g.K.VisitBytes.bytes c.args.key.now in
     none_there (λ (b : MapBundle). b.proofs)
-    (λ _. leads H (leaf_digest H (g.V.VisitBytes.bytes c.args.value.now)) key c.args.root.now)
-    c.args.at _ c.in-Ok.bundle c.in-Ok.ensures.exact
-    (past_place _ _ _ (c.as_slice.ensures.value ∙ c.unbundle-proofs.ensures) c.in-None.ensures.lookup.3) is.shown
+    (λ _. leads H (leaf_digest H (g.V.VisitBytes.bytes c.args.value.now)) key c.args.root.now) c.args.at c.in-Ok.ensures.exact
+    (past_place (c.as_slice.ensures.value ∙ c.unbundle-proofs.ensures) c.in-None.ensures.lookup.3) is.shown

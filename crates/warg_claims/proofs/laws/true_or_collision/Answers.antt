@@ -63,7 +63,7 @@ returns c = λ H claim evidence. elim claim as (λ claim. Sound H claim evidence
     | by_bundle bytes place ↦ λ insertions gives passed roots untrue.
         let shown = c.key_is_shown.ensures H bytes place key value root passed in
         subst (λ peers. SomeCollision H (IsKeyPlaced H peers value key insertions))
-        (found_peers (λ (b : MapBundle). b.proofs) place _ shown.bundle shown.peers shown.spelled shown.stands)
+        (found_peers (λ (b : MapBundle). b.proofs) place shown.spelled shown.stands)
         (c.key_or_collision.ensures H shown.peers key value insertions gives (shown.is ∙ roots) untrue)
     | by_path bytes ↦ λ insertions gives passed roots untrue. absurd
         ((let wrong = (judged_true (shows H (value_under key value root)) (hashes_of bytes) passed).1 in cc))
@@ -72,7 +72,7 @@ returns c = λ H claim evidence. elim claim as (λ claim. Sound H claim evidence
     | by_bundle bytes place ↦ λ insertions gives passed roots untrue.
         let shown = c.absence_is_shown.ensures H bytes place key root passed in
         subst (λ peers. SomeCollision H (IsKeyPlaced H peers [] key insertions))
-        (found_peers (λ (b : MapBundle). b.absences) place _ shown.bundle shown.peers shown.spelled shown.stands)
+        (found_peers (λ (b : MapBundle). b.absences) place shown.spelled shown.stands)
         (c.absence_or_collision.ensures H shown.peers key insertions gives (shown.is ∙ roots) untrue)
     | by_path bytes ↦ λ insertions gives passed roots untrue. absurd
         ((let wrong = (judged_true (shows H (nothing_under key root)) (hashes_of bytes) passed).1 in cc))
@@ -83,7 +83,7 @@ returns c = λ H claim evidence. elim claim as (λ claim. Sound H claim evidence
             let shown = c.update_is_shown.ensures H bytes place key old_value new_value old_root new_root passed in
             let met = shown.old_is ∙ roots.0 in
             subst (λ peers. SomeCollision H (IsUpdatePlaced H peers (old_value, new_value) key maps))
-            (found_peers (λ (b : MapBundle). b.proofs) place _ shown.bundle shown.peers shown.spelled shown.stands)
+            (found_peers (λ (b : MapBundle). b.proofs) place shown.spelled shown.stands)
             (changed H shown.peers key old_value new_value new_root maps
             (c.key_or_collision.ensures H shown.peers key old_value maps.0 gives met)
             (c.update_or_collision.ensures H shown.peers key old_value new_value maps.0 gives met)
@@ -98,7 +98,7 @@ returns c = λ H claim evidence. elim claim as (λ claim. Sound H claim evidence
             let shown = c.insertion_is_shown.ensures H bytes place key value old_root new_root passed in
             let met = shown.old_is ∙ roots.0 in
             subst (λ peers. SomeCollision H (IsUpdatePlaced H peers ([], value) key maps))
-            (found_peers (λ (b : MapBundle). b.absences) place _ shown.bundle shown.peers shown.spelled shown.stands)
+            (found_peers (λ (b : MapBundle). b.absences) place shown.spelled shown.stands)
             (changed H shown.peers key [] value new_root maps
             (c.absence_or_collision.ensures H shown.peers key maps.0 gives met)
             (c.update_or_collision.ensures H shown.peers key [] value maps.0 gives (rw (empty_leaf H) at met))

@@ -21,8 +21,8 @@ returns-in_err-one_down-in-Some-lone-clause-err g c =
     way_refused c.from_residual.result c.in_err-one_down-in-Some-lone.field-0.0 c.from_residual.ensures.1
     (λ fault known es is_known own.
     let P : Option SlotAt → Type 0 = λ o. IsOwnBelow H (g.P.Pages.bytes_at known) c.args.prefix.now o es in
-    fault (own_lone_below H g.met.D.SupportedDigest.is_digest _ c.args.prefix.now c.in-Some.slot.now c.in-Some-lone.lone
-    es c.requires (subst P (ap option_copied c.in-Some.is) own) there).begins)
+    fault (own_lone_below g.met.D.SupportedDigest.is_digest (subst P (ap option_copied c.in-Some.is) own) c.requires
+    there).begins)
     c.in_err-one_down-in-Some-lone.ensures.err
 
 pub returns-in_ok-one_down-in-Some-lone-clause-ok : goal.returns-in_ok-one_down-in-Some-lone-clause-ok
@@ -32,8 +32,8 @@ returns-in_ok-one_down-in-Some-lone-clause-ok g c = λ known is_known es own.
     ∙ c.in-Some-lone.is in
     let P : Option SlotAt → Type 0 = λ o. IsOwnBelow H (g.P.Pages.bytes_at known) c.args.prefix.now o es in
     c.in_ok-one_down-in-Some-lone.ensures.ok
-    ∙ sym (own_lone_below H g.met.D.SupportedDigest.is_digest _ c.args.prefix.now c.in-Some.slot.now
-    c.in-Some-lone.lone es c.requires (subst P (ap option_copied c.in-Some.is) own) there).page
+    ∙ sym (own_lone_below g.met.D.SupportedDigest.is_digest (subst P (ap option_copied c.in-Some.is) own) c.requires
+    there).page
 
 pub returns-in-None-clause-ok : goal.returns-in-None-clause-ok
 returns-in-None-clause-ok g c =
@@ -43,8 +43,8 @@ returns-in-None-clause-ok g c =
     if_ok_both c.read_page.result _ _ _ (rw number at c.read_page.ensures.ok) c.read_page.ensures.page
     (λ page at is known is_known es own.
     let P : Option SlotAt → Type 0 = λ o. IsOwnBelow H (g.P.Pages.bytes_at known) c.args.prefix.now o es in
-    own_page_below H g.met.D.SupportedDigest.is_digest _ c.args.prefix.now c.in-Some.slot.now page es c.requires is
-    (at known is_known) (subst P (ap option_copied c.in-Some.is) own) none)
+    own_page_below g.met.D.SupportedDigest.is_digest (subst P (ap option_copied c.in-Some.is) own) c.requires is
+    (at known is_known) none)
 
 pub returns-in-None-clause-err : goal.returns-in-None-clause-err
 returns-in-None-clause-err g c =
@@ -54,5 +54,5 @@ returns-in-None-clause-err g c =
     if_err c.read_page.result _ _ (rw number at c.read_page.ensures.err) (λ e. of_source e
     (λ fault known es is_known own.
     let P : Option SlotAt → Type 0 = λ o. IsOwnBelow H (g.P.Pages.bytes_at known) c.args.prefix.now o es in
-    own_page_refused H g.met.D.SupportedDigest.is_digest _ c.args.prefix.now c.in-Some.slot.now es c.requires
-    (λ slots. fault known slots is_known) (subst P (ap option_copied c.in-Some.is) own) none))
+    own_page_refused g.met.D.SupportedDigest.is_digest (subst P (ap option_copied c.in-Some.is) own) c.requires
+    (λ slots. fault known slots is_known) none))

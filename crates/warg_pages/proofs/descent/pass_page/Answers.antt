@@ -10,68 +10,50 @@ use Rattle.warg_pages.proofs.OwnDescent.{digest_at-slot}
 use Rattle.warg_pages.proofs.PageRoots.{digest_of}
 use Rattle.warg_pages.proofs.OwnWays.{eight_peers}
 use Rattle.warg_pages.proofs.descent.pass_page.Goals as goal
-use Rattle.warg_pages.proofs.descent.pass_page.Goals.{in-Some, in-None}
+use Rattle.warg_pages.proofs.descent.pass_page.Goals.{in-Some, in-None, After-split_at, After-value_of_page}
+
+-- the peers behind those of the pages above are the page's own
+own_part : (g : _) (c : After-split_at g) → c.split_at.result.1.now
+    ≡ page_peers g.D.SupportedDigest.digest c.args.depth c.args.page.now c.args.key.now
+own_part g c =
+    let own = page_peers g.D.SupportedDigest.digest c.args.depth c.args.page.now c.args.key.now in
+    let before = c.as_slice-before.result.now in
+    let pushed = rw (c.slots.ensures.value, c.bytes.ensures.value) at c.in_ok-push_page_peers.ensures.ok in
+    c.split_at.ensures.back ∙ ap (drop (length before)) (c.as_slice.ensures.value ∙ pushed)
+    ∙ drop_at c.args.peers.now.items own (length before) (ap length (sym c.as_slice-before.ensures.value))
+
+-- and with the digest of the slot they give the page's value
+value_is : (g : _) (c : After-value_of_page g) → c.split_at.result.1.now
+    ≡ page_peers g.D.SupportedDigest.digest c.args.depth c.args.page.now c.args.key.now → c.value_of_page.result
+    ≡ page_value g.D.SupportedDigest.digest c.args.depth c.args.page.now c.args.key.now
+value_is g c part =
+    let H = g.D.SupportedDigest.digest in
+    let height = slot_height c.args.depth in
+    let byte = get_or c.args.key.now c.args.depth 0 in
+    let at = rw c.bytes.ensures.value at c.slot-slot.ensures in
+    let as_digest = digest_at-slot H height c.args.page.now byte in
+    let foot : c.match-slot.foot ≡ digest_at H height c.args.page.now byte = elim c.match-slot.branch [
+      | in-Some w ↦ w.foot-is ∙ w.copied-foot.ensures ∙ ap (λ (x : SlotAt). x.digest) w.slot.view_is
+          ∙ sym (as_digest ∙ ap (digest_of H height) (sym at ∙ ap option_copied w.in-Some.is))
+      | in-None w ↦ w.foot-is ∙ w.empty_tree-foot.ensures
+          ∙ sym (as_digest ∙ ap (digest_of H height) (sym at ∙ ap option_copied w.in-None.is))
+    ] in
+    c.value_of_page.ensures ∙ (λ i. value_above H height (part i) (foot i)
+    (bits_from c.args.key.now (8 * c.args.depth) 8))
 
 pub value_of_page-requires-clause-eight : goal.value_of_page-requires-clause-eight
 value_of_page-requires-clause-eight g c =
-    let H = g.D.SupportedDigest.digest in
-    let pushed = rw (c.slots.ensures.value, c.bytes.ensures.value) at c.in_ok-push_page_peers.ensures.ok in
-    let size : length c.args.peers.now.items ≡ length c.as_slice-before.result.now =
-    ap length (sym c.as_slice-before.ensures.value) in
-    let part : c.split_at.result.1.now ≡ page_peers H c.args.depth c.args.page.now c.args.key.now =
-    c.split_at.ensures.back ∙ ap (drop (length c.as_slice-before.result.now)) (c.as_slice.ensures.value ∙ pushed)
-    ∙ drop_at c.args.peers.now.items (page_peers H c.args.depth c.args.page.now c.args.key.now)
-    (length c.as_slice-before.result.now) size in
-    ap length part ∙ eight_peers H c.args.depth c.args.page.now (get_or c.args.key.now c.args.depth 0) 8
+    ap length (own_part g (goal.at.value_of_page-requires-clause-eight g c).After-split_at)
+    ∙ eight_peers g.D.SupportedDigest.digest c.args.depth c.args.page.now (get_or c.args.key.now c.args.depth 0) 8
 
 pub returns-then-ne-clause-err : goal.returns-then-ne-clause-err
-returns-then-ne-clause-err g c =
-    let H = g.D.SupportedDigest.digest in
-    let height = slot_height c.args.depth in
-    let byte = get_or c.args.key.now c.args.depth 0 in
-    let pushed = rw (c.slots.ensures.value, c.bytes.ensures.value) at c.in_ok-push_page_peers.ensures.ok in
-    let size : length c.args.peers.now.items ≡ length c.as_slice-before.result.now =
-    ap length (sym c.as_slice-before.ensures.value) in
-    let part : c.split_at.result.1.now ≡ page_peers H c.args.depth c.args.page.now c.args.key.now =
-    c.split_at.ensures.back ∙ ap (drop (length c.as_slice-before.result.now)) (c.as_slice.ensures.value ∙ pushed)
-    ∙ drop_at c.args.peers.now.items (page_peers H c.args.depth c.args.page.now c.args.key.now)
-    (length c.as_slice-before.result.now) size in
-    let at = rw c.bytes.ensures.value at c.slot-slot.ensures in
-    let foot : c.match-slot.foot ≡ digest_at H height c.args.page.now byte = elim c.match-slot.branch [
-      | in-Some w ↦ w.foot-is ∙ w.copied-foot.ensures ∙ ap (λ (x : SlotAt). x.digest) w.slot.view_is
-          ∙ sym (digest_at-slot H height c.args.page.now byte
-          ∙ ap (digest_of H height) (sym at ∙ ap option_copied w.in-Some.is))
-      | in-None w ↦ w.foot-is ∙ w.empty_tree-foot.ensures
-          ∙ sym (digest_at-slot H height c.args.page.now byte
-          ∙ ap (digest_of H height) (sym at ∙ ap option_copied w.in-None.is))
-    ] in
-    let value : c.value_of_page.result ≡ page_value H c.args.depth c.args.page.now c.args.key.now =
-    c.value_of_page.ensures ∙ (λ i. value_above H height (part i) (foot i)
-    (bits_from c.args.key.now (8 * c.args.depth) 8)) in
-    λ same. other_hashes _ _ _ c.ne.ensures c.if-ne.true (value ∙ same)
+returns-then-ne-clause-err g c = λ same.
+    let at = goal.at.returns-then-ne-clause-err g c in
+    other_hashes _ _ _ c.ne.ensures c.if-ne.true
+    (value_is g at.After-value_of_page (own_part g at.After-split_at) ∙ same)
 
 pub returns-clause-value : goal.returns-clause-value
 returns-clause-value g c =
-    let H = g.D.SupportedDigest.digest in
-    let height = slot_height c.args.depth in
-    let byte = get_or c.args.key.now c.args.depth 0 in
-    let pushed = rw (c.slots.ensures.value, c.bytes.ensures.value) at c.in_ok-push_page_peers.ensures.ok in
-    let size : length c.args.peers.now.items ≡ length c.as_slice-before.result.now =
-    ap length (sym c.as_slice-before.ensures.value) in
-    let part : c.split_at.result.1.now ≡ page_peers H c.args.depth c.args.page.now c.args.key.now =
-    c.split_at.ensures.back ∙ ap (drop (length c.as_slice-before.result.now)) (c.as_slice.ensures.value ∙ pushed)
-    ∙ drop_at c.args.peers.now.items (page_peers H c.args.depth c.args.page.now c.args.key.now)
-    (length c.as_slice-before.result.now) size in
-    let at = rw c.bytes.ensures.value at c.slot-slot.ensures in
-    let foot : c.match-slot.foot ≡ digest_at H height c.args.page.now byte = elim c.match-slot.branch [
-      | in-Some w ↦ w.foot-is ∙ w.copied-foot.ensures ∙ ap (λ (x : SlotAt). x.digest) w.slot.view_is
-          ∙ sym (digest_at-slot H height c.args.page.now byte
-          ∙ ap (digest_of H height) (sym at ∙ ap option_copied w.in-Some.is))
-      | in-None w ↦ w.foot-is ∙ w.empty_tree-foot.ensures
-          ∙ sym (digest_at-slot H height c.args.page.now byte
-          ∙ ap (digest_of H height) (sym at ∙ ap option_copied w.in-None.is))
-    ] in
-    let value : c.value_of_page.result ≡ page_value H c.args.depth c.args.page.now c.args.key.now =
-    c.value_of_page.ensures ∙ (λ i. value_above H height (part i) (foot i)
-    (bits_from c.args.key.now (8 * c.args.depth) 8)) in
-    sym value ∙ same_hashes _ _ _ c.ne.ensures c.if-ne.false
+    let at = goal.at.returns-clause-value g c in
+    sym (value_is g at.After-value_of_page (own_part g at.After-split_at))
+    ∙ same_hashes _ _ _ c.ne.ensures c.if-ne.false

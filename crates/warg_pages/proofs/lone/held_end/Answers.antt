@@ -6,26 +6,31 @@ use Rattle.warg_pages.proofs.HashEquality.{same_hashes, other_hashes}
 use Rattle.warg_pages.proofs.BitParts.{lone_root-none}
 use Rattle.warg_pages.proofs.LoneEnds.{held_end, held_no_end}
 use Rattle.warg_pages.proofs.lone.held_end.Goals as goal
+use Rattle.warg_pages.proofs.lone.held_end.Goals.{After-lone_tree}
+
+-- the subtree of the lone key below the slot
+below_slot : (g : _) (c : After-lone_tree g) → c.lone_tree.result
+    ≡ lone_root g.D.SupportedDigest.digest c.args.key.now c.args.lone.now.1 (slot_height c.args.depth)
+below_slot g c =
+    let leaf : c.lone.inside.leaf ≡ c.args.lone.now.1 = ap (λ (l : List ℕ × List ℕ). l.1) c.lone.view_is in
+    c.lone_tree.ensures c.args.lone.now.1
+    (leaf ∙ lone_root-none g.D.SupportedDigest.digest c.args.key.now c.args.lone.now.1)
 
 pub returns-then-ne-clause-err : goal.returns-then-ne-clause-err
 returns-then-ne-clause-err g c =
-    let H = g.D.SupportedDigest.digest in
-    let leaf : c.lone.inside.leaf ≡ c.args.lone.now.1 = ap (λ (l : List ℕ × List ℕ). l.1) c.lone.view_is in
+    let root = below_slot g (goal.at.returns-then-ne-clause-err g c).After-lone_tree in
     let digest : c.slot.inside.digest ≡ c.args.slot.now.digest = ap (λ (x : SlotAt). x.digest) c.slot.view_is in
-    let root : c.lone_tree.result ≡ lone_root H c.args.key.now c.args.lone.now.1 (slot_height c.args.depth) =
-    c.lone_tree.ensures c.args.lone.now.1 (leaf ∙ lone_root-none H c.args.key.now c.args.lone.now.1) in
-    held_no_end H c.args.key.now c.args.depth c.args.slot.now c.args.lone.now c.requires.depth c.requires.same
-    (λ e. other_hashes _ _ _ c.ne.ensures c.if-ne.true (root ∙ e ∙ sym digest))
+    held_no_end g.D.SupportedDigest.digest c.args.key.now c.args.depth c.args.slot.now c.args.lone.now c.requires.depth
+    c.requires.same (λ e. other_hashes _ _ _ c.ne.ensures c.if-ne.true (root ∙ e ∙ sym digest))
 
 pub returns-clause-ok : goal.returns-clause-ok
 returns-clause-ok g c =
-    let H = g.D.SupportedDigest.digest in
+    let root = below_slot g (goal.at.returns-clause-ok g c).After-lone_tree in
     let leaf : c.lone.inside.leaf ≡ c.args.lone.now.1 = ap (λ (l : List ℕ × List ℕ). l.1) c.lone.view_is in
     let digest : c.slot.inside.digest ≡ c.args.slot.now.digest = ap (λ (x : SlotAt). x.digest) c.slot.view_is in
     let version : c.slot.inside.version ≡ c.args.slot.now.version = ap (λ (x : SlotAt). x.version) c.slot.view_is in
-    let root : c.lone_tree.result ≡ lone_root H c.args.key.now c.args.lone.now.1 (slot_height c.args.depth) =
-    c.lone_tree.ensures c.args.lone.now.1 (leaf ∙ lone_root-none H c.args.key.now c.args.lone.now.1) in
     let same = same_hashes _ _ _ c.ne.ensures c.if-ne.false in
     let index : c.in-Some.index + 1 ≡ c.args.slot.now.version = let sub = c.in-Some.ensures in omega arith in
-    rw (c.copied.ensures, leaf) (held_end H c.args.key.now c.args.depth c.in-Some.index c.args.slot.now c.args.lone.now
+    rw (c.copied.ensures, leaf)
+    (held_end g.D.SupportedDigest.digest c.args.key.now c.args.depth c.in-Some.index c.args.slot.now c.args.lone.now
     c.requires.depth c.requires.same (sym root ∙ same ∙ digest) index)

@@ -2,33 +2,39 @@ use Rattle.std.proofs.Common.{◌≡◌, ◌+◌, ◌-◌, ◌*◌, ◌++◌, []
 use Rattle.std.proofs.lemmas.List.{append_assoc}
 use Rattle.std.specs.Prelude.{replicate}
 use Rattle.warg_pages.specs.Slots.{SlotAt}
-use Rattle.warg_pages.specs.Pages.{slot_height}
 use Rattle.warg_pages.specs.Private.Descents.{lone_root}
 use Rattle.warg_pages.proofs.HashEquality.{same_hashes, other_hashes}
 use Rattle.warg_pages.proofs.BitParts.{lone_root-none}
 use Rattle.warg_pages.proofs.LoneEnds.{Parting, parting_peers, parted_end, parted_no_end, replicate-more}
 use Rattle.warg_pages.proofs.lone.parted_end.Goals as goal
+use Rattle.warg_pages.proofs.lone.parted_end.Goals.{After-lone_tree-other}
+
+-- the key of the lone key, as `lone_tree` is given it
+key_is : (g : _) (c : After-lone_tree-other g) → c.lone.inside.key ≡ c.args.lone.now.0
+key_is g c = ap (λ (l : List ℕ × List ℕ). l.0) c.lone.view_is
+
+-- its subtree below the parting
+below_parting : (g : _) (c : After-lone_tree-other g) → c.lone_tree-other.result
+    ≡ lone_root g.D.SupportedDigest.digest c.lone.inside.key c.args.lone.now.1 (255 - c.args.shared)
+below_parting g c = c.lone_tree-other.ensures c.args.lone.now.1 (ap (λ (l : List ℕ × List ℕ). l.1) c.lone.view_is
+    ∙ lone_root-none g.D.SupportedDigest.digest c.lone.inside.key c.args.lone.now.1)
+
+-- where the two keys part
+parting : (g : _) (c : After-lone_tree-other g) → Parting c.args.key.now c.args.lone.now.0 c.args.depth c.args.shared
+parting g c = record {
+  below = c.requires.below;
+  parts = c.requires.parts;
+  same = c.requires.same;
+  apart = c.requires.apart;
+}
 
 pub returns-then-ne-clause-err : goal.returns-then-ne-clause-err
 returns-then-ne-clause-err g c =
-    let H = g.D.SupportedDigest.digest in
-    let lone = c.args.lone.now in
-    let key : c.lone.inside.key ≡ lone.0 = ap (λ (l : List ℕ × List ℕ). l.0) c.lone.view_is in
-    let leaf : c.lone.inside.leaf ≡ lone.1 = ap (λ (l : List ℕ × List ℕ). l.1) c.lone.view_is in
+    let at = (goal.at.returns-then-ne-clause-err g c).After-lone_tree-other in
+    let root = rw (key_is g at) at (c.lone_tree.ensures c.args.lone.now.1 (below_parting g at)) in
     let digest : c.slot.inside.digest ≡ c.args.slot.now.digest = ap (λ (x : SlotAt). x.digest) c.slot.view_is in
-    let tree : c.lone_tree-other.result ≡ lone_root H c.lone.inside.key lone.1 (255 - c.args.shared) =
-    c.lone_tree-other.ensures lone.1 (leaf ∙ lone_root-none H c.lone.inside.key lone.1) in
-    let root : c.lone_tree.result ≡ lone_root H lone.0 lone.1 (slot_height c.args.depth) =
-    rw key at (c.lone_tree.ensures lone.1 tree) in
-    let parting : Parting c.args.key.now lone.0 c.args.depth c.args.shared =
-    record {
-      below = c.requires.below;
-      parts = c.requires.parts;
-      same = c.requires.same;
-      apart = c.requires.apart;
-    } in
-    parted_no_end H c.args.key.now c.args.depth c.args.shared c.args.slot.now lone parting
-    (λ e. other_hashes _ _ _ c.ne.ensures c.if-ne.true (root ∙ e ∙ sym digest))
+    parted_no_end g.D.SupportedDigest.digest c.args.key.now c.args.depth c.args.shared c.args.slot.now c.args.lone.now
+    (parting g at) (λ e. other_hashes _ _ _ c.ne.ensures c.if-ne.true (root ∙ e ∙ sym digest))
 
 pub loop-bit-preserved : goal.loop-bit-preserved
 loop-bit-preserved g c =
@@ -40,28 +46,16 @@ loop-bit-preserved g c =
 
 pub returns-clause-ok : goal.returns-clause-ok
 returns-clause-ok g c =
-    let H = g.D.SupportedDigest.digest in
-    let lone = c.args.lone.now in
-    let key : c.lone.inside.key ≡ lone.0 = ap (λ (l : List ℕ × List ℕ). l.0) c.lone.view_is in
-    let leaf : c.lone.inside.leaf ≡ lone.1 = ap (λ (l : List ℕ × List ℕ). l.1) c.lone.view_is in
+    let at = (goal.at.returns-clause-ok g c).After-lone_tree-other in
+    let tree = below_parting g at in
+    let root = rw (key_is g at) at (c.lone_tree.ensures c.args.lone.now.1 tree) in
     let digest : c.slot.inside.digest ≡ c.args.slot.now.digest = ap (λ (x : SlotAt). x.digest) c.slot.view_is in
-    let tree : c.lone_tree-other.result ≡ lone_root H c.lone.inside.key lone.1 (255 - c.args.shared) =
-    c.lone_tree-other.ensures lone.1 (leaf ∙ lone_root-none H c.lone.inside.key lone.1) in
-    let root : c.lone_tree.result ≡ lone_root H lone.0 lone.1 (slot_height c.args.depth) =
-    rw key at (c.lone_tree.ensures lone.1 tree) in
-    let parting : Parting c.args.key.now lone.0 c.args.depth c.args.shared =
-    record {
-      below = c.requires.below;
-      parts = c.requires.parts;
-      same = c.requires.same;
-      apart = c.requires.apart;
-    } in
     let same = same_hashes _ _ _ c.ne.ensures c.if-ne.false in
     let end : c.loop-bit._bit ≡ c.args.shared = let below = c.requires.below in omega arith in (
       parting_peers (c.args.shared - (8 * c.args.depth + 8)) c.lone_tree-other.result,
       rw (c.in_ok-push-2.ensures.items, c.loop-bit.invariant, end)
           (append_assoc c.args.peers.now.items (replicate (c.args.shared - (8 * c.args.depth + 8)) None)
           (Some c.lone_tree-other.result ∷ [])),
-      parted_end H c.args.key.now c.args.depth c.args.shared c.args.slot.now lone c.lone_tree-other.result parting
-          (rw key at tree) (sym root ∙ same ∙ digest),
+      parted_end g.D.SupportedDigest.digest c.args.key.now c.args.depth c.args.shared c.args.slot.now c.args.lone.now
+          c.lone_tree-other.result (parting g at) (rw (key_is g at) at tree) (sym root ∙ same ∙ digest),
     )

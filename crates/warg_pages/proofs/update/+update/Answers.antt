@@ -1,5 +1,5 @@
 use Rattle.std.proofs.Common.{◌≡◌, ◌≢◌, ◌∙◌, ◌<◌, ◌++◌, [], ◌∷◌, List, ℕ, Option, Some, None, IfSome, length, sym}
-use Rattle.std.proofs.Common.{ap, subst, arith, append_assoc}
+use Rattle.std.proofs.Common.{ap, arith, append_assoc}
 use Rattle.std.proofs.lemmas.List.{append-nil, get_or-set_other}
 use Rattle.std.proofs.lemmas.List.Elements.{All-nil, All-cons, All-append}
 use Rattle.std.specs.List.{All, cons_option}
@@ -7,7 +7,7 @@ use Rattle.warg_pages.specs.Prefixes.{bits_of_bytes}
 use Rattle.warg_pages.specs.Slots.{SlotAt, slot_of, numbers}
 use Rattle.warg_pages.specs.Pages.{page_digest}
 use Rattle.warg_pages.specs.ChangedPages.{ChangedPageAt, ChangesWhatStood}
-use Rattle.warg_pages.specs.Private.Updates.{IsOwnUpdate, IsUpdated, GoesBelow}
+use Rattle.warg_pages.specs.Private.Updates.{GoesBelow}
 use Rattle.warg_pages.proofs.Refused.{source_refused}
 use Rattle.warg_pages.proofs.HashEquality.{same_hashes, other_hashes}
 use Rattle.warg_pages.proofs.ChangedAmong.{none_among, next_among}
@@ -22,21 +22,15 @@ slot_after-returns-in_ok-digest-in-Below-clause-ok g t c =
     let changes = c.args.update.now.changes.items in
     let byte = c.args.byte in
     let lt : byte < 256 = omega arith in
-    let below = c.in-Below.below in
     let step = rw c.in-Below.is at c.in_ok-slot.ensures.ok in
     let own_step = rw c.in-Below.is at c.in_ok-slot.ensures.own in
     let done = c.in_ok-digest-in-Below.ensures.ok in (
       done.0,
       done.1,
       λ known old more is_known own.
-          let bytes_at = g.P.Pages.bytes_at known in
           let update = own_step known is_known old more own in
           let updated = done.2 known old more (c.slot_update.ensures.known known is_known) update in
-          let P : List ℕ → Type 0 = λ p. IsOwnUpdate H bytes_at p below.version below.digest below.page
-          below.changes.items old more in
-          let Q : List ℕ → Type 0 = λ p. IsUpdated H old more p c.in_ok-digest-in-Below.digest done.0 in
-          slot_of_page H bytes_at prefix byte below.version below.digest c.in_ok-digest-in-Below.digest below.page
-          below.changes.items done.0 old more (subst P step.0 update) (subst Q step.0 updated),
+          slot_of_page prefix byte (rw step.0 at update) (rw step.0 at updated),
       λ root count more are stood.
           let next = next_changes H g.met.D.SupportedDigest.is_digest prefix changes byte count more c.requires.short
           lt are in
@@ -152,12 +146,8 @@ update_page-returns-clause-ok g t c =
         page = c.loop-byte.page;
       } ∷ []) ∙ append_assoc c.args.changed.now.items before.0 one,
       λ known old more is_known own.
-          let bytes_at = g.P.Pages.bytes_at known in
           let done = rw end at (before.2 known old more is_known own) in
-          let P : List ℕ → Type 0 = λ d. IsUpdated H old more prefix d (before.0 ++ one) in
-          subst P (sym digest) (page_updated H bytes_at prefix c.args.update.version c.args.update.digest
-          c.args.update.page c.args.update.changes.items c.loop-byte.page before.0 old more c.requires own done.0
-          done.1),
+          rw digest (page_updated before.0 own c.requires done.0 done.1),
       λ root count more named are.
           let before_is : c.page_roots-before.result.0 ≡ page_digest H (length prefix) c.args.update.page =
           rw (c.slots.ensures.value, c.as_slice-depth.ensures.value) at c.page_roots-before.ensures.before in
@@ -176,8 +166,7 @@ update_page-returns-then-ne-clause-err g t c = λ known old more is_known own.
     let before : c.page_roots-before.result.0 ≡ page_digest H (length prefix) c.args.update.page =
     rw (c.slots.ensures.value, c.as_slice-depth.ensures.value) at c.page_roots-before.ensures.before in
     other_hashes _ _ _ c.ne.ensures c.if-ne.true
-    (before ∙ digest_before H _ prefix c.args.update.version c.args.update.digest c.args.update.page
-    c.args.update.changes.items old more c.requires own)
+    (before ∙ digest_before own c.requires)
 
 pub update_page-returns-clause-digest : goal.update_page-returns-clause-digest
 update_page-returns-clause-digest g t c =

@@ -21,40 +21,23 @@ last_there g c =
 
 pub returns-in_default-clause-ok : goal.returns-in_default-clause-ok
 returns-in_default-clause-ok g c =
-    let H = g.D.SupportedDigest.digest in
-    let prefix = c.args.update.now.prefix.items in
-    let page = c.args.update.now.page in
-    let changes = c.args.update.now.changes.items in
-    let byte = c.args.byte in
-    let lt : byte < 256 = omega arith in
-    let none = last_there g (goal.at.returns-in_default-clause-ok g c).After-last ∙ ap option_copied c.in_default.is in
-    let same : c.copied_slot.result ≡ slot_at page byte = c.copied_slot.ensures ∙ c.slot-slot.ensures in
-    rw same (slot_at-byte page byte, λ none. refl)
+    let same : c.copied_slot.result ≡ slot_at c.args.update.now.page c.args.byte = c.copied_slot.ensures
+    ∙ c.slot-slot.ensures in
+    rw same (slot_at-byte c.args.update.now.page c.args.byte, λ none. refl)
 
 pub returns-in_default-clause-own : goal.returns-in_default-clause-own
 returns-in_default-clause-own g c = λ known is_known.
-    let H = g.D.SupportedDigest.digest in
-    let prefix = c.args.update.now.prefix.items in
-    let page = c.args.update.now.page in
-    let changes = c.args.update.now.changes.items in
-    let byte = c.args.byte in
-    let lt : byte < 256 = omega arith in
     let none = last_there g (goal.at.returns-in_default-clause-own g c).After-last ∙ ap option_copied c.in_default.is in
-    let same : c.copied_slot.result ≡ slot_at page byte = c.copied_slot.ensures ∙ c.slot-slot.ensures in
-    rw same (λ old more own. slot_stays H g.met.D.SupportedDigest.is_digest _ prefix page changes byte old more
-    c.requires.short lt none own)
+    let same : c.copied_slot.result ≡ slot_at c.args.update.now.page c.args.byte = c.copied_slot.ensures
+    ∙ c.slot-slot.ensures in
+    rw same (λ old more own. slot_stays g.met.D.SupportedDigest.is_digest own c.args.byte c.requires.short (omega arith)
+    none)
 
 pub returns-in_err-slot-clause-err : goal.returns-in_err-slot-clause-err
 returns-in_err-slot-clause-err g c =
-    let H = g.D.SupportedDigest.digest in
-    let prefix = c.args.update.now.prefix.items in
-    let page = c.args.update.now.page in
-    let changes = c.args.update.now.changes.items in
-    let byte = c.args.byte in
-    let lt : byte < 256 = omega arith in
     way_refused c.from_residual.result c.in_err-slot.field-0.0 c.from_residual.ensures.1
     (λ fault known old more is_known own.
-    fault (slot_has_digest H _ prefix page changes byte old more c.requires.short lt own))
+    fault (slot_has_digest g.met.D.SupportedDigest.is_digest own c.args.byte c.requires.short (omega arith)))
     (rw (c.as_slice-prefix.ensures.value, c.slot-slot.ensures) at c.in_err-slot.ensures.err)
 
 -- so there are changes there
@@ -71,48 +54,34 @@ stays_alone g c =
 
 pub returns-then-stays_alone-clause-ok : goal.returns-then-stays_alone-clause-ok
 returns-then-stays_alone-clause-ok g c =
-    let H = g.D.SupportedDigest.digest in
-    let prefix = c.args.update.now.prefix.items in
     let last = c.in-Some.last.now in
     let is = last_there g (goal.at.returns-then-stays_alone-clause-ok g c).After-last ∙ ap option_copied c.in-Some.is in
-    let new : c.in_ok-slot.slot ≡ lone_slot H (length prefix) c.args.byte last.version (last.key, last.leaf) =
-    rw c.as_slice-prefix.ensures.value at c.in_ok-slot.ensures.ok in
+    let new : c.in_ok-slot.slot ≡ lone_slot g.D.SupportedDigest.digest (length c.args.update.now.prefix.items)
+    c.args.byte last.version (last.key, last.leaf) = rw c.as_slice-prefix.ensures.value at c.in_ok-slot.ensures.ok in
     rw new (refl, λ none. absurd (none_differs is none))
 
 pub returns-then-stays_alone-clause-own : goal.returns-then-stays_alone-clause-own
 returns-then-stays_alone-clause-own g c = λ known is_known.
-    let H = g.D.SupportedDigest.digest in
-    let prefix = c.args.update.now.prefix.items in
-    let page = c.args.update.now.page in
-    let changes = c.args.update.now.changes.items in
-    let byte = c.args.byte in
-    let lt : byte < 256 = omega arith in
+    let at = goal.at.returns-then-stays_alone-clause-own g c in
     let last = c.in-Some.last.now in
-    let is = last_there g (goal.at.returns-then-stays_alone-clause-own g c).After-last
-    ∙ ap option_copied c.in-Some.is in
-    let stays = (stays_alone g (goal.at.returns-then-stays_alone-clause-own g c).After-stays_alone).0
-    c.if-stays_alone.true in
-    let new : c.in_ok-slot.slot ≡ lone_slot H (length prefix) byte last.version (last.key, last.leaf) =
-    rw c.as_slice-prefix.ensures.value at c.in_ok-slot.ensures.ok in
-    rw new (λ old more own. slot_alone H g.met.D.SupportedDigest.is_digest _ prefix page changes byte last old more
-    c.requires.short lt is stays own)
+    let stays = (stays_alone g at.After-stays_alone).0 c.if-stays_alone.true in
+    let new : c.in_ok-slot.slot ≡ lone_slot g.D.SupportedDigest.digest (length c.args.update.now.prefix.items)
+    c.args.byte last.version (last.key, last.leaf) = rw c.as_slice-prefix.ensures.value at c.in_ok-slot.ensures.ok in
+    rw new (λ old more own. slot_alone g.met.D.SupportedDigest.is_digest own c.args.byte c.requires.short (omega arith)
+    last (last_there g at.After-last ∙ ap option_copied c.in-Some.is) stays)
 
 pub returns-in_err-below-clause-err : goal.returns-in_err-below-clause-err
 returns-in_err-below-clause-err g c =
-    let H = g.D.SupportedDigest.digest in
-    let prefix = c.args.update.now.prefix.items in
-    let page = c.args.update.now.page in
-    let changes = c.args.update.now.changes.items in
+    let at = goal.at.returns-in_err-below-clause-err g c in
+    let gives = g.met.D.SupportedDigest.is_digest in
     let byte = c.args.byte in
     let lt : byte < 256 = omega arith in
-    let is = last_there g (goal.at.returns-in_err-below-clause-err g c).After-last ∙ ap option_copied c.in-Some.is in
-    let alone = iff_false (stays_alone g (goal.at.returns-in_err-below-clause-err g c).After-stays_alone)
-    c.if-stays_alone.false in
     source_refused c.from_residual-in_err-below.result c.in_err-below.field-0.0 c.from_residual-in_err-below.ensures.1
-    (λ fault known old more is_known own. elim (cases_lt (length prefix) 31) [
-      | inl low ↦ fault low known old is_known (own_below H _ prefix page changes byte old more lt own)
-      | inr high ↦ none_at_last H g.met.D.SupportedDigest.is_digest _ prefix page changes byte c.in-Some.last.now old
-          more (omega arith) lt is alone own
+    (λ fault known old more is_known own. elim (cases_lt (length c.args.update.now.prefix.items) 31) [
+      | inl low ↦ fault low known old is_known (own_below gives own byte c.requires.short lt)
+      | inr high ↦ none_at_last gives own byte c.requires.short lt c.in-Some.last.now (omega arith)
+          (last_there g at.After-last ∙ ap option_copied c.in-Some.is)
+          (iff_false (stays_alone g at.After-stays_alone) c.if-stays_alone.false)
     ])
     (rw (c.as_slice-prefix.ensures.value, c.slot-slot.ensures) at c.in_err-below.ensures.err)
 
@@ -128,16 +97,12 @@ returns-clause-ok g c =
 
 pub returns-clause-own : goal.returns-clause-own
 returns-clause-own g c = λ known is_known old more own.
-    let H = g.D.SupportedDigest.digest in
-    let prefix = c.args.update.now.prefix.items in
-    let page = c.args.update.now.page in
-    let changes = c.args.update.now.changes.items in
-    let byte = c.args.byte in
-    let lt : byte < 256 = omega arith in
+    let at = goal.at.returns-clause-own g c in
     let last = c.in-Some.last.now in
     let number : c.last-2.inside.version ≡ last.version = ap (λ (x : ChangeAt). x.version) c.last-2.view_is in
-    let is = last_there g (goal.at.returns-clause-own g c).After-last ∙ ap option_copied c.in-Some.is in
-    let alone = iff_false (stays_alone g (goal.at.returns-clause-own g c).After-stays_alone) c.if-stays_alone.false in
+    let is = last_there g at.After-last ∙ ap option_copied c.in-Some.is in
+    let alone = iff_false (stays_alone g at.After-stays_alone) c.if-stays_alone.false in
     let ok = rw (c.as_slice-prefix.ensures.value, c.slot-slot.ensures) at c.in_ok-below.ensures.ok in
-    rw (ok.1, ok.2, ok.3, ok.4, c.requires.there, number) (page_changes H g.met.D.SupportedDigest.is_digest _ prefix
-    page changes byte last c.in_ok-below.below.page old more ok.0 lt is alone (ok.5 known is_known) own)
+    rw (ok.1, ok.2, ok.3, ok.4, c.requires.there, number)
+    (page_changes g.met.D.SupportedDigest.is_digest own c.args.byte c.requires.short (omega arith) last
+    c.in_ok-below.below.page ok.0 is alone (ok.5 known is_known))

@@ -1,4 +1,4 @@
-use Rattle.std.proofs.Common.{◌≡◌, ◌∙◌, ◌+◌, ◌-◌, ◌<◌, ◌++◌, [], ◌∷◌, List, ℕ, Some, None, length, drop, refl, sym, ap, subst, arith, add-one, append_assoc, length-append}
+use Rattle.std.proofs.Common.{◌≡◌, ◌∙◌, ◌+◌, ◌-◌, ◌<◌, ◌++◌, [], ◌∷◌, Some, None, length, drop, refl, sym, ap, arith, add-one, append_assoc, length-append}
 use Rattle.std.proofs.lemmas.List.{append-nil}
 use Rattle.std.proofs.lemmas.Result.{on_ok_weaker}
 use Rattle.std.proofs.Math.ListN.{drop_of_length-le}
@@ -13,31 +13,29 @@ use Rattle.warg_pages.proofs.visit.+visit.Goals as goal
 
 pub visit_from-returns-then-prefix-eq32-clause-refused : goal.visit_from-returns-then-prefix-eq32-clause-refused
 visit_from-returns-then-prefix-eq32-clause-refused g t c = λ known es is_known own.
-    own_end g.D.SupportedDigest.digest _ c.args.prefix.now c.args.digest.now c.args.version es c.if-prefix-eq32.true own
+    own_end own c.if-prefix-eq32.true
 
 pub visit_from-returns-in_err-page-clause-refused : goal.visit_from-returns-in_err-page-clause-refused
 visit_from-returns-in_err-page-clause-refused g t c =
     let H = g.D.SupportedDigest.digest in
     let lt : length c.args.prefix.now < 32 = let le = c.requires in let ne = c.if-prefix-eq32.false in omega arith in
     source_refused c.from_residual.result c.in_err-page.field-0.0 c.from_residual.ensures.1
-    (λ none known es is_known own. own_refused H g.met.D.SupportedDigest.is_digest _ c.args.prefix.now
-    c.args.digest.now c.args.version es lt (λ slots. none known slots is_known) own) c.in_err-page.ensures.err
+    (λ none known es is_known own. own_refused g.met.D.SupportedDigest.is_digest own lt
+    (λ slots. none known slots is_known)) c.in_err-page.ensures.err
 
 pub visit_from-returns-then-ne-clause-refused : goal.visit_from-returns-then-ne-clause-refused
 visit_from-returns-then-ne-clause-refused g t c = λ known es is_known own.
     let H = g.D.SupportedDigest.digest in
     let lt : length c.args.prefix.now < 32 = let le = c.requires in let ne = c.if-prefix-eq32.false in omega arith in
-    other_hashes _ _ _ c.ne.ensures c.if-ne.true (c.digest.ensures ∙ own_digest H g.met.D.SupportedDigest.is_digest _
-    c.args.prefix.now c.args.digest.now c.args.version c.in_ok-page.page es lt c.in_ok-page.ensures.page
-    (c.in_ok-page.ensures.ok known is_known) own)
+    other_hashes _ _ _ c.ne.ensures c.if-ne.true (c.digest.ensures ∙ own_digest g.met.D.SupportedDigest.is_digest
+    own lt c.in_ok-page.ensures.page (c.in_ok-page.ensures.ok known is_known))
 
 pub visit_from-slots-init : goal.visit_from-slots-init
 visit_from-slots-init g t c = record {
   known = λ known is. c.read_page.ensures.known known is;
   seen = λ before has. (
     [],
-    let P : List ChangedPageAt → Type 0 = λ pages. g.V.PageVisitor.HasSeen c.see.new.visitor pages in
-        subst P (sym (append-nil before)) has,
+    rw append-nil has,
     λ known rest is others. others,
   );
 }
@@ -49,11 +47,11 @@ visit_from-returns-in_err-visit_slot-clause-refused g t c =
     source_refused c.from_residual-in_err-visit_slot.result c.in_err-visit_slot.field-0.0
     c.from_residual-in_err-visit_slot.ensures.1
     (λ none known es is_known own.
-    let page = own_page H g.met.D.SupportedDigest.is_digest _ c.args.prefix.now c.args.digest.now c.args.version
-    c.in_ok-page.page es lt c.in_ok-page.ensures.page (c.in_ok-page.ensures.ok known is_known) own in
-    none known es (c.slots.invariant.known known is_known) (own_slot H _ c.args.prefix.now c.args.digest.now
-    c.args.version c.slots-slot-items.result.now es c.slots.slot-index c.slot-item.result
-    (c.slots-slot-items.ensures.value ∙ page) c.slots-test.true c.slot-item.is own))
+    let page = own_page g.met.D.SupportedDigest.is_digest own lt c.in_ok-page.ensures.page
+    (c.in_ok-page.ensures.ok known is_known) in
+    none known es (c.slots.invariant.known known is_known)
+    (own_slot own (c.slots-slot-items.ensures.value ∙ page) c.slots.slot-index c.slot-item.result c.slots-test.true
+    c.slot-item.is))
     c.in_err-visit_slot.ensures.refused
 
 pub visit_from-slots-preserved : goal.visit_from-slots-preserved
@@ -67,19 +65,17 @@ visit_from-slots-preserved g t c = record {
       let before_slot = c.slots.invariant.seen before has in
       let done = before_slot.0 in
       let at = c.in_ok-visit_slot.ensures.seen (before ++ done) before_slot.1 in
-      let P : List ChangedPageAt → Type 0 = λ pages. g.V.PageVisitor.HasSeen c.visit_slot.new.visitor pages in
       let cut : drop c.slots.slot-index items ≡ x ∷ drop (c.slots.slot-index + 1) items =
       drop-cons items c.slots.slot-index x c.slots-test.true
       ∙ (λ i. sym c.slot-item.is i ∷ drop (sym (add-one c.slots.slot-index) i) items) in (
         done ++ at.0,
-        subst P (append_assoc before done at.0) at.1,
+        rw append_assoc at at.1,
         λ known rest is others.
-            let From : List ℕ → ℕ → List ℕ → List ChangedPageAt → Type 0 = AreFromWhere H (IsLoneShown H c.args.lone_keys)
-            (IsAllowed (g.P.Pages.bytes_at known) (g.P.Pages.tells_all known)) (31 - length prefix) in
-            let Q : List ChangedPageAt → Type 0 = λ pages. AreOfSlots (IsLoneShown H c.args.lone_keys) From prefix items pages in
-            subst Q (sym (append_assoc done at.0 rest)) (before_slot.2 known (at.0 ++ rest) is
-            (slots_more (IsLoneShown H c.args.lone_keys) From prefix (drop c.slots.slot-index items) x (drop (c.slots.slot-index + 1) items) at.0 rest
-            cut (at.2 known (c.slots.invariant.known known is)) others)),
+            let Shown = IsLoneShown H c.args.lone_keys in
+            let From = AreFromWhere H Shown (IsAllowed (g.P.Pages.bytes_at known) (g.P.Pages.tells_all known))
+            (31 - length prefix) in
+            rw append_assoc (before_slot.2 known (at.0 ++ rest) is (slots_more Shown From prefix _ x _ at.0 rest cut
+            (at.2 known (c.slots.invariant.known known is)) others)),
       );
 }
 
@@ -91,23 +87,21 @@ visit_from-returns-clause-seen g t c = λ before has.
     let items = c.slots-slot-items.result.now in
     let page : ChangedPageAt = record { prefix = prefix; version = c.args.version; page = c.in_ok-page.page } in
     let first = c.in_ok-see.ensures.ok before has in
-    let all = c.slots.invariant.seen (before ++ page ∷ []) first in
-    let P : List ChangedPageAt → Type 0 = λ pages. g.V.PageVisitor.HasSeen c.slots.visitor pages in (
+    let all = c.slots.invariant.seen (before ++ page ∷ []) first in (
       page ∷ all.0,
-      subst P (append_assoc before (page ∷ []) all.0) all.1,
+      rw append_assoc at all.1,
       λ known is.
-          let IsThere : List ℕ → ℕ → List SlotAt → Type 0 = IsAllowed (g.P.Pages.bytes_at known) (g.P.Pages.tells_all known) in
-          let From : List ℕ → ℕ → List ℕ → List ChangedPageAt → Type 0 = AreFromWhere H (IsLoneShown H c.args.lone_keys) IsThere (31 - length prefix) in
-          let others : AreOfSlots (IsLoneShown H c.args.lone_keys) From prefix items (all.0 ++ []) = all.2 known [] is
-          (no_slots (IsLoneShown H c.args.lone_keys) From prefix (drop c.slots.slot-index items) (drop_of_length-le items c.slots-test.false)) in
-          let Q : List SlotAt → List ChangedPageAt → Type 0 = λ slots pages. AreOfSlots (IsLoneShown H c.args.lone_keys) From prefix slots pages in
-          page_from H (IsLoneShown H c.args.lone_keys) IsThere prefix c.args.digest.now c.args.version c.in_ok-page.page all.0 lt
+          let Shown = IsLoneShown H c.args.lone_keys in
+          let IsThere = IsAllowed (g.P.Pages.bytes_at known) (g.P.Pages.tells_all known) in
+          let From = AreFromWhere H Shown IsThere (31 - length prefix) in
+          let others : AreOfSlots Shown From prefix items (all.0 ++ []) = all.2 known [] is
+          (no_slots Shown From prefix _ (drop_of_length-le items c.slots-test.false)) in
+          page_from H Shown IsThere prefix c.args.digest.now c.args.version c.in_ok-page.page all.0 lt
           c.in_ok-page.ensures.page record {
             allowed = c.in_ok-page.ensures.ok known is;
             told = c.in_ok-page.ensures.told known is;
           } (sym c.digest.ensures ∙ same_hashes _ _ _ c.ne.ensures c.if-ne.false)
-          (let R : List SlotAt → Type 0 = λ slots. Q slots all.0 in subst R c.slots-slot-items.ensures.value
-          (let S : List ChangedPageAt → Type 0 = Q items in subst S (append-nil all.0) others)),
+          (rw (append-nil, c.slots-slot-items.ensures.value) at others),
     )
 
 pub visit_slot-returns-in_err-check_lone-in-Some-clause-refused : goal.visit_slot-returns-in_err-check_lone-in-Some-clause-refused
@@ -116,17 +110,16 @@ visit_slot-returns-in_err-check_lone-in-Some-clause-refused g t c =
     let lone : c.args.slot.now.lone ≡ Some c.in-Some.lone = sym (ap (λ (x : SlotAt). x.lone) c.slot.view_is)
     ∙ c.in-Some.is in
     way_refused c.from_residual.result c.in_err-check_lone-in-Some.field-0.0 c.from_residual.ensures.1
-    (λ fault known es is_known own. fault (own_lone H g.met.D.SupportedDigest.is_digest _ c.args.prefix.now
-    c.args.slot.now c.in-Some.lone es c.requires lone own)) c.in_err-check_lone-in-Some.ensures.err
+    (λ fault known es is_known own. fault (own_lone g.met.D.SupportedDigest.is_digest own c.requires lone))
+    c.in_err-check_lone-in-Some.ensures.err
 
 pub visit_slot-returns-in_ok-check_lone-in-Some-clause-seen : goal.visit_slot-returns-in_ok-check_lone-in-Some-clause-seen
 visit_slot-returns-in_ok-check_lone-in-Some-clause-seen g t c = λ before has.
     let H = g.D.SupportedDigest.digest in
     let lone : c.args.slot.now.lone ≡ Some c.in-Some.lone = sym (ap (λ (x : SlotAt). x.lone) c.slot.view_is)
-    ∙ c.in-Some.is in
-    let P : List ChangedPageAt → Type 0 = λ pages. g.V.PageVisitor.HasSeen c.args.visitor.now pages in (
+    ∙ c.in-Some.is in (
       [],
-      subst P (sym (append-nil before)) has,
+      rw append-nil has,
       λ known is. rw lone (refl, c.in_ok-check_lone-in-Some.ensures.ok),
     )
 
@@ -137,10 +130,10 @@ visit_slot-returns-in_ok-below-in-None-clause-refused g t c =
     let byte : c.slot.inside.byte ≡ c.args.slot.now.byte = ap (λ (x : SlotAt). x.byte) c.slot.view_is in
     let digest : c.slot.inside.digest ≡ c.args.slot.now.digest = ap (λ (x : SlotAt). x.digest) c.slot.view_is in
     let version : c.slot.inside.version ≡ c.args.slot.now.version = ap (λ (x : SlotAt). x.version) c.slot.view_is in
-    let below = c.as_slice.ensures.value ∙ c.in_ok-below-in-None.ensures.ok ∙ ap (λ s. c.args.prefix.now ++ s ∷ []) byte in
+    let below = c.as_slice.ensures.value ∙ c.in_ok-below-in-None.ensures.ok
+    ∙ ap (λ s. c.args.prefix.now ++ s ∷ []) byte in
     if_err c.visit_from.result _ _ (rw (digest, version) at c.visit_from.ensures.refused)
-    (λ e. of_source e (λ fault known es is_known own. fault known es is_known
-    (own_below H _ c.args.prefix.now c.as_slice.result.now c.args.slot.now es below none own)))
+    (λ e. of_source e (λ fault known es is_known own. fault known es is_known (own_below own below none)))
 
 pub visit_slot-returns-in_ok-below-in-None-clause-seen : goal.visit_slot-returns-in_ok-below-in-None-clause-seen
 visit_slot-returns-in_ok-below-in-None-clause-seen g t c =
@@ -158,10 +151,5 @@ visit_slot-returns-in_ok-below-in-None-clause-seen g t c =
     let at = seen before has in (
       at.0,
       at.1,
-      λ known is.
-          let IsThere : List ℕ → ℕ → List SlotAt → Type 0 = IsAllowed (g.P.Pages.bytes_at known) (g.P.Pages.tells_all known) in
-          let P : ℕ → List ℕ → Type 0 = λ n longer. AreFromWhere H (IsLoneShown H c.args.lone_keys) IsThere n longer x.version x.digest at.0 in
-          let from = rw (digest, version) at (at.2 known is) in
-          rw none (let Q : ℕ → Type 0 = λ n. P n (prefix ++ x.byte ∷ []) in subst Q left
-          (let R : List ℕ → Type 0 = λ longer. P (32 - length c.as_slice.result.now) longer in subst R below from)),
+      λ known is. rw none (rw (digest, version, left, below) at (at.2 known is)),
     )) c.visit_from.ensures.seen

@@ -5,24 +5,21 @@ use Rattle.std.proofs.lemmas.List.{take_all, length-append, length-map, length-t
 use Rattle.warg_crypto.specs.Digests.{sha256}
 use Rattle.warg_store.specs.Growing.{Has}
 use Rattle.warg_store.specs.Log.{LogOf, AreShort}
-use Rattle.warg_folder.specs.Commits.{IsBeside}
-use Rattle.warg_folder.proofs.ForCallers.{read_is, read_leaves}
 use Rattle.warg_registry.specs.Folder.{with_entries}
 use Rattle.warg_registry.proofs.RegistryGrowth.{pushed_more, no_entries_more}
-use Rattle.warg_registry.proofs.FolderMoments.{beside_then}
+use Rattle.warg_registry.proofs.FolderMoments.{stages_none, beside_then}
+use Rattle.warg_registry.proofs.Listed.{items_of}
 use Rattle.warg_registry.proofs.Refused.{told_as, push_refused, none_long}
 use Rattle.warg_registry.proofs.folder.push_all.Goals as goal
 
 pub entries-init : goal.entries-init
 entries-init g c =
-    let log = c.args.log.now in
     let dev = g.F.Folder in record {
       pushed = λ faithful served old next has.
-          subst (λ (n : LogOf). Has dev.seen dev.may_leave served old n log) (no_entries_more next) has;
+          subst (λ (n : LogOf). Has dev.seen dev.may_leave served old n c.args.log.now) (no_entries_more next) has;
       ready = λ faithful. c.requires faithful;
-      moments = λ faithful served old next has. read_leaves dev.seen dev.may_leave dev.moment dev.left_since
-          log.folder log.folder (IsBeside (dev.seen log.folder)) (g.met.F.Folder.only_now log.folder)
-          (λ f left. has.staging f left) (read_is dev.seen dev.may_leave dev.moment dev.left_since log.folder);
+      moments = λ faithful served old next has.
+          stages_none g.F.Folder (g.met.F.Folder.only_now c.args.log.now.folder) has.staging;
       faults = omega arith;
     }
 
@@ -39,7 +36,7 @@ pub entries-preserved : goal.entries-preserved
 entries-preserved g c =
     let dev = g.F.Folder in record {
       pushed = λ faithful served old next has.
-          let taken = map (λ (e : Vec ℕ Global). e.items) (take c.entries.entry-index c.args.entries.now) in
+          let taken = items_of (take c.entries.entry-index c.args.entries.now) in
           let more = pushed_more (λ (e : Vec ℕ Global). e.items) next c.args.entries.now c.entries.entry-index
           c.entry-item.result c.as_slice.result.now (omega arith) c.entry-item.is c.as_slice.ensures.value in
           subst (λ (n : LogOf). Has dev.seen dev.may_leave served old n c.push.new.self) (sym more)

@@ -3,22 +3,18 @@ use Rattle.std.proofs.lemmas.List.{take_all}
 use Rattle.warg_pages.specs.ChangedPages.{ChangedPageAt}
 use Rattle.warg_store.specs.Growing.{Has}
 use Rattle.warg_store.specs.Log.{LogOf}
-use Rattle.warg_folder.specs.Commits.{IsBeside}
-use Rattle.warg_folder.proofs.ForCallers.{read_is, read_leaves}
 use Rattle.warg_registry.specs.Folder.{with_pages, files_of}
 use Rattle.warg_registry.proofs.RegistryGrowth.{put_more, put_fresh}
-use Rattle.warg_registry.proofs.FolderMoments.{beside_then}
+use Rattle.warg_registry.proofs.FolderMoments.{stages_none, beside_then}
 use Rattle.warg_registry.proofs.folder.put_all.Goals as goal
 
 pub pages-init : goal.pages-init
 pages-init g c =
-    let log = c.args.log.now in
-    let dev = g.F.Folder in record {
+    record {
       put = λ faithful served old next has fresh. has;
       ready = λ faithful. c.requires faithful;
-      moments = λ faithful served old next has. read_leaves dev.seen dev.may_leave dev.moment dev.left_since
-          log.folder log.folder (IsBeside (dev.seen log.folder)) (g.met.F.Folder.only_now log.folder)
-          (λ f left. has.staging f left) (read_is dev.seen dev.may_leave dev.moment dev.left_since log.folder);
+      moments = λ faithful served old next has.
+          stages_none g.F.Folder (g.met.F.Folder.only_now c.args.log.now.folder) has.staging;
       faults = omega arith;
       stays = refl;
     }

@@ -20,12 +20,12 @@ returns-in-Some g c =
     let get = c.in-Some.ensures.lookup in
     let shown : verdict H (insertion key value c.args.old_root.now c.args.new_root.now)
     (by_bundle c.args.bytes.now c.args.at) ≡ Ok true =
-    seen_true _ _ (c.in_ok-is_true.ensures _ c.check_insertion-verdict.ensures.verdict) c.if-not-branch.false in
-    if_ok _ _ c.witness_change.result
+    seen_true (c.in_ok-is_true.ensures _ c.check_insertion-verdict.ensures.verdict) c.if-not-branch.false in
+    if_ok c.witness_change.result
     (λ finding. insertion_convicts H c.args.bytes.now c.args.at key value c.args.old_root.now c.args.new_root.now old
     new
     c.in-Ok.bundle c.in-Some.absence.now finding c.in-Ok.ensures.exact
-    (at_place _ _ _ _ (c.as_slice.ensures.value ∙ c.unbundle_all-proofs.ensures.absences) get.3.0 get.1) shown)
+    (at_place (c.as_slice.ensures.value ∙ c.unbundle_all-proofs.ensures.absences) get.3.0 get.1) shown)
     c.witness_change.ensures.found
 
 pub returns : goal.returns
@@ -34,7 +34,6 @@ returns g c = λ is.
     let key = g.K.VisitBytes.bytes c.args.key.now in
     none_there (λ (b : MapBundle). b.absences)
     (λ _. leads_both H key (empty_root H 0) (leaf_digest H (g.V.VisitBytes.bytes c.args.value.now)) c.args.old_root.now
-    c.args.new_root.now)
-    c.args.at _ c.in-Ok.bundle c.in-Ok.ensures.exact
-    (past_place _ _ _ (c.as_slice.ensures.value
+    c.args.new_root.now) c.args.at c.in-Ok.ensures.exact
+    (past_place (c.as_slice.ensures.value
     ∙ c.unbundle_all-proofs.ensures.absences) c.in-None.ensures.lookup.3) is.shown

@@ -20,11 +20,11 @@ returns-in-Some g c =
     let get = c.in-Some.ensures.lookup in
     let shown : verdict H (update key old_value new_value c.args.old_root.now c.args.new_root.now)
     (by_bundle c.args.bytes.now c.args.at) ≡ Ok true =
-    seen_true _ _ (c.in_ok-is_true.ensures _ c.check_update-verdict.ensures.verdict) c.if-not-branch.false in
-    if_ok _ _ c.witness_change.result
+    seen_true (c.in_ok-is_true.ensures _ c.check_update-verdict.ensures.verdict) c.if-not-branch.false in
+    if_ok c.witness_change.result
     (λ finding. update_convicts H c.args.bytes.now c.args.at key old_value new_value c.args.old_root.now
     c.args.new_root.now old new c.in-Ok.bundle c.in-Some.proof.now finding c.in-Ok.ensures.exact
-    (at_place _ _ _ _ (c.as_slice.ensures.value ∙ c.unbundle-proofs.ensures) get.3.0 get.1) shown)
+    (at_place (c.as_slice.ensures.value ∙ c.unbundle-proofs.ensures) get.3.0 get.1) shown)
     c.witness_change.ensures.found
 
 pub returns : goal.returns
@@ -33,6 +33,5 @@ returns g c = λ is.
     let key = g.K.VisitBytes.bytes c.args.key.now in
     none_there (λ (b : MapBundle). b.proofs)
     (λ _. leads_both H key (leaf_digest H (g.V.VisitBytes.bytes c.args.old_value.now))
-    (leaf_digest H (g.V.VisitBytes.bytes c.args.new_value.now)) c.args.old_root.now c.args.new_root.now)
-    c.args.at _ c.in-Ok.bundle c.in-Ok.ensures.exact
-    (past_place _ _ _ (c.as_slice.ensures.value ∙ c.unbundle-proofs.ensures) c.in-None.ensures.lookup.3) is.shown
+    (leaf_digest H (g.V.VisitBytes.bytes c.args.new_value.now)) c.args.old_root.now c.args.new_root.now) c.args.at c.in-Ok.ensures.exact
+    (past_place (c.as_slice.ensures.value ∙ c.unbundle-proofs.ensures) c.in-None.ensures.lookup.3) is.shown

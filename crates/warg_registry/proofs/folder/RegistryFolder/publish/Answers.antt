@@ -1,17 +1,16 @@
-use Rattle.std.proofs.Common.{◌≡◌, ◌+◌, ◌<◌, ◌^◌, ◌++◌, List, ℕ, zero, suc, true, false, true≢false, length, map, refl, sym, ap, subst, ◌∙◌, arith, Bor}
-use Rattle.std.specs.declared.alloc.Global.{Global}
-use Rattle.std.specs.declared.vec.Vec.{Vec}
+use Rattle.std.proofs.Common.{◌≡◌, ◌<◌, ◌++◌, List, ℕ, zero, suc, true, false, true≢false, length, refl, sym, ap, subst, ◌∙◌, arith, Bor}
 use Rattle.std.proofs.lemmas.List.{length-map}
 use Rattle.std.proofs.Math.Dec.{eqb-suc-zero}
 use Rattle.std.specs.Prelude.{◌==◌}
 use Rattle.warg_map.specs.Sparse.{pair_bytes}
 use Rattle.warg_store.specs.Log.{AreShort, CanBeKept}
 use Rattle.warg_registry.specs.Insertions.{entries_of}
-use Rattle.warg_registry.specs.Publishing.{IsRefusedFor}
+use Rattle.warg_registry.proofs.Listed.{items_of}
 use Rattle.warg_registry.proofs.Refused.{told_as, refused_for}
-use Rattle.warg_registry.specs.Folder.{registry_of, RegistryIn}
+use Rattle.warg_registry.specs.Folder.{registry_of, RegistryIn, HasRegistry}
 use Rattle.warg_registry.proofs.FolderMoments.{read_only, nothing_done, read_then_commit}
-use Rattle.warg_registry.proofs.Publishing.{own_pages, none_published, grown_by, published}
+use Rattle.warg_registry.proofs.Publishing.{own_pages, none_published, IsGrowing, grown_by, published}
+use Rattle.warg_registry.proofs.folder.RegistryFolder.publish.Goals.{After-grow}
 use Rattle.warg_registry.proofs.folder.RegistryFolder.publish.Goals as goal
 
 -- what a test for zero says
@@ -36,11 +35,22 @@ passed_length insertions = length-map {B = List ℕ × List ℕ} insertions (λ 
 some_passed : (insertions : List Pair) → false ≡ length insertions == 0 → 0 < length (passed insertions)
 some_passed insertions e = omega (arith, passed_length insertions, is_some (length insertions) e)
 
--- the entries of insertions that are made
-passed_entries : {made slice : List (Vec ℕ Global)} (insertions : List Pair) → slice ≡ made
-    → map (λ (e : Vec ℕ Global). e.items) made ≡ entries_of (passed insertions)
-    → map (λ (e : Vec ℕ Global). e.items) slice ≡ entries_of (passed insertions)
-passed_entries insertions same made = ap (map (λ (e : Vec ℕ Global). e.items)) same ∙ made
+-- the entries and pages by which the log grows
+growing : (g : _) (c : After-grow g) → g.F.Folder.IsFaithful → {origin : List ℕ} {served kept : List (List ℕ × List ℕ)}
+    → (has : HasRegistry g.F.Folder.seen g.F.Folder.may_leave origin served kept c.args.self.now)
+    → IsGrowing g.F.Folder has (passed c.args.insertions.now) c.self-2.inside.pages.log c.self-2.inside.map.root
+    (items_of c.as_slice.result.now) c.as_slice-2.result.now
+growing g c faithful {kept = kept} has =
+    let insertions = c.args.insertions.now in
+    grown_by g.F.Folder has c.self-2.view_is (c.insert.ensures.read faithful)
+    (c.in_ok-changed.ensures.pages faithful kept (own_pages g.F.Folder has)) c.as_slice-2.ensures.value
+    (ap items_of c.as_slice.ensures.value ∙ c.in_ok-entries.ensures.made) (some_passed insertions c.if-is_empty.ensures)
+    (omega (
+      arith,
+      passed_length insertions,
+      c.if-insertions-room.false,
+      ap (λ (r : RegistryIn g.row.F.Denot). r.count) c.self.view_is,
+    ))
 
 pub returns-then-is_empty-clause-published : goal.returns-then-is_empty-clause-published
 returns-then-is_empty-clause-published g c = λ faithful origin served kept has.
@@ -67,65 +77,24 @@ returns-in_err-changed-clause-any_moment g c = λ faithful origin served kept ha
 
 pub returns-in_err-grow-clause-any_moment : goal.returns-in_err-grow-clause-any_moment
 returns-in_err-grow-clause-any_moment g c = λ faithful origin served kept has.
-    let dev = g.F.Folder in
-    let insertions = c.args.insertions.now in
-    let fits : c.args.self.now.count + length (passed insertions) < 2 ^ 64 = omega (
-      arith,
-      passed_length insertions,
-      c.if-insertions-room.false,
-      ap (λ (r : RegistryIn g.row.F.Denot). r.count) c.self.view_is,
-    ) in
-    let grown = grown_by dev has c.self-2.view_is (c.insert.ensures.read faithful)
-    (c.in_ok-changed.ensures.pages faithful kept (own_pages dev has)) c.as_slice-2.ensures.value
-    (passed_entries insertions c.as_slice.ensures.value c.in_ok-entries.ensures.made)
-    (some_passed insertions c.if-is_empty.ensures) fits in
-    let S = registry_of origin served in
-    let K = registry_of origin kept in
-    let N = registry_of origin (kept ++ passed insertions) in
-    read_then_commit dev (g.met.F.Folder.only_now c.args.self.now.log.folder) has.log.keeps has.log.staging
-    grown.read.read (c.grow.ensures.any_moment faithful S K N grown.at grown.next grown.fresh)
+    let is = growing g (goal.at.returns-in_err-grow-clause-any_moment g c).After-grow faithful has in
+    read_then_commit g.F.Folder (g.met.F.Folder.only_now c.args.self.now.log.folder) has.log.keeps has.log.staging
+    is.read.read (c.grow.ensures.any_moment faithful _ _ _ is.at is.next is.fresh)
 
 pub returns-clause-published : goal.returns-clause-published
 returns-clause-published g c = λ faithful origin served kept has.
-    let dev = g.F.Folder in
     let insertions = c.args.insertions.now in
-    let fits : c.args.self.now.count + length (passed insertions) < 2 ^ 64 = omega (
-      arith,
-      passed_length insertions,
-      c.if-insertions-room.false,
-      ap (λ (r : RegistryIn g.row.F.Denot). r.count) c.self.view_is,
-    ) in
-    let grown = grown_by dev has c.self-2.view_is (c.insert.ensures.read faithful)
-    (c.in_ok-changed.ensures.pages faithful kept (own_pages dev has)) c.as_slice-2.ensures.value
-    (passed_entries insertions c.as_slice.ensures.value c.in_ok-entries.ensures.made)
-    (some_passed insertions c.if-is_empty.ensures) fits in
-    let S = registry_of origin served in
-    let K = registry_of origin kept in
-    let N = registry_of origin (kept ++ passed insertions) in
+    let is = growing g (goal.at.returns-clause-published g c).After-grow faithful has in
     let counts = ap (λ (r : RegistryIn g.row.F.Denot). r.count) c.self-2.view_is ∙ c.in_ok-changed.ensures.count in
-    published dev has (passed insertions) grown.is_root
-    (c.in_ok-grow.ensures.grown faithful S K N grown.at grown.next grown.fresh)
+    published g.F.Folder has (passed insertions) is.is_root
+    (c.in_ok-grow.ensures.grown faithful _ _ _ is.at is.next is.fresh)
     (omega (arith, counts, passed_length insertions))
 
 pub returns-clause-any_moment : goal.returns-clause-any_moment
 returns-clause-any_moment g c = λ faithful origin served kept has.
-    let dev = g.F.Folder in
-    let insertions = c.args.insertions.now in
-    let fits : c.args.self.now.count + length (passed insertions) < 2 ^ 64 = omega (
-      arith,
-      passed_length insertions,
-      c.if-insertions-room.false,
-      ap (λ (r : RegistryIn g.row.F.Denot). r.count) c.self.view_is,
-    ) in
-    let grown = grown_by dev has c.self-2.view_is (c.insert.ensures.read faithful)
-    (c.in_ok-changed.ensures.pages faithful kept (own_pages dev has)) c.as_slice-2.ensures.value
-    (passed_entries insertions c.as_slice.ensures.value c.in_ok-entries.ensures.made)
-    (some_passed insertions c.if-is_empty.ensures) fits in
-    let S = registry_of origin served in
-    let K = registry_of origin kept in
-    let N = registry_of origin (kept ++ passed insertions) in
-    read_then_commit dev (g.met.F.Folder.only_now c.args.self.now.log.folder) has.log.keeps has.log.staging
-    grown.read.read (c.grow.ensures.any_moment faithful S K N grown.at grown.next grown.fresh)
+    let is = growing g (goal.at.returns-clause-any_moment g c).After-grow faithful has in
+    read_then_commit g.F.Folder (g.met.F.Folder.only_now c.args.self.now.log.folder) has.log.keeps has.log.staging
+    is.read.read (c.grow.ensures.any_moment faithful _ _ _ is.at is.next is.fresh)
 
 pub returns-in_err-changed-clause-refusal : goal.returns-in_err-changed-clause-refusal
 returns-in_err-changed-clause-refusal g c = λ faithful origin served kept has.
@@ -139,25 +108,11 @@ returns-in_err-changed-clause-refusal g c = λ faithful origin served kept has.
 
 pub returns-in_err-grow-clause-refusal : goal.returns-in_err-grow-clause-refusal
 returns-in_err-grow-clause-refusal g c = λ faithful origin served kept has.
-    let dev = g.F.Folder in
-    let insertions = c.args.insertions.now in
-    let fits : c.args.self.now.count + length (passed insertions) < 2 ^ 64 = omega (
-      arith,
-      passed_length insertions,
-      c.if-insertions-room.false,
-      ap (λ (r : RegistryIn g.row.F.Denot). r.count) c.self.view_is,
-    ) in
-    let grown = grown_by dev has c.self-2.view_is (c.insert.ensures.read faithful)
-    (c.in_ok-changed.ensures.pages faithful kept (own_pages dev has)) c.as_slice-2.ensures.value
-    (passed_entries insertions c.as_slice.ensures.value c.in_ok-entries.ensures.made)
-    (some_passed insertions c.if-is_empty.ensures) fits in
-    let S = registry_of origin served in
-    let K = registry_of origin kept in
-    let N = registry_of origin (kept ++ passed insertions) in
+    let is = growing g (goal.at.returns-in_err-grow-clause-refusal g c).After-grow faithful has in
+    let N = registry_of origin (kept ++ passed c.args.insertions.now) in
     let long : List (List ℕ) → Type 0 = λ entries. AreShort entries → ⊥ in
     let full : Type 0 = CanBeKept N → ⊥ in
     let e = c.in_err-grow.field-0.0 in
-    let made = passed_entries insertions c.as_slice.ensures.value c.in_ok-entries.ensures.made in
-    told_as (IsRefusedFor (long (entries_of (passed insertions))) full) e c.from_residual-in_err-grow.result
-    c.from_residual-in_err-grow.ensures.1 (refused_for _ full _ full e (subst long made) (λ n. n)
-    (c.in_err-grow.ensures.refused faithful S K N grown.at grown.next grown.fresh))
+    told_as _ _ _ c.from_residual-in_err-grow.ensures.1 (refused_for _ full _ full e
+    (subst long (ap items_of c.as_slice.ensures.value ∙ c.in_ok-entries.ensures.made)) (λ n. n)
+    (c.in_err-grow.ensures.refused faithful _ _ _ is.at is.next is.fresh))

@@ -30,9 +30,8 @@ returns-clause-added g c =
       λ faithful known es read own.
           let files = g.F.Folder.seen known.folder in
           let all = led.2 (at_kept g.F.Folder known c.args.pages.now.log) (was.known faithful known read) in (
-            λ names have. all_named _ files (true ≡ true) c.args.root.now c.args.version es led.0 names
-                c.ranges.version.fits
-                own all (λ p there. have p (Contains-append_right before led.0 p there)),
+            λ names have. all_named _ files (true ≡ true) c.args.root.now c.args.version es led.0
+                c.ranges.version.fits own all names (λ p there. have p (Contains-append_right before led.0 p there)),
             own_named _ files (true ≡ true) c.args.root.now c.args.version es led.0 c.ranges.version.fits own all,
           ),
     ))

@@ -1,13 +1,13 @@
 use Rattle.std.proofs.Common.{ℕ, List, sym, ap, subst, ◌∙◌}
 use Rattle.warg_crypto.specs.Digests.{sha256}
 use Rattle.warg_folder.specs.Files.{Files}
-use Rattle.warg_folder.proofs.ForCallers.{read_then}
 use Rattle.warg_pages.specs.Audits.{AreInPages}
 use Rattle.warg_store.specs.Reading.{checkpoint_said}
 use Rattle.warg_tiles.specs.CheckpointText.{Said}
 use Rattle.warg_registry.specs.Auditing.{AreAllInFiles}
 use Rattle.warg_registry.specs.Folder.{registry_of}
 use Rattle.warg_registry.proofs.Entries.{one_list}
+use Rattle.warg_registry.proofs.FolderMoments.{reads_then}
 use Rattle.warg_registry.proofs.Refused.{told_as}
 use Rattle.warg_registry.proofs.RegistryAudits.{registry_read, visited_read, counted_last, short_insertions}
 use Rattle.warg_registry.proofs.Replaying.{same_checkpoints, other_checkpoints, of_entries, of_insertions, own_checkpoint}
@@ -15,11 +15,7 @@ use Rattle.warg_registry.proofs.reader.RegistryReader.audited_map.Goals as goal
 
 pub returns-clause-entries : goal.returns-clause-entries
 returns-clause-entries g c =
-    let dev = g.F.Folder in
-    let read = c.count_keys.new.self in
-    let replayed = c.in_ok-replay.ensures.replayed in
-    of_entries dev.IsFaithful (dev.seen read.log.folder) read.log.text.length c.in_ok-replay.replay.log
-    c.in_ok-replay.replay.last c.checkpoint.result c.checkpoint-checkpoint.result replayed.0 replayed.1
+    of_entries c.checkpoint.result c.checkpoint-checkpoint.result c.in_ok-replay.ensures.replayed.1
     c.checkpoint.ensures.root c.checkpoint.ensures.length (same_checkpoints _ _ c.if-ne.ensures)
 
 pub returns-clause-insertions : goal.returns-clause-insertions
@@ -32,13 +28,11 @@ returns-clause-insertions g c = λ faithful.
     let files = (was.read faithful).found in
     let length = ap (λ (t : Said). t.length) was.same.1 in
     let replayed = c.in_ok-replay.ensures.replayed in
-    let P : Files → Type 0 = λ f. AreAllInFiles f first.root first.log.text.length keys.0 in
-    let Q : ℕ → Type 0 = λ n. AreAllInFiles (dev.seen read.log.folder) first.root n keys.0 in (
+    let all = subst (λ (was : Files × ℕ). AreAllInFiles was.0 first.root was.1 keys.0)
+    (λ i. (sym files i, sym length i)) keys.1 in (
       replayed.0,
-      of_insertions dev.IsFaithful (dev.seen read.log.folder) read.log.text.length c.in_ok-replay.replay.log
-          c.in_ok-replay.replay.last c.checkpoint.result c.checkpoint-checkpoint.result replayed.0 replayed.1
-          c.checkpoint.ensures.root c.checkpoint.ensures.length (same_checkpoints _ _ c.if-ne.ensures) first.root
-          c.in_ok-keys.keys keys.0 faithful (subst Q (sym length) (subst P (sym files) keys.1)) keys.2
+      of_insertions c.checkpoint.result c.checkpoint-checkpoint.result replayed.1 c.checkpoint.ensures.root
+          c.checkpoint.ensures.length (same_checkpoints _ _ c.if-ne.ensures) keys.0 faithful all keys.2
           c.if-replay-keys.false,
     )
 
@@ -56,11 +50,8 @@ returns-clause-reads g c = λ faithful origin insertions has.
 
 pub returns-clause-read : goal.returns-clause-read
 returns-clause-read g c = λ faithful.
-    let dev = g.F.Folder in
-    read_then dev.seen dev.may_leave dev.moment dev.left_since c.args.self.now.log.folder
-    c.count_keys.new.self.log.folder
-    c.replay.new.self.log.folder (g.met.F.Folder.counts_now c.args.self.now.log.folder)
-    (c.in_ok-keys.ensures.read faithful) (c.in_ok-replay.ensures.read faithful)
+    reads_then g.F.Folder g.met.F.Folder.counts_now (c.in_ok-keys.ensures.read faithful)
+    (c.in_ok-replay.ensures.read faithful)
 
 pub returns-in_err-replay-clause-whole : goal.returns-in_err-replay-clause-whole
 returns-in_err-replay-clause-whole g c = λ faithful origin insertions has.
@@ -78,8 +69,7 @@ returns-then-ne-clause-whole g c = λ faithful origin insertions has.
     let was = c.in_ok-keys.ensures in
     let done = c.in_ok-replay.ensures in
     let has_mid = registry_read dev was.same (was.read faithful) origin insertions has in
-    let same = own_checkpoint dev.IsFaithful (dev.seen mid.log.folder) mid.log.text.length c.in_ok-replay.replay.log
-    c.in_ok-replay.replay.last c.checkpoint.result c.checkpoint-checkpoint.result done.replayed.0 done.replayed.1
+    let same = own_checkpoint c.checkpoint.result c.checkpoint-checkpoint.result done.replayed.1
     c.checkpoint.ensures.root c.checkpoint.ensures.length origin insertions
     (done.replayed.2 faithful (registry_of origin insertions) has_mid.reads)
     (c.checkpoint-checkpoint.ensures ∙ ap checkpoint_said (done.same.1 ∙ has_mid.reads.text)) in

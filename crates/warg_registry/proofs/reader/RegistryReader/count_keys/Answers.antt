@@ -10,10 +10,9 @@ returns-clause-keys g c = λ faithful.
     let was = served_read g.F.Folder c.self.view_is c.forget.ensures c.visit_pages-led.ensures.known in
     let seen = rw c.in_ok-or_refusal.ensures.led at c.visit_pages-led.ensures.seen in
     let led = seen [] refl in
-    let P : ℕ → Type 0 = λ n. AreAllInFiles (g.F.Folder.seen log.folder) c.args.self.now.root n led.0 in
-    let Q : List ℕ → Type 0 = λ r. AreAllInFiles (g.F.Folder.seen log.folder) r c.version-version.result led.0 in
-    let all = led.2 (at_served g.F.Folder log) (was.known faithful) in
-    (led.0, subst P c.version-version.ensures (subst Q was.same.0 all), led.1)
+    let all = subst (λ (is : List ℕ × ℕ). AreAllInFiles (g.F.Folder.seen log.folder) is.0 is.1 led.0)
+    (λ i. (was.same.0 i, c.version-version.ensures i)) (led.2 (at_served g.F.Folder log) (was.known faithful)) in
+    (led.0, all, led.1)
 
 pub returns-in_err-or_refusal-clause-whole : goal.returns-in_err-or_refusal-clause-whole
 returns-in_err-or_refusal-clause-whole g c = λ faithful origin insertions has.

@@ -1,11 +1,11 @@
 use Rattle.std.proofs.Common.{◌≡◌, ◌+◌, ◌*◌, ◌<◌, ◌++◌, [], length, take, refl, sym, ap, ◌∙◌, arith}
 use Rattle.std.proofs.Math.Seq.{take-add}
 use Rattle.std.proofs.lemmas.List.{map-append, length-map, take_all}
-use Rattle.warg_folder.proofs.ForCallers.{read_is, read_then}
 use Rattle.warg_log.specs.Claims.{RootAndLength}
 use Rattle.warg_tiles.specs.CheckpointText.{Said}
 use Rattle.warg_registry.specs.Folder.{registry_of}
 use Rattle.warg_registry.specs.Insertions.{entry_of, entries_of}
+use Rattle.warg_registry.proofs.FolderMoments.{reads_none, reads_then}
 use Rattle.warg_registry.proofs.Refused.{told_as}
 use Rattle.warg_registry.proofs.RegistryAudits.{log_read, visited_read}
 use Rattle.warg_registry.proofs.Replaying.{none_replayed, replayed_at, replayed_length}
@@ -13,18 +13,12 @@ use Rattle.warg_registry.proofs.reader.RegistryReader.replay.Goals as goal
 
 pub bundles-init : goal.bundles-init
 bundles-init g c =
-    let dev = g.F.Folder in
-    let first = c.args.self.now in record {
+    record {
       few = omega arith;
       same = (refl, refl);
-      read = λ faithful. read_is dev.seen dev.may_leave dev.moment dev.left_since first.log.folder;
+      read = λ faithful. reads_none g.F.Folder c.args.self.now.log.folder;
       faults = omega arith;
-      replayed = (
-        [],
-        none_replayed dev.IsFaithful (dev.seen first.log.folder) first.log.text.length c.default.result
-            c.default.ensures.stands,
-        λ faithful log reads. refl,
-      );
+      replayed = ([], none_replayed c.default.ensures.stands, λ faithful log reads. refl);
     }
 
 pub bundles-preserved : goal.bundles-preserved
@@ -38,20 +32,15 @@ bundles-preserved g c =
     (was.read faithful).found in
     let length = ap (λ (t : Said). t.length) was.same.1 in
     let all = was.replayed.0 in
-    let more = done.replayed all (replayed_at dev.IsFaithful (dev.seen first.log.folder) (dev.seen mid.log.folder)
-    first.log.text.length mid.log.text.length c.bundles.replay.log c.bundles.replay.last all
-    (λ faithful. sym (files faithful)) (sym length) was.replayed.1) in record {
+    let more = done.replayed all (replayed_at (λ faithful. sym (files faithful)) (sym length) was.replayed.1) in
+    record {
       few = done.few;
       same = (done.same.0 ∙ was.same.0, done.same.1 ∙ was.same.1);
-      read = λ faithful. read_then dev.seen dev.may_leave dev.moment dev.left_since first.log.folder mid.log.folder
-          c.replay_bundle.new.self.log.folder (g.met.F.Folder.counts_now first.log.folder) (was.read faithful)
-          (done.read faithful);
+      read = λ faithful. reads_then dev g.met.F.Folder.counts_now (was.read faithful) (done.read faithful);
       faults = omega (arith, was.faults, done.cause.later);
       replayed = (
         all ++ more.0,
-        replayed_at dev.IsFaithful (dev.seen mid.log.folder) (dev.seen first.log.folder) mid.log.text.length
-            first.log.text.length c.replay_bundle.new.replay.log c.replay_bundle.new.replay.last (all ++ more.0) files
-            length more.1,
+        replayed_at files length more.1,
         λ faithful log reads.
             let next : 256 * (c.bundles.bundle + 1) ≡ 256 * c.bundles.bundle + 256 = omega arith in
             let both = more.2 faithful log (log_read dev.seen log first.log mid.log was.same.1 (files faithful)
@@ -74,8 +63,7 @@ returns-in_err-replay_bundle-clause-whole g c = λ faithful insertions all has.
     let inside : 256 * c.bundles.bundle < length insertions =
     omega (arith, size, long, c.div_ceil-bundle-end.ensures, c.bundles-test.true) in
     let all_entries : length (entries_of insertions) ≡ length insertions = length-map insertions entry_of in
-    let starts = replayed_length dev.IsFaithful (dev.seen first.log.folder) first.log.text.length c.bundles.replay.log
-    c.bundles.replay.last was.replayed.0 (entries_of insertions) (256 * c.bundles.bundle) was.replayed.1
+    let starts = replayed_length (entries_of insertions) (256 * c.bundles.bundle) was.replayed.1
     (was.replayed.2 faithful log has.reads.reads) (omega (arith, all_entries, inside)) in
     let visited = visited_read dev was.same (was.read faithful) insertions all has in
     told_as _ _ _ c.from_residual.ensures.1

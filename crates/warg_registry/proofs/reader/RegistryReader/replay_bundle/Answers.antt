@@ -1,14 +1,15 @@
-use Rattle.std.proofs.Common.{◌≡◌, ◌≤◌, ◌+◌, ◌*◌, ◌++◌, [], ◌∷◌, ℕ, List, Vec, Global, map, length, refl, sym, ap, subst, ◌∙◌, arith, append_assoc}
+use Rattle.std.proofs.Common.{◌≡◌, ◌≤◌, ◌+◌, ◌*◌, ◌++◌, [], ◌∷◌, ℕ, List, Vec, Global, length, refl, sym, ap, subst, ◌∙◌, arith, append_assoc}
 use Rattle.std.proofs.lemmas.List.{map-append, append-nil, length-map, take_all}
 use Rattle.std.specs.Prelude.{slice_get}
 use Rattle.warg_folder.specs.Moments.{IsRead}
-use Rattle.warg_folder.proofs.ForCallers.{read_then}
 use Rattle.warg_store.specs.Reading.{ServedIn, Reads, bundle_in}
 use Rattle.warg_tiles.specs.CheckpointText.{Said}
 use Rattle.warg_registry.specs.Auditing.{AreReplayed}
 use Rattle.warg_registry.specs.Folder.{registry_of}
 use Rattle.warg_registry.specs.Insertions.{entry_of}
 use Rattle.warg_registry.specs.Reading.{RegistryRead}
+use Rattle.warg_registry.proofs.FolderMoments.{reads_then}
+use Rattle.warg_registry.proofs.Listed.{items_of}
 use Rattle.warg_registry.proofs.Refused.{told_as}
 use Rattle.warg_registry.proofs.RegistryAudits.{visited_read, entry_in_bundle, next_made, made_at}
 use Rattle.warg_registry.proofs.Replaying.{replayed_at}
@@ -52,22 +53,17 @@ entries-preserved g c =
       few = done.few;
       count = (let one = done.count in omega (arith, was.count));
       same = (done.same.0 ∙ was.same.0, done.same.1 ∙ was.same.1);
-      read = λ faithful. read_then dev.seen dev.may_leave dev.moment dev.left_since first.log.folder mid.log.folder
-          c.replay_entry.new.self.log.folder (g.met.F.Folder.counts_now first.log.folder) (was.read faithful)
-          (done.read faithful);
+      read = λ faithful. reads_then dev g.met.F.Folder.counts_now (was.read faithful) (done.read faithful);
       faults = omega (arith, was.faults, done.cause.later);
       replayed = λ before old.
           (let prior = was.replayed before old in
-          let one = done.replayed (before ++ prior.0) (replayed_at dev.IsFaithful (dev.seen first.log.folder)
-          (dev.seen mid.log.folder) first.log.text.length mid.log.text.length c.entries.replay.log c.entries.replay.last
-          (before ++ prior.0) (λ faithful. sym (files faithful)) (sym length) prior.1) in
+          let one = done.replayed (before ++ prior.0)
+          (replayed_at (λ faithful. sym (files faithful)) (sym length) prior.1) in
           let after = c.replay_entry.new.replay in
           let P : List (List ℕ × List ℕ) → Type 0 = λ es. AreReplayed dev.IsFaithful (dev.seen first.log.folder)
           first.log.text.length after.log after.last es in (
             prior.0 ++ one.0 ∷ [],
-            subst P (append_assoc before prior.0 (one.0 ∷ [])) (replayed_at dev.IsFaithful (dev.seen mid.log.folder)
-                (dev.seen first.log.folder) mid.log.text.length first.log.text.length after.log after.last
-                ((before ++ prior.0) ++ one.0 ∷ []) files length one.2),
+            subst P (append_assoc before prior.0 (one.0 ∷ [])) (replayed_at files length one.2),
             map-append entry_of prior.0 (one.0 ∷ []) ∙ (λ i. prior.2 i ++ sym one.1 i ∷ [])
                 ∙ sym (next_made (λ (e : Vec ℕ Global). e.items) c.deref-entry-items.result.now c.entries.entry-index
                 c.entry-item.result c.entries-test.true c.entry-item.is),
@@ -77,15 +73,15 @@ entries-preserved g c =
 pub returns-clause-replayed : goal.returns-clause-replayed
 returns-clause-replayed g c = λ before was.
     let more = c.entries.invariant.replayed before was in
-    let made = λ (es : List (Vec ℕ Global)). map (λ (e : Vec ℕ Global). e.items) es in
     let items = c.deref-entry-items.result.now in
-    let all : length (made items) ≡ length items = length-map items (λ (e : Vec ℕ Global). e.items) in (
+    let all : length (items_of items) ≡ length items = length-map items (λ (e : Vec ℕ Global). e.items) in (
       more.0,
       more.1,
       λ faithful log reads.
           (let Read : RegistryRead g.row.F.Denot → Type 0 = λ r. Reads g.F.Folder.seen log r.log in
-          more.2 ∙ take_all c.entries.entry-index (made items) (let past = c.entries-test.false in omega (arith, all))
-          ∙ ap made c.deref-entry-items.ensures.value
+          more.2
+          ∙ take_all c.entries.entry-index (items_of items) (let past = c.entries-test.false in omega (arith, all))
+          ∙ ap items_of c.deref-entry-items.ensures.value
           ∙ c.in_ok-entries.ensures.own faithful log (subst Read (sym c.self.view_is) reads)),
     )
 
@@ -94,13 +90,12 @@ returns-in_err-replay_entry-clause-whole g c = λ faithful insertions all has in
     let dev = g.F.Folder in
     let was = c.entries.invariant in
     let log = registry_of has.origin insertions in
-    let made = λ (es : List (Vec ℕ Global)). map (λ (e : Vec ℕ Global). e.items) es in
     let items = c.deref-entry-items.result.now in
     let first = 256 * c.args.bundle in
     let Read : RegistryRead g.row.F.Denot → Type 0 = λ r. Reads dev.seen log r.log in
-    let own : made items ≡ bundle_in log c.args.bundle = ap made c.deref-entry-items.ensures.value
+    let own : items_of items ≡ bundle_in log c.args.bundle = ap items_of c.deref-entry-items.ensures.value
     ∙ c.in_ok-entries.ensures.own faithful log (subst Read (sym c.self.view_is) has.reads.reads) in
-    let found = entry_in_bundle insertions (made items) first c.entries.entry-index c.entry-item.result.items own
+    let found = entry_in_bundle insertions (items_of items) first c.entries.entry-index c.entry-item.result.items own
     (made_at (λ (e : Vec ℕ Global). e.items) items c.entries.entry-index c.entry-item.result c.entries-test.true
     c.entry-item.is) in
     let place : c.entries.replay.log.len ≡ first + c.entries.entry-index = omega (arith, was.count, starts) in

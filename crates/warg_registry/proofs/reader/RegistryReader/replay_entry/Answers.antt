@@ -30,10 +30,9 @@ returns-clause-replayed g c before was =
       e,
       entry,
       elim c.if-is_last.branch [
-        | then-is_last w ↦ rw w.replay-is (one_replayed dev.IsFaithful files version log new last (last + 1)
-            c.in_ok-is_last.is_last before e stands by (ap (λ b. last + cond b 1 0) (sym w.if-is_last.true)) was)
-        | else-is_last w ↦ rw w.replay-is (one_replayed dev.IsFaithful files version log new last last
-            c.in_ok-is_last.is_last before e stands by
+        | then-is_last w ↦ rw w.replay-is (one_replayed c.in_ok-is_last.is_last stands by
+            (ap (λ b. last + cond b 1 0) (sym w.if-is_last.true)) was)
+        | else-is_last w ↦ rw w.replay-is (one_replayed c.in_ok-is_last.is_last stands by
             (omega (arith, ap (λ b. last + cond b 1 0) (sym w.if-is_last.false))) was)
       ],
     )

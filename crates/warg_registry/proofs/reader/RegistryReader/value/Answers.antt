@@ -46,8 +46,8 @@ returns-clause-whole g c = λ faithful origin insertions has own held.
     let entry = c.as_slice.result.now in
     let read = passed insertions c.args.index c.in_ok-entry.entry c.as_slice.ensures.value
     (c.in_ok-entry.ensures.own faithful origin insertions has) in
-    let is = entry_of_key sha256 insertions key entry c.args.leaf.now c.args.index read.0 read.1
-    held.place held.held own in
+    let is = entry_of_key sha256 insertions key c.args.leaf.now c.args.index held.place held.held entry
+    read.0 read.1 own in
     c.held.ensures.whole is.0 is.1 is.2 is.3
 
 pub returns-in_err-entry-clause-whole : goal.returns-in_err-entry-clause-whole

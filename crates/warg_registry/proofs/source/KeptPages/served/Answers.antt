@@ -25,18 +25,15 @@ returns-in-Ok-clause-served g c = λ faithful known origin insertions read serve
 
 pub returns-in-Ok-clause-read : goal.returns-in-Ok-clause-read
 returns-in-Ok-clause-read g c = λ faithful known read.
-    log_read_then g.F.Folder (g.met.F.Folder.counts_now known.folder) read c.served.ensures.same
-    (c.served.ensures.read faithful)
+    log_read_then g.F.Folder g.met.F.Folder.counts_now read c.served.ensures.same (c.served.ensures.read faithful)
 
 pub returns-in-Err-Log-clause-read : goal.returns-in-Err-Log-clause-read
 returns-in-Err-Log-clause-read g c = λ faithful known read.
-    log_read_then g.F.Folder (g.met.F.Folder.counts_now known.folder) read c.served.ensures.same
-    (c.served.ensures.read faithful)
+    log_read_then g.F.Folder g.met.F.Folder.counts_now read c.served.ensures.same (c.served.ensures.read faithful)
 
 pub returns-clause-read : goal.returns-clause-read
 returns-clause-read g c = λ faithful known read.
-    log_read_then g.F.Folder (g.met.F.Folder.counts_now known.folder) read c.served.ensures.same
-    (c.served.ensures.read faithful)
+    log_read_then g.F.Folder g.met.F.Folder.counts_now read c.served.ensures.same (c.served.ensures.read faithful)
 
 pub returns-in_err-text-clause-whole : goal.returns-in_err-text-clause-whole
 returns-in_err-text-clause-whole g c = λ faithful known origin insertions read serves.
