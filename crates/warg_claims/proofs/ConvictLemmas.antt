@@ -44,7 +44,6 @@ use Rattle.warg_check.specs.UpdateVerdicts.{leads_both}
 use Rattle.warg_check.specs.Claims.Evidence.{by_bundle, by_path}
 use Rattle.warg_claims.specs.Convictions.{Convicts}
 use Rattle.warg_claims.specs.Worlds.{IsLogOf}
-use Rattle.warg_claims.specs.Placed.{digests_in, path_in}
 use Rattle.warg_claims.proofs.SoundLemmas.{is_held, is_recorded, found_peers, judged_true, found_is, both_are, empty_leaf}
 
 -- What is found of one claim is found of another, where they are met and true together.

@@ -36,11 +36,10 @@ pub begins_with : (k : List ℕ) (depth : ℕ) → length k ≡ 32 → depth ≤
     → begins (bits_of_bytes (take depth k)) (last_bits k 256) ≡ true
 begins_with k depth size le =
     let all : 256 ≡ 8 * depth + (256 - 8 * depth) = omega arith in
-    ap (λ p. begins p (last_bits k 256)) (bits_of_taken k depth (omega arith))
-    ∙ ap (λ n. begins (bits_from k 0 (8 * depth)) (bits_from k 0 n)) all
+    rw (bits_of_taken k depth (omega arith)) (ap (λ n. begins (bits_from k 0 (8 * depth)) (bits_from k 0 n)) all
     ∙ ap (begins (bits_from k 0 (8 * depth))) (bits_from-append k 0 (8 * depth) (256 - 8 * depth))
-    ∙ begins-append (bits_from k 0 (8 * depth)) (bits_from k (0 + 8 * depth) (256 - 8 * depth))
+    ∙ begins-append (bits_from k 0 (8 * depth)) (bits_from k (0 + 8 * depth) (256 - 8 * depth)))
 
 -- all its bytes have all its bits
 pub length-first : (k : List ℕ) (depth : ℕ) → depth ≤ length k → length (bits_of_bytes (take depth k)) ≡ 8 * depth
-length-first k depth le = ap length (bits_of_taken k depth le) ∙ length-bits_from k 0 (8 * depth)
+length-first k depth le = rw (bits_of_taken k depth le) (length-bits_from k 0 (8 * depth))

@@ -1,5 +1,5 @@
 -- Lists of which no two elements are alike.
-use Rattle.std.proofs.Common.{◌≡◌, ◌≢◌, ⊎_elim, ℕ, zero, suc, ◌<◌, ◌≤◌, List, [], ◌∷◌, ◌++◌, length, map, get_or, sym, ap, subst, ◌∙◌, arith, inl, inr, ◌⊎◌, length-append}
+use Rattle.std.proofs.Common.{◌≡◌, ◌≢◌, ⊎_elim, ℕ, zero, suc, ◌<◌, ◌≤◌, List, [], ◌∷◌, ◌++◌, length, map, get_or, sym, ap, ◌∙◌, arith, inl, inr, ◌⊎◌, length-append}
 use Rattle.std.proofs.lemmas.List.Elements.{Contains-get_or, Contains-append_cases, Contains-append_left, Contains-append_right}
 use Rattle.std.specs.List.{AllPairs, Contains}
 use Rattle.warg_registry.proofs.Listed.{none_there, first_there, later_there, there_cases, of_mapped}
@@ -7,7 +7,7 @@ use Rattle.warg_registry.proofs.Listed.{none_there, first_there, later_there, th
 -- the first element and a later one, and the later ones
 pub first_pair : {X : Type 0} (R : X → X → Type 0) (x : X) (xs : List X) (y : X) → AllPairs R (x ∷ xs) → Contains xs y
     → R x y
-first_pair R x xs y pairs there = subst (R x) there.2 (pairs 0 (suc there.0) y (omega arith)
+first_pair R x xs y pairs there = rw there.2 at (pairs 0 (suc there.0) y (omega arith)
     (let lt = there.1 in omega arith))
 
 pub later_pairs : {X : Type 0} (R : X → X → Type 0) (x : X) (xs : List X) → AllPairs R (x ∷ xs) → AllPairs R xs
@@ -45,10 +45,10 @@ pub one_alike : {X Y : Type 0} (f : X → Y) (xs : List X) (x y : X) → AllPair
 one_alike f [] x y apart here there same = absurd (none_there x here)
 one_alike f (z ∷ xs) x y apart here there same =
     ⊎_elim (λ x_first. ⊎_elim (λ y_first. sym x_first ∙ y_first)
-    (λ y_later. absurd (first_pair (λ a b. f a ≢ f b) z xs y apart y_later (ap f x_first ∙ same)))
+    (λ y_later. absurd (first_pair (λ a b. f a ≢ f b) z xs y apart y_later (rw x_first same)))
     (there_cases xs y z there))
     (λ x_later. ⊎_elim (λ y_first. absurd (first_pair (λ a b. f a ≢ f b) z xs x apart x_later
-    (ap f y_first ∙ sym same)))
+    (rw y_first (sym same))))
     (λ y_later. one_alike f xs x y (later_pairs (λ a b. f a ≢ f b) z xs apart) x_later y_later same)
     (there_cases xs y z there))
     (there_cases xs x z here)

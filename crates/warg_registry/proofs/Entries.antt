@@ -52,7 +52,7 @@ one_insertion a b fa e =
     let lengths = same_lengths a b fa e in
     let fb : IsInsertion b = (omega (arith, fa.0, lengths.0), omega (arith, fa.1, lengths.1)) in
     let same = framed_pairs a.0 a.1 b.0 b.1 fa.0 fa.1 fb.0 fb.1 e in
-    ap (λ k. (k, a.1)) same.0 ∙ ap (λ v. (b.0, v)) same.1
+    rw same.0 (ap (λ v. (b.0, v)) same.1)
 
 -- And so are lists of insertions of the same entries.
 pub one_list : (xs ys : List (List ℕ × List ℕ)) → All IsInsertion xs → entries_of xs ≡ entries_of ys → xs ≡ ys
@@ -77,7 +77,7 @@ pub part_front : (bytes part more : List ℕ) → IsPart part → bytes ≡ fram
 part_front bytes part more small is =
     let front : take 8 bytes ≡ to_be_bytes w64 (length part) = ap (take 8) is in (
       omega (arith, ap length is),
-      ap (from_be_bytes w64) front ∙ from_be_bytes-to_be_bytes_8 (length part) small,
+      rw front (from_be_bytes-to_be_bytes_8 (length part) small),
       ap (drop 8) is,
     )
 

@@ -1,5 +1,5 @@
 -- What stands at each moment while a registry grows: files are read, staged and committed, one run after the other.
-use Rattle.std.proofs.Common.{◌≡◌, ℕ, ◌≤◌, ap, subst, ◌∙◌}
+use Rattle.std.proofs.Common.{◌≡◌, ℕ, ◌≤◌, ap, ◌∙◌}
 use Rattle.warg_folder.specs.Files.{Files}
 use Rattle.warg_folder.specs.Moments.{IsRead, LeavesOnly}
 use Rattle.warg_folder.specs.Commits.{IsBeside, IsStaging}
@@ -85,7 +85,7 @@ module _ {F : Type 0} (dev : Ghosts F) where
         leaves_then dev.moment dev.left_since first mid last (IsCommitting served old next (dev.seen first))
         (IsCommitting served old next (dev.seen mid)) (IsCommitting served old next (dev.seen first))
         (read_only read) commit (λ c was. was)
-        (λ c was. subst (λ (f : Files). IsCommitting served old next f c) read.found was)
+        (λ c was. rw read.found at was)
 
   module _ (counts : CountsNow) (stays : (folder : F) → dev.may_leave folder (dev.seen folder)) {first mid : F}
       (run : Stages first mid) where

@@ -1,16 +1,14 @@
 -- What a registry has under a key, by the entry that its value was read out of.
-use Rattle.std.proofs.Common.{◌≡◌, ℕ, ◌+◌, ◌<◌, ◌^◌, List, length, Option, Some, sym, ap, subst, ◌∙◌}
+use Rattle.std.proofs.Common.{◌≡◌, ℕ, ◌+◌, ◌<◌, ◌^◌, List, length, Option, Some, ap, subst, ◌∙◌}
 use Rattle.std.specs.Prelude.{slice_get}
 use Rattle.warg_crypto.specs.Digests.{sha256}
 use Rattle.warg_log.specs.Claims.{RootAndLength}
 use Rattle.warg_map.specs.Bits.{key_bits}
-use Rattle.warg_map.specs.Peers.{Proves}
 use Rattle.warg_map.specs.ProofValue.{proof_value}
-use Rattle.warg_map.specs.Sparse.{map_of}
 use Rattle.warg_store.specs.Reading.{IsShown}
 use Rattle.warg_registry.specs.declared.reader.KeyInRegistry.{KeyInRegistry}
 use Rattle.warg_registry.specs.declared.reader.KeyInRegistry.TheVariants.{Held, Absent}
-use Rattle.warg_registry.specs.Insertions.{entry_of, entries_of}
+use Rattle.warg_registry.specs.Insertions.{entries_of}
 use Rattle.warg_registry.specs.Reading.{IsKeyShown, IsLogged, IsOfEntry, IsHeldAt, IsKeyIn}
 use Rattle.warg_registry.proofs.HeldEntries.{own_value}
 
@@ -19,15 +17,14 @@ module _ (key leaf entry : List ℕ) (index : ℕ) (peers : List (Option (List �
   pub shown : (root : List ℕ) (found : KeyInRegistry) → proof_value sha256 peers leaf (key_bits sha256 key) ≡ root
       → IsOfEntry key index leaf entry peers found → IsKeyShown root key found
   shown root (Held at value others) leads is =
-      ap (λ (l : List ℕ). proof_value sha256 others.items l (key_bits sha256 key)) is.3
-      ∙ ap (λ (p : List (Option (List ℕ))). proof_value sha256 p leaf (key_bits sha256 key)) is.1 ∙ leads
+      rw is.3 (ap (λ (p : List (Option (List ℕ))). proof_value sha256 p leaf (key_bits sha256 key)) is.1 ∙ leads)
   shown root (Absent others) leads is = absurd is
 
   -- the inclusion of the entry is that of the value's
   pub logged : (checkpoint : RootAndLength) (found : KeyInRegistry) → IsShown checkpoint index entry
       → IsOfEntry key index leaf entry peers found → IsLogged checkpoint key found
   logged checkpoint (Held at value others) included is =
-      subst (λ (i : ℕ). IsShown checkpoint i (entry_of (key, value.items))) (sym is.0)
+      rw is.0
       (subst (λ (e : List ℕ). IsShown checkpoint index e) is.2 included)
   logged checkpoint (Absent others) included is = absurd is
 
@@ -39,7 +36,6 @@ module _ (key leaf entry : List ℕ) (index : ℕ) (peers : List (Option (List �
   own insertions (Held at value others) small there held is = (
     ap (λ (i : ℕ). i + 1) is.0 ∙ held.place,
     own_value sha256 insertions key leaf index held.place held.held value.items entry small there is.2,
-    subst (λ (p : List (Option (List ℕ))). Proves sha256 256 (map_of sha256 insertions) (key_bits sha256 key) p)
-        (sym is.1) held.proves,
+    rw is.1 held.proves,
   )
   own insertions (Absent others) small there held is = absurd is

@@ -25,15 +25,15 @@ gone : (new : Files) (names : List (String Global)) (n : List ℕ) → ArePagesG
 gone new names n removed page there =
     let found = of_mapped (λ (k : String Global). string_bytes k) names n there in
     let Gone : String Global → Type 0 = λ k. is_page (string_bytes k) ≡ true → new (string_bytes k) ≡ None in
-    let at = subst Gone found.1.2 (removed found.1.0 found.0 found.1.1) in
+    let at = rw found.1.2 at (removed found.1.0 found.0 found.1.1) in
     let Q : List ℕ → Type 0 = λ m. new m ≡ None in
-    subst Q found.2 (at (ap is_page found.2 ∙ page))
+    rw found.2 at (at (rw found.2 page))
 
 -- a page that is there stays while files are pruned
 pub page_stays : (old new : Files) (kept served : ℕ) → IsPruned kept served old new → (n : List ℕ) → is_page n ≡ true
     → IsSome (old n) → IsSome (new n)
 page_stays old new kept served prunes n page there = ⊎_elim
-    (λ same. subst IsSome (sym same) there)
+    (λ same. rw same there)
     (λ away. absurd (⊎_elim (λ (tile : (tile_path away.1.tile ≡ n) × (tile_path (full_of away.1.tile) ≡ away.1.full)).
     other (ap is_page tile.0)) (λ bundle. other (ap is_page bundle.1)) away.1.paths))
     (prunes n (or_second (is_tile n) (is_page n) page))
@@ -58,8 +58,8 @@ left before mid pruned new names kept served P same prunes without removed spare
     (λ away. absurd (none away.0)) (without n)
   where
     none : new n ≡ None → ⊥
-    none e = let is : true ≡ false = sym (subst IsSome e there) in cc
+    none e = let is : true ≡ false = sym (rw e at there) in cc
 
     was_there : new n ≡ before n → P n
     was_there e = ⊎_elim (λ named. absurd (none (gone new names n removed page named))) (λ needed. needed)
-        (spare n page (subst IsSome e there))
+        (spare n page (rw e at there))

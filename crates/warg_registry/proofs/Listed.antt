@@ -1,5 +1,5 @@
 -- Elements of lists that are made of others.
-use Rattle.std.proofs.Common.{◌≡◌, ◌⊎◌, ℕ, zero, suc, Bool, true, List, [], ◌∷◌, map, refl, sym, ap, ◌∙◌, subst, inl, inr, arith}
+use Rattle.std.proofs.Common.{◌≡◌, ◌⊎◌, ℕ, zero, suc, Bool, true, List, [], ◌∷◌, map, refl, sym, ap, ◌∙◌, inl, inr, arith}
 use Rattle.std.specs.List.{Contains, filter, flat_map}
 use Rattle.std.specs.declared.alloc.Global.{Global}
 use Rattle.std.specs.declared.vec.Vec.{Vec}
@@ -78,7 +78,7 @@ pub joined_there : {X Y : Type 0} (f : X → List Y) (xs : List X) (x : X) (y : 
     → Contains (flat_map f xs) y
 joined_there f [] x y h here = absurd (none_there x h)
 joined_there f (z ∷ xs) x y h here = elim (there_cases xs x z h) [
-  | inl e ↦ Contains-append_left (f z) (flat_map f xs) y (subst (λ w. Contains (f w) y) (sym e) here)
+  | inl e ↦ Contains-append_left (f z) (flat_map f xs) y (rw e here)
   | inr more ↦ Contains-append_right (f z) (flat_map f xs) y (joined_there f xs x y more here)
 ]
 

@@ -36,7 +36,7 @@ root_is line digits root behind digest is =
     let counts = length-encode_symbols standard.encode_table root in
     let pads = length-replicate {A = ℕ} (padding_len (length root)) 61 in (
       omega (arith, ap length same, length-append symbols padding, counts, digest.has_32, pads),
-      ap (decode_of standard) same ∙ decode_of-encode_of standard root refl (digest_bytes root digest),
+      rw same (decode_of-encode_of standard root refl (digest_bytes root digest)),
     )
 
 -- What was decoded is the base64 of what it gave.

@@ -103,8 +103,8 @@ picked_first : (first v : ℕ) (vs : List ℕ) → v ≡ suc (first + zero) → 
     (suc (first + zero))
 picked_first first v vs is =
     let P : List ℕ → Type 0 = λ ws. Contains ws (suc (first + zero)) in
-    subst P (sym (cond-true _ (v ∷ picked (first + 1) vs) (picked (first + 1) vs) (eq-eqb v (first + 1)
-    (omega (arith, is)))))
+    rw (cond-true _ (v ∷ picked (first + 1) vs) (picked (first + 1) vs) (eq-eqb v (first + 1)
+    (omega (arith, is))))
     (first_is (picked (first + 1) vs) is)
 
 picked_later : (first v w : ℕ) (vs : List ℕ) → Contains (picked (first + 1) vs) v → Contains (picked first (w ∷ vs)) v
@@ -123,7 +123,7 @@ picked_within H all first [] (w ∷ vs) are v h = absurd are
 picked_within H all first (e ∷ es) [] are v h = absurd are
 picked_within H all first (e ∷ es) (w ∷ vs) are v h =
     let held = are.0.held in
-    ⊎_elim (λ here. subst (Contains (versions all)) (held.is_version ∙ here.1)
+    ⊎_elim (λ here. rw (held.is_version ∙ here.1) at
     (mapped_there (λ (x : SlotAt). x.version) (lone_slots all) held.slot held.there))
     (λ later. picked_within H all (first + 1) es vs are.1 v later) (picked_cases first v w vs h)
 
@@ -137,10 +137,10 @@ picked_there H all first (d ∷ es) [] are i e at is = absurd are
 picked_there H all first (d ∷ es) (w ∷ vs) are zero e at is =
     let same : d ≡ e = cc in
     let Among : List ℕ × List ℕ → Type 0 = λ f. IsLoneAmong all (H f.0) w are.0.leaf in
-    picked_first first w vs (is w are.0.leaf (subst Among same are.0.held))
+    picked_first first w vs (is w are.0.leaf (rw same at are.0.held))
 picked_there H all first (d ∷ es) (w ∷ vs) are (suc i) e at is =
     let place : suc (first + 1 + i) ≡ suc (first + suc i) = omega arith in
-    subst (Contains (picked first (w ∷ vs))) place (picked_later first (suc (first + 1 + i)) w vs
+    rw place at (picked_later first (suc (first + 1 + i)) w vs
     (picked_there H all (first + 1) es vs are.1 i e at (λ v leaf among. is v leaf among ∙ sym place)))
 
 module _ (H : List ℕ → List ℕ) (gives : GivesHashes H) (bytes_at : List ℕ → ℕ → Option (List ℕ)) (tells_all : Type 0)
@@ -182,7 +182,7 @@ module _ (H : List ℕ → List ℕ) (gives : GivesHashes H) (bytes_at : List �
       (All-take IsByte a.depth (H e.0) is.are_bytes) (let short = a.short in omega (arith, size)) a.is_there in
       let byte : s < 256 = is.are_bytes a.depth 0 (let short = a.short in omega (arith, is.has_32)) in
       let number : Contains (numbers 0 256) s = (let zero_more : 0 + s ≡ s = omega arith in
-      subst (Contains (numbers 0 256)) zero_more (number_there 0 256 s byte)) in
+      rw zero_more at (number_there 0 256 s byte)) in
       let slot = made_there (slot_of H es (bits_of_bytes prefix)) (numbers 0 256) s a.slot number a.is_slot in (
         a.slot.version,
         a.leaf,
@@ -233,7 +233,7 @@ module _ (H : List ℕ → List ℕ) (gives : GivesHashes H) (bytes_at : List �
           let from = of_mapped (λ (x : SlotAt). x.version) (lone_slots all) v h in
           let last = own_lone from.0 from.1 in
           let place : suc (0 + last.index) ≡ v = omega (arith, last.is_version, from.2) in
-          subst (Contains (picked 0 vs)) place (picked_there H all 0 es vs in_pages last.index last.e last.there
+          rw place at (picked_there H all 0 es vs in_pages last.index last.e last.there
           (λ w leaf among.
           let one = lone_apart H (IsAllowed bytes_at tells_all) root count all are from.0 among.slot (H last.e.0)
           (leaf_digest H last.e.1) leaf from.1 among.there last.is_lone among.is_lone in

@@ -1,5 +1,5 @@
 -- The keys that stand alone in the slots of insertions' pages.
-use Rattle.std.proofs.Common.{◌≡◌, ⊎_elim, ℕ, zero, suc, ◌+◌, ◌-◌, ◌<◌, ◌≤◌, Bool, true, false, true≢false, not, ◌||◌, cond, eqb, List, [], ◌∷◌, ◌++◌, length, take, get_or, Option, Some, None, refl, sym, ap, subst, ◌∙◌, arith}
+use Rattle.std.proofs.Common.{◌≡◌, ⊎_elim, ℕ, zero, suc, ◌+◌, ◌-◌, ◌<◌, ◌≤◌, Bool, true, false, true≢false, not, ◌||◌, cond, eqb, List, [], ◌∷◌, ◌++◌, length, take, get_or, Option, Some, None, refl, sym, ap, ◌∙◌, arith}
 use Rattle.std.specs.Prelude.{slice_get}
 use Rattle.std.specs.Bool.{then_some}
 use Rattle.std.specs.List.{Contains, list_all}
@@ -8,11 +8,11 @@ use Rattle.std.proofs.lemmas.Bool.{and_parts}
 use Rattle.std.proofs.Math.Dec.{eqb-suc-zero}
 use Rattle.warg_crypto.specs.Collisions.{GivesHashes}
 use Rattle.warg_crypto.specs.Tree.{leaf_digest}
-use Rattle.warg_map.specs.Bits.{key_bits, last_bits}
+use Rattle.warg_map.specs.Bits.{key_bits}
 use Rattle.warg_map.specs.Last.{last_with, same_bits}
 use Rattle.warg_map.specs.Sparse.{root_of_levels, map_of}
 use Rattle.warg_map.proofs.ForCallers.{all_bits, same_bits-itself, same_bits-true, same_digest}
-use Rattle.warg_pages.specs.Prefixes.{bits_of_bytes, byte_bits, begins, is_below, below, last_place, version}
+use Rattle.warg_pages.specs.Prefixes.{bits_of_bytes, byte_bits, is_below, below, last_place, version}
 use Rattle.warg_pages.specs.Slots.{SlotAt, is_lone, slot_over, slot_of}
 use Rattle.warg_pages.specs.OwnPages.{stands, stands_over}
 use Rattle.warg_registry.proofs.DigestPrefixes.{next_bits, begins_with, length-first}
@@ -47,7 +47,7 @@ unfolding last_place
 place_above p [] i x there passes = absurd (cc)
 place_above p (y ∷ xs) zero x there passes =
     let same : y ≡ x = cc in
-    by_place (last_place p xs) (p y) (ap p same ∙ passes)
+    by_place (last_place p xs) (p y) (rw same passes)
   where
     by_place : (n : ℕ) (b : Bool) → b ≡ true → 0 < cond (eqb n 0) (cond b 1 0) (suc n)
     by_place zero b t = rw t (omega arith)
@@ -64,7 +64,7 @@ each_passes : {X : Type 0} (p : X → Bool) (xs : List X) (x : X) → list_all p
 each_passes p [] x all there = absurd (none_there x there)
 each_passes p (y ∷ xs) x all there =
     let parts = and_parts (p y) (list_all p xs) all in
-    ⊎_elim (λ same. ap p (sym same) ∙ parts.0) (λ later. each_passes p xs x parts.1 later) (there_cases xs x y there)
+    ⊎_elim (λ same. rw (← same) parts.0) (λ later. each_passes p xs x parts.1 later) (there_cases xs x y there)
 
 module _ (H : List ℕ → List ℕ) (gives : GivesHashes H) (es : List (List ℕ × List ℕ)) where
   -- where all insertions below a prefix have one key digest, this is it
@@ -75,7 +75,7 @@ module _ (H : List ℕ → List ℕ) (gives : GivesHashes H) (es : List (List �
       lone there in
       let P : Bool → Type 0 = λ b. (not b || same_bits (key_bits H f.0) (key_bits H e.0)) ≡ true in
       same_digest H f.0 e.0 (gives f.0) (gives e.0)
-      (same_bits-true (key_bits H f.0) (key_bits H e.0) (subst P under passes))
+      (same_bits-true (key_bits H f.0) (key_bits H e.0) (rw under at passes))
 
   -- a whole digest is of one key
   whole_alone : (p : List Bool) (f : List ℕ × List ℕ) → length p ≡ 256 → is_below H p f ≡ true → is_lone H es p f ≡ true
@@ -87,8 +87,7 @@ module _ (H : List ℕ → List ℕ) (gives : GivesHashes H) (es : List (List �
 
       one : (g : List ℕ × List ℕ) (b : Bool) → is_below H p g ≡ b
           → (not (is_below H p g) || same_bits (key_bits H f.0) (key_bits H g.0)) ≡ true
-      one g true u = rw u (ap (same_bits (key_bits H f.0)) (sym (whole g u) ∙ whole f under)
-          ∙ same_bits-itself (key_bits H f.0))
+      one g true u = rw u (rw (sym (whole g u) ∙ whole f under) (same_bits-itself (key_bits H f.0)))
       one g false u = rw u refl
 
       each : (xs : List (List ℕ × List ℕ)) → is_lone H xs p f ≡ true
@@ -207,18 +206,16 @@ module _ (H : List ℕ → List ℕ) (gives : GivesHashes H) (es : List (List �
 
           by_lone : (b : Bool) → is_lone H es q h.1 ≡ b → IsOfLast x
           by_lone false t =
-              let no : x.lone ≡ None = ap (λ (y : SlotAt). y.lone) (sym (slot refl))
-              ∙ ap (λ b. then_some b (H h.1.0, leaf_digest H h.1.1)) t in
+              let no : x.lone ≡ None = rw (← slot refl) (ap (λ b. then_some b (H h.1.0, leaf_digest H h.1.1)) t) in
               absurd (true≢false (sym some ∙ ap is_some no))
           by_lone true t = record {
             index = h.0;
             e = h.1;
-            is_version = ap (λ (y : SlotAt). y.version) (sym (slot refl)) ∙ h.2;
+            is_version = rw (← slot refl) h.2;
             there = h.4;
-            is_lone = ap (λ (y : SlotAt). y.lone) (sym (slot refl))
-                ∙ ap (λ b. then_some b (H h.1.0, leaf_digest H h.1.1)) t;
+            is_lone = rw (← slot refl) (ap (λ b. then_some b (H h.1.0, leaf_digest H h.1.1)) t);
             latest = λ i f at same.
-                let under : is_below H q f ≡ true = ap (λ key. begins q (last_bits key 256)) same ∙ h.5 in
+                let under : is_below H q f ≡ true = rw same h.5 in
                 let lt = place_above (is_below H q) es i f at under in
                 omega (arith, lt, ap (λ (y : SlotAt). y.version) (sym (slot refl)));
           }

@@ -112,9 +112,9 @@ pub among_passed : (names keys : List (List ℕ)) (others items rest : List (Str
     → AreAmong names (bytes_of (others ++ rest)) keys
 among_passed names keys others items rest s e key all = λ n is.
     ⊎_elim (λ there. ⊎_elim (λ old. inl (named_left others rest n old))
-    (λ later. ⊎_elim (λ same. inr (subst (Contains keys) same key)) (λ more. inl (named_right others rest n more))
+    (λ later. ⊎_elim (λ same. inr (rw same at key)) (λ more. inl (named_right others rest n more))
     (there_cases (bytes_of rest) n (string_bytes s) later))
-    (named_cases others (s ∷ rest) n (subst (λ ks. Contains (bytes_of (others ++ ks)) n) e there)))
+    (named_cases others (s ∷ rest) n (rw e at there)))
     (λ k. inr k) (all n is)
 
 -- a name more that isn't among others
@@ -122,8 +122,8 @@ pub pushed_none : (names : List (List ℕ)) (others after : List (String Global)
     → after ≡ others ++ s ∷ [] → AreNone (bytes_of others) names → (Contains names (string_bytes s) → ⊥)
     → AreNone (bytes_of after) names
 pushed_none names others after s e none new = λ n is there.
-    ⊎_elim (λ old. none n old there) (λ last. new (subst (Contains names) (sym (of_one (string_bytes s) n last)) there))
-    (named_cases others (s ∷ []) n (subst (λ ks. Contains (bytes_of ks) n) e is))
+    ⊎_elim (λ old. none n old there) (λ last. new (rw (of_one (string_bytes s) n last) there))
+    (named_cases others (s ∷ []) n (rw e at is))
 
 module _ (IsLone : List ℕ → SlotAt → List ℕ × List ℕ → Type 0) (seen : Files) (tells_all : Type 0) (root : List ℕ)
     (count : ℕ) (es : List (List ℕ × List ℕ)) (pages : List ChangedPageAt) (fits : count < 2 ^ 64)
@@ -152,19 +152,19 @@ pub of_visits : (names : List (List ℕ)) (first second : List ChangedPageAt) (s
     → (n : List ℕ) → Contains names n → IsPageOf served n ⊎ IsPageOf kept n
 of_visits names first second served kept only of_first of_second n is =
     let from = only n is in
-    ⊎_elim (λ one. inr (subst (IsPageOf kept) from.2 (of_first from.0 one)))
-    (λ two. inl (subst (IsPageOf served) from.2 (of_second from.0 two)))
+    ⊎_elim (λ one. inr (rw from.2 at (of_first from.0 one)))
+    (λ two. inl (rw from.2 at (of_second from.0 two)))
     (Contains-append_cases first second from.0 from.1)
 
 pub no_paths : (names : List (List ℕ)) → ArePathsOf names []
 no_paths names = λ p there. absurd (none_there p there)
 
 pub none_named : (ks : List (String Global)) → ks ≡ [] → AreOnlyPathsOf (bytes_of ks) []
-none_named ks e = λ n is. absurd (none_there n (subst (λ xs. Contains (bytes_of xs) n) e is))
+none_named ks e = λ n is. absurd (none_there n (rw e at is))
 
 pub none_of : (names others : List (List ℕ)) (es : List (List ℕ × List ℕ)) → AreNone others names
     → HaveAllPages names es → IsNoneOf others (pages_of es)
-none_of names others es none all = λ n is f there same. none n is (subst (Contains names) same (all f there))
+none_of names others es none all = λ n is f there same. none n is (rw same at (all f there))
 
 -- the pages that are served are those of the insertions that are
 pub served_source : (origin : List ℕ) (served : List (List ℕ × List ℕ)) (files : Files) (root : List ℕ) (count : ℕ)

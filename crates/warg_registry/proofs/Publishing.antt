@@ -44,7 +44,7 @@ module _ {F : Type 0} (dev : Ghosts F) {origin : List ℕ} {served kept : List (
   -- where there is no insertion, all is as it was
   pub none_published : (more : List (List ℕ × List ℕ)) → length more ≡ 0
       → (now : List (List ℕ × List ℕ)) × Stands now (kept ++ more) old
-  none_published more none = (served, subst (λ all. Stands served all old) (sym (nothing more none)) has)
+  none_published more none = (served, rw (nothing more none) has)
     where
       nothing : (es : List (List ℕ × List ℕ)) → length es ≡ 0 → kept ++ es ≡ kept
       nothing [] e = append-nil kept
@@ -98,7 +98,7 @@ module _ {F : Type 0} (dev : Ghosts F) {origin : List ℕ} {served kept : List (
       → HasNext dev.seen dev.may_leave (Log served) (Log (kept ++ more)) l → count ≡ old.count + length more
       → (now : List (List ℕ × List ℕ)) × Stands now (kept ++ more) (with_map l true root count)
   published more {l = l} {root = root} {count = count} is_root next counts = ⊎_elim
-      (λ was. by_now served (subst Serving was next.2)) (λ is. by_now (kept ++ more) (subst Serving is next.2)) next.1
+      (λ was. by_now served (rw was at next.2)) (λ is. by_now (kept ++ more) (rw is at next.2)) next.1
     where
       Serving : LogOf → Type 0
       Serving n = Has dev.seen dev.may_leave n (Log (kept ++ more)) (Log (kept ++ more)) l

@@ -1,5 +1,5 @@
 -- What a result says, and an error.
-use Rattle.std.proofs.Common.{◌≡◌, ℕ, ◌<◌, List, length, map, get_or, Option, Some, Result, Ok, Err, IfOk, IfErr, refl, sym, ap, subst, arith}
+use Rattle.std.proofs.Common.{◌≡◌, ℕ, ◌<◌, List, length, map, get_or, Option, Some, Result, Ok, Err, IfOk, IfErr, refl, ap, arith}
 use Rattle.std.proofs.lemmas.List.{get_or-map, length-map}
 use Rattle.std.proofs.lemmas.List.Elements.{All-from_recursion}
 use Rattle.std.specs.Prelude.{IsErrOf}
@@ -28,7 +28,7 @@ use Rattle.warg_registry.specs.declared.error.ReadFault.TheVariants.{DeviceFaile
 pub told_as : {T E : Type 0} (P : E → Type 0) (error : E) (r : Result T E) → IsErrAnd r (λ e. e ≡ error) → P error
     → IfErr r P
 told_as P error (Ok x) is holds = tt
-told_as P error (Err e) is holds = subst P (sym is) holds
+told_as P error (Err e) is holds = rw is holds
 
 -- and that error, if it is this one
 pub told_by : {T U E : Type 0} {told error : E} (r : Result T E) → IsErrAnd r (λ e. e ≡ error) → IsErrOf r told
@@ -61,7 +61,7 @@ not_of_pages P (Way WrongLoneKey) never h = never h
 -- what pages led to follows from what is returned for it
 pub ok_led : {T D E : Type 0} {P Q : T → Type 0} (r : Result T E) (led : Result T D) → IfOk r (λ v. led ≡ Ok v)
     → IfOk led P → ((v : T) → P v → Q v) → IfOk r Q
-ok_led {P = P} (Ok v) led is holds follows = follows v (subst (λ l. IfOk l P) is holds)
+ok_led {P = P} (Ok v) led is holds follows = follows v (rw is at holds)
 ok_led (Err e) led is holds follows = tt
 
 -- and they are at fault for nothing, where they have none

@@ -17,7 +17,7 @@ use Rattle.warg_tiles.specs.CheckpointText.{Said}
 use Rattle.warg_folder.specs.Files.{Files}
 use Rattle.warg_folder.specs.Moments.{IsRead}
 use Rattle.warg_folder.specs.declared.device.Folder.{Ghosts}
-use Rattle.warg_store.specs.Log.{LogOf, HasFiles, AreShort}
+use Rattle.warg_store.specs.Log.{LogOf, AreShort}
 use Rattle.warg_store.specs.Reading.{ServedIn, Reads}
 use Rattle.warg_registry.specs.Auditing.{AreAllInFiles, HasVisited}
 use Rattle.warg_registry.specs.Folder.{registry_of, page_read}
@@ -33,7 +33,7 @@ pub log_read : {F : Type 0} (seen : F → Files) (log : LogOf) (r t : ServedIn F
 log_read seen log r t same found has = record {
   can = has.can;
   text = same ∙ has.text;
-  files = subst (HasFiles log) (sym found) has.files;
+  files = rw found has.files;
 }
 
 module _ {F : Type 0} (dev : Ghosts F) {r t : RegistryRead F} (same : (t.root ≡ r.root) × (t.log.text ≡ r.log.text))
@@ -107,7 +107,7 @@ entry_in_bundle insertions entries first i entry are at = by_place (slice_get in
   where
     there : option_map entry_of (slice_get insertions (first + i)) ≡ Some entry
     there = sym (slice_get-map entry_of insertions (first + i)) ∙ sym (behind first (entries_of insertions) i)
-        ∙ in_front 256 (drop first (entries_of insertions)) i entry (ap (λ es. slice_get es i) (sym are) ∙ at)
+        ∙ in_front 256 (drop first (entries_of insertions)) i entry (rw (← are) at)
 
     by_place : (o : Option (List ℕ × List ℕ)) → slice_get insertions (first + i) ≡ o
         → (e : List ℕ × List ℕ) × (slice_get insertions (first + i) ≡ Some e) × (entry ≡ entry_of e)

@@ -106,7 +106,7 @@ module _ (served kept more : List (List ℕ × List ℕ)) (changed : List Change
   -- of those put before it none has its path
   not_before : (i : ℕ) → i < length changed → HasPage (take i (files_of changed)) (file_of (page i)).0 → ⊥
   not_before i lt has =
-      let put = subst (λ fs. Contains fs ((file_of (page i)).0, has.0)) (take-map file_of i changed) has.1 in
+      let put = rw (take-map file_of i changed) at has.1 in
       let found = of_mapped file_of (take i changed) ((file_of (page i)).0, has.0) put in
       let size = length-take-le i changed (omega (arith, lt)) in
       let j = found.1.0 in
@@ -114,7 +114,7 @@ module _ (served kept more : List (List ℕ × List ℕ)) (changed : List Change
       let here : get_or changed j found.0 ≡ found.0 = sym (get_or-take i changed j found.0 before) ∙ found.1.2 in
       let there : page j ≡ found.0 = get_or_default changed j nowhere found.0 (omega (arith, before, lt)) ∙ here in
       let path : (file_of (page j)).0 ≡ (file_of (page i)).0 =
-      ap (λ (c : ChangedPageAt). (file_of c).0) there ∙ ap (λ (f : File). f.0) found.2 in
+      rw there (ap (λ (f : File). f.0) found.2) in
       let below : j < length changed = omega (arith, before, lt) in
       are.once j i nowhere before lt (one_path_below (page j).prefix (page i).prefix (page j).version (page i).version
       (each_is j below).0.are_bytes (each_is i lt).0.are_bytes (version_fits j below) (version_fits i lt) path).0
@@ -124,8 +124,7 @@ module _ (served kept more : List (List ℕ × List ℕ)) (changed : List Change
   files_fresh origin next grown pages i d lt =
       let low : i < length changed = omega (arith, lt, length-map changed file_of) in
       let is : get_or (files_of changed) i d ≡ file_of (page i) = get_or-map file_of changed i nowhere d low in
-      subst (λ (f : File). IsFresh (registry_of origin served) (registry_of origin kept)
-      (with_pages next (take i (files_of changed))) f.0) (sym is)
+      rw is
       (record {
         more = omega (
           arith,
@@ -172,10 +171,9 @@ pub pushed_more : {X : Type 0} (f : X → List ℕ) (log : LogOf) (xs : List X) 
     → i < length xs → x ≡ get_or xs i x → entry ≡ f x
     → with_entries log (map f (take (i + 1) xs)) ≡ with_entry (with_entries log (map f (take i xs))) entry
 pushed_more f log xs i x entry lt at is =
-    ap (λ l. with_entries log (map f l)) (take_more xs i x lt)
-    ∙ ap (λ l. with_entries log l) (map-append f (take i xs) (get_or xs i x ∷ []))
+    rw (take_more xs i x lt) (ap (λ l. with_entries log l) (map-append f (take i xs) (get_or xs i x ∷ []))
     ∙ entries_more log (map f (take i xs)) (f (get_or xs i x))
-    ∙ ap (λ e. with_entry (with_entries log (map f (take i xs))) e) (sym (is ∙ ap f at))
+    ∙ ap (λ e. with_entry (with_entries log (map f (take i xs))) e) (sym (is ∙ ap f at)))
 
 -- one page more of those that are put
 pub put_more : (log : LogOf) (changed : List ChangedPageAt) (i : ℕ) (c : ChangedPageAt) → i < length changed
@@ -183,10 +181,10 @@ pub put_more : (log : LogOf) (changed : List ChangedPageAt) (i : ℕ) (c : Chang
     → with_pages log (files_of (take (i + 1) changed))
     ≡ with_page (with_pages log (files_of (take i changed))) (file_of c)
 put_more log changed i c lt at =
-    ap (λ l. with_pages log (files_of l)) (take_more changed i c lt)
-    ∙ ap (λ l. with_pages log l) (map-append file_of (take i changed) (get_or changed i c ∷ []))
+    rw (take_more changed i c lt)
+    (ap (λ l. with_pages log l) (map-append file_of (take i changed) (get_or changed i c ∷ []))
     ∙ pages_more log (files_of (take i changed)) (file_of (get_or changed i c))
-    ∙ ap (λ d. with_page (with_pages log (files_of (take i changed))) (file_of d)) (sym at)
+    ∙ ap (λ d. with_page (with_pages log (files_of (take i changed))) (file_of d)) (sym at))
 
 -- which is put at a fresh path
 pub put_fresh : (served old next : LogOf) (changed : List ChangedPageAt) (i : ℕ) (c : ChangedPageAt)
@@ -198,7 +196,7 @@ put_fresh served old next changed i c lt at fresh =
     let here : get_or (files_of changed) i (file_of c) ≡ file_of c =
     get_or-map file_of changed i c (file_of c) lt ∙ ap file_of (sym at) in
     let before : take i (files_of changed) ≡ files_of (take i changed) = take-map file_of i changed in
-    subst (λ (f : File). IsFresh served old (with_pages next (files_of (take i changed))) f.0) here
+    rw here at
     (subst (λ (fs : List File). IsFresh served old (with_pages next fs)
     (get_or (files_of changed) i (file_of c)).0) before found)
 
@@ -238,5 +236,5 @@ next_has dev {served = served} {old = old} {next = next} {l = l} {es = es} {fs =
       lines = next.lines;
       pages = next.pages;
     } in
-    subst (λ (n : LogOf). Has dev.seen dev.may_leave served old n l) same
+    rw same at
     (has_with dev.seen dev.may_leave served old put l next.lines next.pages grown within rest has)

@@ -2,7 +2,6 @@
 use Rattle.std.proofs.Common.{◌≡◌, ◌⊎◌, ℕ, zero, suc, ◌+◌, ◌<◌, ◌≤◌, ◌^◌, true, List, [], ◌∷◌, ◌++◌, length, map, take, sym, ap, ◌∙◌, subst, inl, inr, arith, Option, Some}
 use Rattle.std.specs.Prelude.{unwrap_or}
 use Rattle.std.specs.List.{All, Contains}
-use Rattle.std.specs.Option.{option_map}
 use Rattle.std.proofs.lemmas.Bool.{cases_lt}
 use Rattle.std.proofs.lemmas.List.{length-take-le, take_all, length-map}
 use Rattle.std.proofs.lemmas.List.Elements.{All-take, All-contains}
@@ -49,7 +48,7 @@ number_there first (suc n) zero lt = first_is (numbers (first + 1) n) (omega ari
 number_there first (suc n) (suc k) lt =
     let more = number_there (first + 1) n k (omega (arith, lt)) in
     let same : first + 1 + k ≡ first + suc k = omega arith in
-    later_there (numbers (first + 1) n) (first + suc k) first (subst (Contains (numbers (first + 1) n)) same more)
+    later_there (numbers (first + 1) n) (first + suc k) first (rw same at more)
 
 -- each page in the list stands
 pub page_of_list : (insertions : List (List ℕ × List ℕ)) (f : File) → Contains (pages_of insertions) f
@@ -67,7 +66,7 @@ page_of_list insertions f h =
     let size = length-take-le depth.0 digest (omega (arith, within.1, is.has_32)) in (
       p.0,
       record {
-        are_bytes = subst (All IsByte) depth.2 (All-take IsByte depth.0 digest is.are_bytes);
+        are_bytes = rw depth.2 at (All-take IsByte depth.0 digest is.are_bytes);
         short = omega (arith, ap length depth.2, size, within.1);
         is_there = passed.0;
       },
@@ -146,7 +145,7 @@ changed_there old more changed f are h =
     } in
     let file : page_file (old ++ more) c.0.prefix ≡ file_of c.0 =
     sym (ap (λ (d : ChangedPageAt). (path_below c.0.prefix d.version, page_bytes d.page)) each.1) in
-    subst (Contains (pages_of (old ++ more))) (file ∙ c.2) (page_listed (old ++ more) c.0.prefix at)
+    rw (file ∙ c.2) at (page_listed (old ++ more) c.0.prefix at)
 
 -- what a served registry's checkpoint says
 pub served_checkpoint : (origin : List ℕ) (insertions : List (List ℕ × List ℕ)) (files : Files)
@@ -174,7 +173,7 @@ module _ (origin : List ℕ) (insertions : List (List ℕ × List ℕ)) (files :
       let found = has.page (page_file insertions prefix) (page_listed insertions prefix at) in
       let page = page_bytes (page_of sha256 insertions (bits_of_bytes prefix)) in
       let few = page_is_short sha256 insertions (bits_of_bytes prefix) IsDigest-sha256 in
-      ap (option_map (take 27137)) found ∙ ap (λ b. Some b) (take_all 27137 page (omega (arith, few)))
+      rw found (ap (λ b. Some b) (take_all 27137 page (omega (arith, few))))
 
   -- and those that are read of it.
   pub read_files : AreOwnPages sha256 (page_read files) insertions

@@ -61,7 +61,7 @@ pub one_replayed : {IsFaithful : Type 0} {files : Files} {version : ℕ} {log ne
     → IsLastBy IsFaithful files version log.len e is_last → after ≡ last + cond is_last 1 0
     → AreReplayed IsFaithful files version log last es → AreReplayed IsFaithful files version new after (es ++ e ∷ [])
 one_replayed {log = log} {new = new} {es = es} {e = e} is_last stands by counts was = record {
-  entries = subst (StandsFor sha256 new) (sym leaves) (stands (leaves_of sha256 (entries_of es)) was.entries);
+  entries = rw leaves (stands (leaves_of sha256 (entries_of es)) was.entries);
   in_pages = λ faithful root all led.
       let old = was.in_pages faithful root all led in
       let one = by faithful root all led in
@@ -70,7 +70,7 @@ one_replayed {log = log} {new = new} {es = es} {e = e} is_last stands by counts 
       let last_place : log.len + 1 ≡ 0 + length old.0 + 1 = omega (arith, size) in
       let P : ℕ → Type 0 = λ i. IsInPages sha256 all i e one.0 in (
         old.0 ++ one.0 ∷ [],
-        AreInPages-push sha256 all 0 es old.0 e one.0 old.1 (subst P index one.1),
+        AreInPages-push sha256 all 0 es old.0 e one.0 old.1 (rw index at one.1),
         counts ∙ (λ i. old.2 i + cond ((one.2 ∙ ap (eqb one.0) last_place) i) 1 0)
             ∙ sym (count_last-push 0 old.0 one.0),
       );
@@ -81,8 +81,7 @@ one_replayed {log = log} {new = new} {es = es} {e = e} is_last stands by counts 
 
     leaves : leaves_of sha256 (entries_of (es ++ e ∷ []))
         ≡ leaves_of sha256 (entries_of es) ++ leaf_digest sha256 (entry_of e) ∷ []
-    leaves = ap (leaves_of sha256) (map-append entry_of es (e ∷ []))
-        ∙ map-append (leaf_digest sha256) (entries_of es) (entry_of e ∷ [])
+    leaves = rw (map-append entry_of es (e ∷ [])) (map-append (leaf_digest sha256) (entries_of es) (entry_of e ∷ []))
 
 -- two checkpoints by `!=`
 abbrev are_same : RootAndLength → RootAndLength → Bool

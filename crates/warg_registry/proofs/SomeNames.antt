@@ -1,5 +1,5 @@
 -- Names that are left of others.
-use Rattle.std.proofs.Common.{◌≡◌, ◌≢◌, ⊎_elim, ◌⊎◌, ℕ, ◌-◌, ◌<◌, List, [], ◌∷◌, ◌++◌, length, get_or, append_assoc, refl, sym, ap, subst, ◌∙◌, arith}
+use Rattle.std.proofs.Common.{◌≡◌, ◌≢◌, ⊎_elim, ◌⊎◌, ℕ, ◌-◌, ◌<◌, List, [], ◌∷◌, ◌++◌, length, get_or, append_assoc, refl, sym, ap, ◌∙◌, arith}
 use Rattle.std.specs.List.{All, Contains, remove}
 use Rattle.std.specs.String.{string_bytes}
 use Rattle.std.specs.declared.string.String.{String}
@@ -8,7 +8,6 @@ use Rattle.std.proofs.lemmas.List.{get_or-map, length-append, length-map, map-ap
 use Rattle.std.proofs.lemmas.List.Edits.{remove-append_right}
 use Rattle.std.proofs.lemmas.List.Elements.{Contains-append_cases, Contains-append_left, Contains-append_right}
 use Rattle.std.proofs.lemmas.List.Quantifiers.{all_pairs_remove}
-use Rattle.warg_folder.specs.Files.{AreApart}
 use Rattle.warg_registry.specs.Pruning.{bytes_of, AreSome}
 use Rattle.warg_registry.proofs.Listed.{later_there}
 
@@ -36,19 +35,19 @@ some_all names = record { within = λ n there. there; apart = λ apart. apart }
 pub moved : (others : List (String Global)) {after items rest : List (String Global)} {s : String Global}
     → after ≡ others ++ s ∷ [] → items ≡ s ∷ rest → others ++ items ≡ after ++ rest
 moved others {rest = rest} {s = s} pushed e =
-    ap (λ r. others ++ r) e ∙ sym (append_assoc others (s ∷ []) rest) ∙ ap (λ a. a ++ rest) (sym pushed)
+    rw e (sym (append_assoc others (s ∷ []) rest) ∙ ap (λ a. a ++ rest) (sym pushed))
 
 -- one that is left out
 pub some_passed : (names others items rest : List (String Global)) (s : String Global) → items ≡ s ∷ rest
     → AreSome (others ++ items) names → AreSome (others ++ rest) names
 some_passed names others items rest s e some = record {
   within = λ n there. all.within n (added n there);
-  apart = λ apart. subst AreApart without (all_pairs_remove (λ (a b : String Global). string_bytes a ≢ string_bytes b)
+  apart = λ apart. rw without at (all_pairs_remove (λ (a b : String Global). string_bytes a ≢ string_bytes b)
       (others ++ s ∷ rest) (length others) (omega (arith, length-append others (s ∷ rest))) (all.apart apart));
 }
   where
     all : AreSome (others ++ s ∷ rest) names
-    all = subst (λ l. AreSome (others ++ l) names) e some
+    all = rw e at some
 
     without : remove (others ++ s ∷ rest) (length others) ≡ others ++ rest
     without = remove-append_right others (s ∷ rest) (length others) (length others) refl (omega arith)
@@ -69,4 +68,4 @@ some_each P these names some each = λ k d inside.
       get_or-map text these k d (text (get_or these k d)) inside,
     ) in
     let low : here.0 < length names = omega (arith, here.1, length-map names text) in
-    subst P (sym (get_or-map text names here.0 d (text (get_or these k d)) low) ∙ here.2) (each here.0 d low)
+    rw (sym (get_or-map text names here.0 d (text (get_or these k d)) low) ∙ here.2) at (each here.0 d low)

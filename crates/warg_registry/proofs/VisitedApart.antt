@@ -18,9 +18,9 @@ use Rattle.warg_registry.proofs.DistinctLists.{first_pair, later_pairs, pairs-ap
 -- a shorter prefix
 begin_shorter : (prefix k : List ℕ) (t : ℕ) → take (length prefix + 1) k ≡ prefix ++ t ∷ []
     → take (length prefix) k ≡ prefix
-begin_shorter prefix k t e = ap (take (length prefix)) (sym (take-append-drop (length prefix + 1) k)
+begin_shorter prefix k t e = rw (sym (take-append-drop (length prefix + 1) k)
     ∙ ap (λ z. z ++ drop (length prefix + 1) k) e ∙ append_assoc prefix (t ∷ []) (drop (length prefix + 1) k))
-    ∙ take-append_seam prefix (t ∷ drop (length prefix + 1) k)
+    (take-append_seam prefix (t ∷ drop (length prefix + 1) k))
 
 -- one byte behind a prefix
 one_byte : (prefix : List ℕ) (s t : ℕ) → prefix ++ s ∷ [] ≡ prefix ++ t ∷ [] → s ≡ t
@@ -71,7 +71,7 @@ module _ (H : List ℕ → List ℕ) (IsThere : List ℕ → ℕ → List SlotAt
     owner = λ i c. ⊎_elim (λ here. let z = one.owner i here in
         (z.0, first_is xs (of_one x z.0 z.1), z.2, z.3))
         (λ later. let z = more.owner i later in (z.0, later_there xs z.0 x z.1, z.2, z.3)) (parts i c);
-    apart = subst (AllPairs Differ) (sym split)
+    apart = rw split
         (pairs-append Differ (flat_map items first) (flat_map items rest) one.apart more.apart clash);
   }
     where
@@ -81,7 +81,7 @@ module _ (H : List ℕ → List ℕ) (IsThere : List ℕ → ℕ → List SlotAt
       parts : (i : I) → Contains (flat_map items (first ++ rest)) i
           → Contains (flat_map items first) i ⊎ Contains (flat_map items rest) i
       parts i c = Contains-append_cases (flat_map items first) (flat_map items rest) i
-          (subst (λ ys. Contains ys i) split c)
+          (rw split at c)
 
       clash : (i j : I) → Contains (flat_map items first) i → Contains (flat_map items rest) j → path i ≢ path j
       clash i j c d = λ same.
@@ -102,7 +102,7 @@ module _ (H : List ℕ → List ℕ) (IsThere : List ℕ → ℕ → List SlotAt
   below_slots From prefix deeper [] pages ascend bytes all = subst (AreApartBelow prefix []) (sym all)
       (nothing prefix [])
   below_slots From prefix deeper (x ∷ xs) pages ascend bytes all =
-      subst (AreApartBelow prefix (x ∷ xs)) (sym all.2) (one_more prefix x xs all.0 all.1 ascend
+      rw all.2 (one_more prefix x xs all.0 all.1 ascend
       (one x.lone all.0 refl all.3)
       (below_slots From prefix deeper xs all.1 (later_pairs (λ a b. a.byte < b.byte) x xs ascend)
       (λ z c. bytes z (later_there xs z x c)) all.4))
@@ -115,10 +115,10 @@ module _ (H : List ℕ → List ℕ) (IsThere : List ℕ → ℕ → List SlotAt
       one None first is of_slot =
           let sub = deeper x.byte x.version x.digest first (bytes x (first_there xs x)) of_slot in record {
             bytes = sub.bytes;
-            owner = λ i c. (x, first_there [] x, is, ap (λ n. take n (path i)) (sym size) ∙ sub.begin i c);
+            owner = λ i c. (x, first_there [] x, is, rw (← size) (sub.begin i c));
             apart = sub.apart;
           }
-      one (Some l) first is of_slot = subst (AreApartBelow prefix (x ∷ [])) (sym of_slot.0) (nothing prefix (x ∷ []))
+      one (Some l) first is of_slot = rw of_slot.0 (nothing prefix (x ∷ []))
 
   -- the lone keys of slots are below them
   lones_below : (From : List ℕ → ℕ → List ℕ → List ChangedPageAt → Type 0) (prefix : List ℕ) (slots : List SlotAt)
@@ -145,7 +145,7 @@ module _ (H : List ℕ → List ℕ) (IsThere : List ℕ → ℕ → List SlotAt
         (Contains-append_cases (items (page prefix version slots)) (flat_map items below) i c);
     apart = pairs-append Differ (items (page prefix version slots)) (flat_map items below) own.apart sub.apart
         (λ i j c d same. let z = sub.owner j d in
-        own.off i z.0 c z.1 z.2 (ap (take (length prefix + 1)) same ∙ z.3));
+        own.off i z.0 c z.1 z.2 (rw same z.3));
   }
 
   module _ (each : (prefix : List ℕ) (version : ℕ) (slots : List SlotAt) → IsPage slots
@@ -191,7 +191,7 @@ module _ (H : List ℕ → List ℕ) (IsThere : List ℕ → ℕ → List SlotAt
   page_apart : (prefix : List ℕ) (version : ℕ) (slots : List SlotAt)
       → IsApart H IsThere (λ (p : ChangedPageAt). p ∷ []) (λ p. p.prefix) prefix slots (page prefix version slots ∷ [])
   page_apart prefix version slots = record {
-    begin = λ p c. ap (take (length prefix)) (sym (one p c)) ∙ take_all (length prefix) prefix (omega arith);
+    begin = λ p c. rw (← one p c) (take_all (length prefix) prefix (omega arith));
     off = λ p z c d none longer.
         let size = ap length (sym (take_all (length prefix + 1) prefix (omega arith))
         ∙ ap (take (length prefix + 1)) (one p c) ∙ longer) in
@@ -213,7 +213,7 @@ module _ (H : List ℕ → List ℕ) (IsThere : List ℕ → ℕ → List SlotAt
       → AreAllPages H IsThere root version all → (p q : ChangedPageAt) → Contains all p → Contains all q
       → p.prefix ≡ q.prefix → p ≡ q
   one_page_visited root version all are p q c d same = one_alike (λ (r : ChangedPageAt). r.prefix) all p q
-      (subst (AllPairs (λ (a b : ChangedPageAt). a.prefix ≢ b.prefix)) (each_alone all)
+      (rw (each_alone all) at
       (visited_pages root version all are).apart) c d same
     where
       each_alone : (ps : List ChangedPageAt) → flat_map (λ p. p ∷ []) ps ≡ ps

@@ -33,7 +33,7 @@ root_behind H ds front rest last left right root e low high first second l r mad
     made ∙ ap (λ x. branch H x right) l ∙ ap (λ x. branch H (root_of H front) x) r
     ∙ sym (root_parts H (ds ++ last ∷ []) front (rest ++ last ∷ []) e (omega (arith, size)) (omega (arith, size))
     (omega (arith, size)) (first ∙ sym (take-append-le (2 ^ e) ds (last ∷ []) low))
-    (ap (λ x. x ++ last ∷ []) second ∙ sym (drop-append-le (2 ^ e) ds (last ∷ []) low)))
+    (rw second (sym (drop-append-le (2 ^ e) ds (last ∷ []) low))))
 
 -- the root of at least one digest
 pub root_if_some : (H : List ℕ → List ℕ) (ds : List (List ℕ)) → 0 < length ds → root_if H ds ≡ Some (root_of H ds)
@@ -148,4 +148,4 @@ pub root_end : (H : List ℕ → List ℕ) (ds : List (List ℕ)) (n level : ℕ
     → root_if H (drop (n / 2 ^ (8 * level) * 2 ^ (8 * level)) ds) ≡ root_if H ds
 root_end H ds n level most last =
     let first : n / 2 ^ (8 * 8) * 2 ^ (8 * 8) ≡ 0 = omega arith in
-    ap (λ l. root_if H (drop (n / 2 ^ (8 * l) * 2 ^ (8 * l)) ds)) last ∙ ap (λ a. root_if H (drop a ds)) first
+    rw last (rw first refl)

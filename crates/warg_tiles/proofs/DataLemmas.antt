@@ -1,5 +1,5 @@
 -- The digest of a node by the first of some tiles.
-use Rattle.std.proofs.Common.{◌≡◌, ℕ, ◌+◌, ◌-◌, ◌*◌, ◌%◌, ◌^◌, ◌<◌, ◌≤◌, ◌==◌, ◌&&◌, nat_le, true, take, if◌then◌else◌, List, [], ◌∷◌, ◌++◌, length, drop, map, get_or, slice_index_or, Option, Some, None, IsSome, sym, ap, ◌∙◌, arith}
+use Rattle.std.proofs.Common.{◌≡◌, ℕ, ◌+◌, ◌-◌, ◌*◌, ◌%◌, ◌^◌, ◌<◌, ◌≤◌, ◌==◌, ◌&&◌, nat_le, true, take, List, [], ◌∷◌, ◌++◌, length, drop, map, get_or, slice_index_or, Option, Some, IsSome, sym, ap, ◌∙◌, arith, refl}
 use borrow.Author.Count.{below_more}
 use Rattle.std.specs.Option.{option_or}
 use Rattle.std.proofs.lemmas.List.{at_drop_more, get_or_append_left, get_or-map, length-map}
@@ -8,7 +8,7 @@ use Rattle.std.proofs.Math.Seq.{get_or-append_seam}
 use Rattle.warg_log.specs.Nodes.{height_of}
 use Rattle.warg_log.specs.Tree.{root_of}
 use Rattle.warg_tiles.specs.Tiles.{TileAt, node_in, place_in_level, tile_over}
-use Rattle.warg_tiles.specs.TileData.{LacksOf, covers, covered_by, has_below, root_below, digest_of, digest_by}
+use Rattle.warg_tiles.specs.TileData.{LacksOf, covers, covered_by, has_below, digest_of, digest_by}
 
 -- the first tile that is left, and those behind it
 pub next_tile : {X : Type 0} (H : List ℕ → List ℕ) (f : X → TileAt × List (List ℕ)) (xs : List X) (x : X) (i node : ℕ)
@@ -29,13 +29,13 @@ held_digest H t ds x h end least root is height width most covers made =
     let over : has_below t x ≡ true =
     ap (λ (l : TileAt). t.level == l.level && (t.number == l.number && nat_le l.width t.width)) (sym is) ∙ covers in
     let wide : end ≡ place_in_level x % 256 + 2 ^ (height_of x % 8) = width ∙ ap (λ (l : TileAt). l.width) is in
-    let exponent : 2 ^ (h % 8) ≡ 2 ^ (height_of x % 8) = ap (λ n. 2 ^ (n % 8)) height in
+    let exponent : 2 ^ (h % 8) ≡ 2 ^ (height_of x % 8) = rw height refl in
     let count : 1 * 2 ^ (h % 8) % 2 ^ 64 ≡ 2 ^ (height_of x % 8) = omega (arith, exponent) in
     let start : end - 1 * 2 ^ (h % 8) % 2 ^ 64 ≡ place_in_level x % 256 = omega (arith, count) in
     let taken : end - (end - 1 * 2 ^ (h % 8) % 2 ^ 64) ≡ 2 ^ (height_of x % 8) = omega (arith, count) in
     ap Some (made ∙ ap (λ n. root_of H (take n (drop (end - 1 * 2 ^ (h % 8) % 2 ^ 64) ds))) taken
     ∙ ap (λ n. root_of H (take (2 ^ (height_of x % 8)) (drop n ds))) start)
-    ∙ sym (ap (λ b. if b then Some (root_below H ds x) else None) over)
+    ∙ sym (rw over refl)
 
 -- what each node of a tile has
 pub lacks_none : (F : ℕ → Option (List ℕ)) (t : TileAt) → ((k : ℕ) → k < t.width → IsSome (F (node_in t k)))
@@ -57,4 +57,4 @@ pub covered_at : {X : Type 0} (f : X → TileAt × List (List ℕ)) (xs : List X
 covered_at f xs i x other inside is one =
     list_any_at (λ (t : TileAt × List (List ℕ)). covers t.0 other) (map f xs) i (f x)
     (omega (arith, length-map xs f, inside))
-    (ap (λ (t : TileAt × List (List ℕ)). covers t.0 other) (get_or-map f xs i x (f x) inside ∙ ap f (sym is)) ∙ one)
+    (rw (get_or-map f xs i x (f x) inside ∙ ap f (sym is)) one)

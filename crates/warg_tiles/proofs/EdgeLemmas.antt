@@ -5,7 +5,7 @@ use Rattle.std.proofs.lemmas.Nat.{pow-add}
 use Rattle.std.proofs.lemmas.Bool.{le-leb, ne_eqb, eq-eqb}
 use Rattle.std.proofs.lemmas.List.{append_assoc, append-nil, map-append, length-append, length-take, take-take, take_at, drop_at}
 use Rattle.std.proofs.lemmas.List.FromFn.{length-map-range_with_len, get_or-map-range_with_len, map-range_with_len_more}
-use Rattle.warg_log.specs.Nodes.{height_of, end_of, number_of}
+use Rattle.warg_log.specs.Nodes.{end_of, number_of}
 use Rattle.warg_log.specs.Tree.{root_of, root_over, leaves_below, own_digest}
 use Rattle.warg_log.proofs.ForCallers.{over_at, pow_below_pow}
 use Rattle.warg_tiles.specs.Tiles.{TileAt, node_in}
@@ -20,12 +20,11 @@ pub node_root : (H : List ℕ → List ℕ) (ds : List (List ℕ)) (k j : ℕ) �
     ≡ root_over H ds (j * 2 ^ k) (2 ^ k)
 node_root H ds k j =
     let at = over_at k j in
-    ap (λ p. root_over H ds (p * 2 ^ height_of (number_of k j)) (2 ^ height_of (number_of k j))) at.1
-    ∙ ap (λ h. root_over H ds (j * 2 ^ h) (2 ^ h)) at.0
+    rw at.1 (rw at.0 refl)
 
 -- the leaves below a node of the next level
 pub pow_up : (level : ℕ) → 2 ^ (8 * (level + 1)) ≡ 256 * 2 ^ (8 * level)
-pow_up level = let sum : 8 * (level + 1) ≡ 8 + 8 * level = omega arith in ap (λ n. 2 ^ n) sum ∙ pow-add 2 8 (8 * level)
+pow_up level = let sum : 8 * (level + 1) ≡ 8 + 8 * level = omega arith in rw sum (pow-add 2 8 (8 * level))
 
 -- the edge's width by levels
 pub width_step : (level count : ℕ) → level < 8 → width_from level count ≡ count % 256 + width_from (level + 1)

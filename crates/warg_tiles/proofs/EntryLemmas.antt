@@ -38,7 +38,7 @@ none_left (x ∷ xs) [] rest small also some none is = omega (arith, ap length i
 none_left (x ∷ xs) (y ∷ ys) rest small also some none is =
     none_left xs ys rest small.1 also.1 some none
     (same_first x y (bundle_of xs ++ rest) (bundle_of ys)
-    (ap (λ l. two_bytes (length x) ++ l) (sym (append_assoc x (bundle_of xs) rest)) ∙ is)).1
+    (rw (← append_assoc x (bundle_of xs) rest) is)).1
 
 -- an entry more is read
 pub read_more : (bytes : List ℕ) (before : List (List ℕ)) (entry rest behind : List ℕ)
@@ -66,9 +66,9 @@ bundle_once [] (y ∷ ys) rest count is = absurd (omega (arith, count))
 bundle_once (x ∷ xs) [] rest count is = absurd (omega (arith, count))
 bundle_once (x ∷ xs) (y ∷ ys) rest count is =
     let more = same_first x y (bundle_of xs ++ rest) (bundle_of ys)
-    (ap (λ l. two_bytes (length x) ++ l) (sym (append_assoc x (bundle_of xs) rest)) ∙ is) in
+    (rw (← append_assoc x (bundle_of xs) rest) is) in
     let behind = bundle_once xs ys rest (omega (arith, count)) more.1 in
-    ap (λ e. e ∷ xs) more.0 ∙ ap (λ l. y ∷ l) behind
+    rw more.0 (rw behind refl)
 
 -- a bundle's bytes are those of its entries alone
 pub bundle_same : (xs ys : List (List ℕ)) → bundle_of xs ≡ bundle_of ys → xs ≡ ys
@@ -78,4 +78,4 @@ bundle_same [] (y ∷ ys) is = absurd (cc)
 bundle_same (x ∷ xs) [] is = absurd (cc)
 bundle_same (x ∷ xs) (y ∷ ys) is =
     let more = same_first x y (bundle_of xs) (bundle_of ys) is in
-    ap (λ e. e ∷ xs) more.0 ∙ ap (λ l. y ∷ l) (bundle_same xs ys more.1)
+    rw more.0 (rw (bundle_same xs ys more.1) refl)

@@ -1,5 +1,5 @@
 -- The tiles to fetch, one by one.
-use Rattle.std.proofs.Common.{Bool, ◌||◌, subst, ◌≡◌, ◌≢◌, ℕ, ◌+◌, ◌-◌, ◌*◌, ◌/◌, ◌%◌, ◌^◌, ◌<◌, ◌≤◌, ◌==◌, ◌&&◌, nat_le, min, true, false, List, [], ◌∷◌, ◌++◌, length, take, map, get_or, refl, sym, ap, ◌∙◌, arith}
+use Rattle.std.proofs.Common.{Bool, ◌||◌, ◌≡◌, ◌≢◌, ℕ, ◌+◌, ◌-◌, ◌*◌, ◌/◌, ◌%◌, ◌^◌, ◌<◌, ◌≤◌, ◌==◌, ◌&&◌, nat_le, min, true, false, List, [], ◌∷◌, ◌++◌, length, take, map, get_or, refl, sym, ap, ◌∙◌, arith}
 use Rattle.std.specs.List.{AllByRecursion, flat_map, list_any}
 use Rattle.std.specs.Prelude.{IsSome, Option}
 use Rattle.std.specs.Option.{option_or}
@@ -54,7 +54,7 @@ added_new n x tiles t none of_length has = record {
     of_length = all_push (IsTileOf n) tiles t are.of_length of_length;
     once = all_pairs_push (λ (s u : TileAt). s ≢ u) tiles t are.once
         (λ k d inside same. true≢false
-        (sym (list_any_at (λ s. has_below s x) tiles k d inside (ap (λ s. has_below s x) same ∙ has)) ∙ none));
+        (sym (list_any_at (λ s. has_below s x) tiles k d inside (rw same has)) ∙ none));
   };
   serve = λ before all. all_push (λ t. serves (before ++ x ∷ []) t ≡ true) tiles t
       (serves_more before (x ∷ []) tiles all) (serves_last before x t has);
@@ -67,7 +67,7 @@ pub added_append : (n : ℕ) (first second third : List TileAt) (xs ys : List �
     → IsAdded n second third ys → IsAdded n first third (xs ++ ys)
 added_append n first second third xs ys one two = record {
   tiles_of = λ are. two.tiles_of (one.tiles_of are);
-  serve = λ before all. subst (λ l. AllByRecursion (λ t. serves l t ≡ true) third) (append_assoc before xs ys)
+  serve = λ before all. rw (append_assoc before xs ys) at
       (two.serve (before ++ xs) (one.serve before all));
   keep = λ x given. two.keep x (one.keep x given);
   give = all_append (λ x. gives third x ≡ true) xs ys
@@ -128,8 +128,8 @@ pub tile_made_for : (x n : ℕ) (t least : TileAt) → t ≡ record least { widt
 tile_made_for x n t least at wide is there small =
     let facts = least_there x n least is there small in
     let enough : least.width ≤ t.width = omega (arith, facts) in
-    let level : t.level ≡ least.level = ap (λ (s : TileAt). s.level) at in
-    let number : t.number ≡ least.number = ap (λ (s : TileAt). s.number) at in (
+    let level : t.level ≡ least.level = rw at refl in
+    let number : t.number ≡ least.number = rw at refl in (
       omega (arith, facts),
       record { some = omega (arith, facts); width = rw (level, number) wide },
       ap (λ (o : TileAt). t.level == o.level && (t.number == o.number && nat_le o.width t.width)) (sym is)

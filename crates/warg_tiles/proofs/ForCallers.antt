@@ -1,6 +1,7 @@
 -- Lemmas for the proofs of the crates above, over public definitions alone.
-use Rattle.std.proofs.Common.{◌≡◌, ℕ, ◌+◌, ◌*◌, ◌/◌, ◌%◌, ◌^◌, ◌<◌, ◌≤◌, true, List, [], ◌∷◌, ◌++◌, length, map, Option, Some}
+use Rattle.std.proofs.Common.{◌≡◌, ℕ, ◌+◌, ◌*◌, ◌/◌, ◌%◌, ◌^◌, ◌<◌, ◌≤◌, true, List, [], ◌∷◌, ◌++◌, length, map, Option, Some, Result, Ok, Err}
 use Rattle.std.specs.List.{AllByRecursion}
+use Rattle.std.specs.Prelude.{IfErr, IsErrAnd}
 use Rattle.warg_log.specs.Tree.{own_digest}
 use Rattle.warg_log.specs.Walks.{IsKnown}
 use Rattle.warg_tiles.specs.Tiles.{TileAt, tile_end}
@@ -91,3 +92,8 @@ low_level = growth.low_level
 -- base64 has no newline
 pub no_newline-encode : (m : List ℕ) → HasNoNewline (encode_of standard m)
 no_newline-encode = texts.no_newline-encode
+
+-- an error that is handed on
+pub err_same : {X E : Type 0} (P : E → Type 0) (e : E) (r : Result X E) → IsErrAnd r (λ f. f ≡ e) → P e → IfErr r P
+err_same P e (Ok x) is holds = tt
+err_same P e (Err f) is holds = rw is holds

@@ -1,6 +1,6 @@
 -- The full and the partial tiles of a length, each once.
 use Rattle.std.proofs.Common.{◌≡◌, ◌≢◌, ◌⊎◌, inl, inr, ℕ, zero, suc, ◌+◌, ◌-◌, ◌*◌, ◌/◌, ◌%◌, ◌^◌, ◌<◌, ◌≤◌, min, List, [], ◌∷◌, ◌++◌, refl, sym, ap, subst, ◌∙◌, arith}
-use Rattle.std.specs.List.{Contains, AllPairs, flat_map, range_with_len}
+use Rattle.std.specs.List.{Contains, AllPairs}
 use Rattle.std.proofs.Math.Nat.{div-mul-le_self, mul-le-mul_left, eq_of_mul-eq-mul_right}
 use Rattle.std.proofs.lemmas.Bool.{cases_lt, eq-eqb, ne_eqb}
 use Rattle.std.proofs.lemmas.List.Elements.{Contains-append_left, Contains-append_right, Contains-append_cases}
@@ -116,17 +116,17 @@ at_length n = omega arith
 
 full_none : (old : ℕ) → full_between old (old + 0) ≡ []
 full_none old = let nothing : old + 0 - old ≡ 0 = omega arith in
-    ap (λ k. flat_map completed_at (range_with_len (old + 1) k)) nothing
+    rw nothing refl
 
 full_next : (old d : ℕ) → full_between old (old + suc d) ≡ full_between old (old + d) ++ completed_at (old + d + 1)
-full_next old d = let next : old + suc d ≡ old + d + 1 = omega arith in ap (full_between old) next
-    ∙ full_more old (old + d) (omega arith)
+full_next old d = let next : old + suc d ≡ old + d + 1 = omega arith in rw next
+    (full_more old (old + d) (omega arith))
 
 full_only : (d old : ℕ) (t : TileAt) → Contains (full_between old (old + d)) t → (t.width ≡ 256) × (old < tile_end t)
     × (tile_end t ≤ old + d)
-full_only zero old t has = let none = subst (λ l. Contains l t) (full_none old) has in absurd (omega (arith, none.1))
+full_only zero old t has = let none = rw (full_none old) at has in absurd (omega (arith, none.1))
 full_only (suc d) old t has = elim (Contains-append_cases (full_between old (old + d)) (completed_at (old + d + 1)) t
-    (subst (λ l. Contains l t) (full_next old d) has)) [
+    (rw (full_next old d) at has)) [
       | inl before ↦ let f = full_only d old t before in (f.0, f.1, omega (arith, f.2))
       | inr now ↦ let f = completed_only 8 0 (old + d + 1) t (omega arith) now in let ends = f.2
           ∙ at_length (old + d + 1) in (f.0, omega arith, omega arith)
@@ -136,7 +136,7 @@ in_full : (d old : ℕ) (t : TileAt) → t.width ≡ 256 → t.level < 8 → old
     → Contains (full_between old (old + d)) t
 in_full zero old t full low from to = absurd (omega arith)
 in_full (suc d) old t full low from to =
-    subst (λ l. Contains l t) (sym (full_next old d))
+    rw (full_next old d)
     (elim (cases_lt (tile_end t) (old + d + 1)) [
       | inl before ↦ Contains-append_left (full_between old (old + d)) (completed_at (old + d + 1)) t
           (in_full d old t full low from (omega arith))
@@ -148,7 +148,7 @@ in_full (suc d) old t full low from to =
 full_order : (d old : ℕ) → AllPairs IsFilledBefore (full_between old (old + d))
 full_order zero old = subst (AllPairs IsFilledBefore) (sym (full_none old)) (none_alone IsFilledBefore)
 full_order (suc d) old =
-    subst (AllPairs IsFilledBefore) (sym (full_next old d))
+    rw (full_next old d)
     (all_pairs_append IsFilledBefore (full_between old (old + d)) (completed_at (old + d + 1)) (full_order d old)
     (completed_order 8 0 (old + d + 1) (omega arith))
     (λ s t here there.
@@ -179,11 +179,11 @@ differ_by_order s t (inr lower) same = omega (arith, lower.1, ap (λ (x : TileAt
 full_later : (old new : ℕ) → old ≤ new → new ≤ 2 ^ 63 → AreFullBetween old new (full_between old new)
 full_later old new order fits =
     let whole : old + (new - old) ≡ new = omega arith in
-    let pairs = subst (λ n. AllPairs IsFilledBefore (full_between old n)) whole (full_order (new - old) old) in
+    let pairs = rw whole at (full_order (new - old) old) in
     record {
       exactly = λ t. (
         λ has.
-            let f = full_only (new - old) old t (subst (λ n. Contains (full_between old n) t) (sym whole) has) in
+            let f = full_only (new - old) old t (rw whole has) in
             (f.0, there_from new t f.0 (omega (arith, f.2)), λ older. omega (arith, f.1, end_there old t f.0 older)),
         λ is.
             let to = end_there new t is.0 is.1 in
@@ -192,7 +192,7 @@ full_later old new order fits =
               | inr less ↦ absurd
                   (is.2 (there_from old t is.0 less))
             ] in
-            subst (λ n. Contains (full_between old n) t) whole
+            rw whole at
             (in_full (new - old) old t is.0 (low_level new t fits is.1) from (omega arith)),
       );
       once = once_by IsFilledBefore differ_by_order (full_between old new) pairs;
@@ -240,16 +240,16 @@ in_partial (suc k) level n t last from to is few = elim (cases_lt level t.level)
   | inl above ↦
       let there = in_partial k (level + 1) n t (omega arith) (omega arith) to is few in
       elim (cases_lt 0 (n / 2 ^ (8 * level) % 256)) [
-        | inl some ↦ subst (λ l. Contains l t) (sym (from_some n level (omega arith) some))
+        | inl some ↦ rw (from_some n level (omega arith) some)
             (suc there.0, omega (arith, there.1), there.2)
-        | inr none ↦ subst (λ l. Contains l t) (sym (from_none n level (omega arith) (omega arith))) there
+        | inr none ↦ rw (from_none n level (omega arith) (omega arith)) there
       ]
   | inr here ↦
       let same : t.level ≡ level = omega arith in
       let width : t.width ≡ min (n / 2 ^ (8 * level) - 256 * t.number) 256 = is.width
       ∙ ap (λ l. min (n / 2 ^ (8 * l) - 256 * t.number) 256) same in
       let some = is.some in
-      subst (λ l. Contains l t) (sym (from_some n level (omega arith) (omega arith))) (
+      rw (from_some n level (omega arith) (omega arith)) (
         zero,
         omega arith,
         sym (same_tile t level (n / 2 ^ (8 * level) / 256) (n / 2 ^ (8 * level) % 256) same

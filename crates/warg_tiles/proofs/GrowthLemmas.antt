@@ -97,14 +97,14 @@ all_pairs_append R xs ys left right across i j d order inside =
     let high_at : (k : ℕ) → length xs ≤ k → get_or ys (k - length xs) d ≡ get_or (xs ++ ys) k d =
     λ k high. sym (get_or-append_right xs ys (length xs) k d refl high) in
     elim (cases_lt j (length xs)) [
-      | inl low ↦ subst (λ s. R s (get_or (xs ++ ys) j d)) (low_at i (omega arith))
+      | inl low ↦ rw (low_at i (omega arith)) at
           (subst (R (get_or xs i d)) (low_at j low) (left i j d order low))
       | inr high ↦ elim (cases_lt i (length xs)) [
-        | inl low ↦ subst (λ s. R s (get_or (xs ++ ys) j d)) (low_at i low)
+        | inl low ↦ rw (low_at i low) at
             (subst (R (get_or xs i d)) (high_at j high)
             (across (get_or xs i d) (get_or ys (j - length xs) d) (Contains-get_or xs i d low)
             (Contains-get_or ys (j - length xs) d (omega arith))))
-        | inr both ↦ subst (λ s. R s (get_or (xs ++ ys) j d)) (high_at i both)
+        | inr both ↦ rw (high_at i both) at
             (subst (R (get_or ys (i - length xs) d)) (high_at j high)
             (right (i - length xs) (j - length xs) d (omega arith) (omega arith)))
       ]

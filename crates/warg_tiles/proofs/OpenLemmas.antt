@@ -11,7 +11,7 @@ use Rattle.warg_protobuf.specs.Decoding.{earlier}
 use Rattle.warg_protobuf.proofs.ForCallers.{both_none}
 use Rattle.warg_tiles.specs.Tiles.{TileAt, node_in}
 use Rattle.warg_tiles.specs.TileData.{IsTileBy}
-use Rattle.warg_tiles.specs.TileLog.{StandsFor, last_tile, partial_tiles, tile_digests, completed_at, tile_fault, tiles_fault}
+use Rattle.warg_tiles.specs.TileLog.{StandsFor, last_tile, partial_tiles, tile_digests, tile_fault, tiles_fault}
 use Rattle.warg_tiles.specs.declared.error.OpenError.{OpenError}
 use Rattle.warg_tiles.specs.declared.error.OpenError.TheVariants.{Count, Place, Width}
 use Rattle.warg_tiles.specs.Private.Edges.{edge_width, partial_from, joined}
@@ -135,7 +135,7 @@ open_stands H ds edge tile_of digests_of xs n none count all is =
           (no_fault (partial_tiles n) (map tile_of xs) none) ∙ joined_from H ds n 8 0
           ∙ sym (levels_flat H ds n) ∙ ap (λ k. flat_map (λ level. tile_digests H ds (last_tile k level))
           (7 ∷ 6 ∷ 5 ∷ 4 ∷ 3 ∷ 2 ∷ 1 ∷ 0 ∷ [])) (sym count);
-      full = record { places = sym (ap (λ k. flat_map completed_at (range_with_len (n + 1) k)) nothing); digests = tt };
+      full = record { places = sym (rw nothing refl); digests = tt };
     }
 
 -- the first fault of tiles from a level on, by that of the first one
@@ -151,6 +151,5 @@ fault_step tile_of xs others first wanted n level low some l m w is =
 pub fault_missing : {X : Type 0} (tile_of : X → TileAt) (xs : List X) (n level : ℕ) → level < 8
     → (n / 2 ^ (8 * level) % 256 ≡ 0 → ⊥) → length xs ≡ 0 → tiles_fault (partial_from n level) (map tile_of xs)
     ≡ Some Count
-fault_missing tile_of [] n level low some none = ap (λ l. tiles_fault l [])
-    (from_some n level low (omega (arith, some)))
+fault_missing tile_of [] n level low some none = rw (from_some n level low (omega (arith, some))) refl
 fault_missing tile_of (x ∷ xs) n level low some none = absurd (omega arith)

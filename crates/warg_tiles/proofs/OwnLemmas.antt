@@ -29,7 +29,7 @@ tile_digest_is : (H : List ℕ → List ℕ) (ds digests : List (List ℕ)) (t :
 tile_digest_is H ds digests t i tile inside =
     let at = over_at (8 * t.level) (256 * t.number + i) in
     let own = own_is H ds (node_in t i) (slice_index_or digests i []) (tile.digest i inside) in (
-      subst (λ k. (256 * t.number + i + 1) * 2 ^ k ≤ length ds) at.0
+      rw at.0 at
           (subst (λ j. (j + 1) * 2 ^ height_of (node_in t i) ≤ length ds) at.1 own.0),
       own.1 ∙ ap (λ j. root_over H ds (j * 2 ^ height_of (node_in t i)) (2 ^ height_of (node_in t i))) at.1
           ∙ ap (λ k. root_over H ds ((256 * t.number + i) * 2 ^ k) (2 ^ k)) at.0,
@@ -75,7 +75,7 @@ root_below_own H ds digests t x tile has =
     let whole : place_in_level x ≡ 256 * t.number + p = omega (arith, below.1) in
     let last = tile_digest_is H ds digests t (p + c - 1) tile (omega (arith, below.2)) in
     let total : 256 * t.number + (p + c - 1) + 1 ≡ place_in_level x + c = omega arith in
-    let ends : (place_in_level x + c) * unit ≤ length ds = subst (λ n. n * unit ≤ length ds) total last.0 in
+    let ends : (place_in_level x + c) * unit ≤ length ds = rw total at last.0 in
     let power : 2 ^ (height_of x % 8 + 8 * t.level) ≡ c * unit = pow-add 2 (height_of x % 8) (8 * t.level) in
     let fits : place_in_level x * unit + 2 ^ (height_of x % 8 + 8 * t.level) ≤ length ds = omega (arith, ends, power) in
     let left : length (drop p digests) ≡ t.width - p = length-drop p digests ∙ ap (λ n. n - p) tile.count in

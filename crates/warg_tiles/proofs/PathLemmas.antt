@@ -204,7 +204,7 @@ place_parts text number width (Some (before, behind)) cut is = elim (cases_eq wi
       ∙ full_place number in
       absurd (no_dot number (length before.now)
       (omega (arith, ap length same, length-append before.now (46 ∷ behind.now)))
-      (ap (λ t. get_or t (length before.now) 0) (sym same) ∙ get_or-append_seam before.now 46 behind.now 0))
+      (rw (← same) (get_or-append_seam before.now 46 behind.now 0)))
   | inr other ↦ let parts = split_after 46 text (number_path number) (112 ∷ (47 ∷ decimal width))
       (Some (before, behind)) cut (omega arith) (is ∙ partial_place number width other) (no_dot number) in
       (other, parts.0, parts.1)

@@ -1,5 +1,5 @@
 -- Logs and tiles of which no placed byte strings collide.
-use Rattle.std.proofs.Common.{◌≡◌, ◌⊎◌, inl, inr, ℕ, zero, suc, ◌+◌, ◌*◌, ◌/◌, ◌%◌, ◌^◌, ◌<◌, ◌≤◌, ◌==◌, ◌++◌, List, [], ◌∷◌, length, take, drop, Some, None, refl, sym, ap, subst, ◌∙◌, arith, if◌then◌else◌, length-append, append-nil}
+use Rattle.std.proofs.Common.{◌≡◌, ◌⊎◌, inl, inr, ℕ, zero, suc, ◌+◌, ◌*◌, ◌/◌, ◌%◌, ◌^◌, ◌<◌, ◌≤◌, ◌==◌, ◌++◌, List, [], ◌∷◌, length, drop, Some, None, refl, sym, ap, ◌∙◌, arith, if◌then◌else◌, length-append, append-nil}
 use Rattle.std.specs.Prelude.{replicate, Contains}
 use Rattle.std.specs.Option.{option_to_list}
 use Rattle.std.proofs.Math.Seq.{drop-append_seam}
@@ -104,7 +104,7 @@ row_of_one : (H : List ℕ → List ℕ) (t : TileAt × List (List ℕ)) (ds : L
     (lower : Tiles) (tile : TileAt × List (List ℕ)) (upper : Tiles)
     → t ∷ [] ≡ lower ++ tile ∷ upper → RowOf H tile lower ds first second → RowOf H t [] ds first second
 row_of_one H t ds first second [] tile upper split row = let is : tile ≡ t = cc in
-    subst (λ s. RowOf H s [] ds first second) is row
+    rw is at row
 row_of_one H t ds first second (other ∷ lower) tile upper split row =
     absurd (omega (arith, ap length split, length-append lower (tile ∷ upper)))
 
@@ -206,8 +206,7 @@ module _ (before : List (List ℕ)) (count : length before ≡ 2 ^ 64) (sizes : 
   unfolding root_within
   many_last =
       own_at (λ m. zeros) many (record { level = 0; number = 2 ^ 56; width = 1 }) 0 ones (omega (arith, many_count))
-      (sym (ap (λ ds. root_of (λ m. zeros) (take 1 ds))
-      (ap (λ n. drop n many) (sym count) ∙ drop-append_seam before (ones ∷ []))))
+      (sym (rw (ap (λ n. drop n many) (sym count) ∙ drop-append_seam before (ones ∷ [])) refl))
 
 -- So many digests.
 pub some_leaves : (n : ℕ) → (leaves : List (List ℕ)) × (length leaves ≡ n) × AreHashes leaves
@@ -220,7 +219,7 @@ some_leaves n = (
 -- What is filled between two lengths that differ by one is what the greater one completes.
 pub only_last : (t : TileAt) → Contains (full_between 4722366482869645213695 4722366482869645213696) t
     → Contains (completed_at 4722366482869645213696) t
-only_last t has = subst (λ (l : List TileAt). Contains l t) (append-nil (completed_at 4722366482869645213696)) has
+only_last t has = rw (append-nil (completed_at 4722366482869645213696)) at has
 
 -- A checkpoint's text with two further lines, and one with both as one line.
 abbrev said_with : List (List ℕ) → Said

@@ -68,8 +68,8 @@ edge_of H e ds stands = stands.edge ∙ edge_digests_is H ds ∙ ap (edge_from H
 root_over_append : (H : List ℕ → List ℕ) (ds more : List (List ℕ)) (a n : ℕ) → a + n ≤ length ds
     → root_over H (ds ++ more) a n ≡ root_over H ds a n
 root_over_append H ds more a n fits =
-    ap (root_of H) (ap (take n) (drop-append-le a ds more (omega arith)) ∙ take-append-le n (drop a ds) more
-    (omega (arith, length-drop a ds)))
+    ap (root_of H) (rw (drop-append-le a ds more (omega arith)) (take-append-le n (drop a ds) more
+    (omega (arith, length-drop a ds))))
 
 -- and so do the digests of a tile that is there
 tile_append : (H : List ℕ → List ℕ) (ds more : List (List ℕ)) (t : TileAt)
@@ -170,7 +170,7 @@ taken_stands H e ds stands =
       count = stands.count;
       edge = stands.edge;
       full = record {
-        places = sym (ap (λ k. flat_map completed_at (range_with_len (e.len + 1) k)) nothing);
+        places = sym (rw nothing refl);
         digests = tt;
       };
     }

@@ -8,7 +8,7 @@ use Rattle.std.proofs.lemmas.List.{length-append}
 use Rattle.std.proofs.lemmas.Bool.{cases_lt, cases_Bool, le-leb, lt-leb, eqb-true, and_parts}
 use Rattle.std.proofs.Math.Pow.{pow_mono}
 use Rattle.warg_crypto.specs.Collisions.{GivesHashes, AreHashes, SomeCollision}
-use Rattle.warg_crypto.specs.Tree.{branch, branch_input, where_both}
+use Rattle.warg_crypto.specs.Tree.{branch, branch_input}
 use Rattle.warg_crypto.proofs.ForCallers.{HasSize, sizes, same_or_not, branch_parts}
 use Rattle.warg_log.specs.Nodes.{end_of, node_over}
 use Rattle.warg_log.specs.Ranges.{Range, leaves_from, range_of}
@@ -106,7 +106,7 @@ module _ (H : List ℕ → List ℕ) (digests : GivesHashes H) (F : ℕ → Opti
   sized (at_node t) = inr (λ d is. holds t d is)
   sized (at_parts misses left right) = inr (λ d is.
       let (l, r, l_is, r_is, made) = both_there H (top_of H F x left) (top_of H F x right) d is in
-      ap length (sym made) ∙ sizes digests (branch_input l r))
+      rw (← made) (sizes digests (branch_input l r)))
 
   -- Two ways: both are the target, or one comes to 32 bytes.
   apart : (left right : Way) → ((left ≡ at_target) × (right ≡ at_target)) ⊎ (Sized left ⊎ Sized right)
@@ -124,9 +124,9 @@ module _ (H : List ℕ → List ℕ) (digests : GivesHashes H) (F : ℕ → Opti
   unfolding way_within top_of
   reads zero j a n start some most fits part = elim (cases_Bool (is_target target (leaves_from a n))) [
     | inl t ↦ let same : way_within target zero (leaves_from a n) ≡ at_target = rw t refl in
-        subst (Leads a n) (sym same) (λ e. at_own)
+        rw same (λ e. at_own)
     | inr f ↦ let same : way_within target zero (leaves_from a n) ≡ at_node (node_over a n) = rw f refl in
-        subst (Leads a n) (sym same) (at_read 0 j a n start (omega arith) fits)
+        rw same (at_read 0 j a n start (omega arith) fits)
   ]
   reads (suc h) j a n start some most fits part =
       let up = pow-suc 2 h in
@@ -135,15 +135,15 @@ module _ (H : List ℕ → List ℕ) (digests : GivesHashes H) (F : ℕ → Opti
         | inr few ↦
             let same : way_within target (suc h) (leaves_from a n) ≡ way_within target h (leaves_from a n) =
             rw (le-leb n (2 ^ h) few) refl in
-            subst (Leads a n) (sym same) (reads h (2 * j) a n here some few fits part)
+            rw same (reads h (2 * j) a n here some few fits part)
         | inl more ↦ elim (cases_Bool (is_target target (leaves_from a n))) [
           | inl t ↦ let same : way_within target (suc h) (leaves_from a n) ≡ at_target =
-              rw (lt-leb n (2 ^ h) more, t) refl in subst (Leads a n) (sym same) (λ e. at_own)
+              rw (lt-leb n (2 ^ h) more, t) refl in rw same (λ e. at_own)
           | inr f ↦ elim (cases_Bool (n == 2 ^ suc h && is_beside target (leaves_from a n))) [
             | inl t ↦
                 let same : way_within target (suc h) (leaves_from a n) ≡ at_node (node_over a n) =
                 rw (lt-leb n (2 ^ h) more, f, t) refl in
-                subst (Leads a n) (sym same) (at_read (suc h) j a n start
+                rw same (at_read (suc h) j a n start
                 (eqb-true n (2 ^ suc h) (and_parts (n == 2 ^ suc h) (is_beside target (leaves_from a n)) t).0) fits)
             | inr g ↦
                 let left = way_within target h (leaves_from a (2 ^ h)) in
@@ -154,17 +154,17 @@ module _ (H : List ℕ → List ℕ) (digests : GivesHashes H) (F : ℕ → Opti
                 let unit : 0 < 2 ^ h = pow_pos h in
                 let many : 1 < n = omega arith in
                 let split : front_of n ≡ 2 ^ h = front_of_is h n more most in
-                let part_left = subst (λ k. IsPart (length ds) a k) split (front a n part many) in
-                let part_right = subst (λ k. IsPart (length ds) (a + k) (n - k)) split (rest a n part many) in
+                let part_left = rw split at (front a n part many) in
+                let part_right = rw split at (rest a n part many) in
                 let next : a + 2 ^ h ≡ (2 * j + 1) * 2 ^ h = omega (arith, here) in
-                subst (Leads a n) (sym same) (λ e.
+                rw same (λ e.
                 let (l, r, l_is, r_is, made) = both_there H (top_of H F x left) (top_of H F x right)
                 (root_over H ds a n) e in
                 let by = with_target F target x in
                 let cut_left : cut_over H by (leaves_from a (2 ^ h)) ≡ Some l =
-                ap (top_of H F x) (way_is target (leaves_from a (2 ^ h)) h (omega arith)) ∙ l_is in
+                rw (way_is target (leaves_from a (2 ^ h)) h (omega arith)) l_is in
                 let cut_right : cut_over H by (leaves_from (a + 2 ^ h) (n - 2 ^ h)) ≡ Some r =
-                ap (top_of H F x) (way_is target (leaves_from (a + 2 ^ h) (n - 2 ^ h)) h (omega arith)) ∙ r_is in
+                rw (way_is target (leaves_from (a + 2 ^ h) (n - 2 ^ h)) h (omega arith)) r_is in
                 let own_left = root_over H ds a (2 ^ h) in
                 let own_right = root_over H ds (a + 2 ^ h) (n - 2 ^ h) in
                 let both = made ∙ root_over_parts H ds a n many fits
@@ -183,16 +183,14 @@ module _ (H : List ℕ → List ℕ) (digests : GivesHashes H) (F : ℕ → Opti
                       count = n;
                       part = part;
                       more = many;
-                      by_data = ap (λ k. where_both branch_input (cut_over H by (leaves_from a k))
-                          (cut_over H by (leaves_from (a + k) (n - k)))) split ∙ rw (cut_left, cut_right) refl;
+                      by_data = rw split (rw (cut_left, cut_right) refl);
                       by_leaves = sym (ap (λ k. branch_input (root_over H ds a k) (root_over H ds (a + k) (n - k)))
                           split);
                     };
                   })
                   | inl equal ↦ elim (apart left right) [
                     | inl both_targets ↦
-                        subst Reads (sym (ap (λ w. at_parts misses w right) both_targets.0
-                        ∙ ap (at_parts misses at_target) both_targets.1))
+                        subst Reads (sym (rw both_targets.0 (ap (at_parts misses at_target) both_targets.1)))
                         (at_both misses at_target at_target at_own at_own)
                     | inr sized ↦
                         let one : (length l ≡ 32) ⊎ (length r ≡ 32) =
@@ -220,8 +218,7 @@ first_size : (H : List ℕ → List ℕ) → HasSize H → (t : TileAt × List (
     → (b : Bool) → has_below t.0 node ≡ b → option_or (digest_of H t node) others ≡ Some d → length d ≡ 32
 first_size H gives t hashes node d others other true has is =
     let found : Some (root_below H t.1 node) ≡ Some d = rw has at is in
-    let same : root_below H t.1 node ≡ d = cc in ap length (sym same)
-    ∙ below_size H gives _ (some_hashes _ _ t.1 hashes)
+    let same : root_below H t.1 node ≡ d = cc in rw (← same) (below_size H gives _ (some_hashes _ _ t.1 hashes))
 first_size H gives t hashes node d others other false has is = other (rw has at is)
 
 digest_size : (H : List ℕ → List ℕ) → HasSize H → (tiles : Tiles)

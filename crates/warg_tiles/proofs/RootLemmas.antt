@@ -22,7 +22,7 @@ pub root_two : (H : List ℕ → List ℕ) (ds : List (List ℕ)) (left right : 
 unfolding root_within
 root_two H [] left right some few first second = absurd (omega arith)
 root_two H (d ∷ []) left right some few first second = absurd (omega arith)
-root_two H (d ∷ e ∷ []) left right some few first second = ap (λ l. branch H l right) first ∙ ap (branch H d) second
+root_two H (d ∷ e ∷ []) left right some few first second = rw first (ap (branch H d) second)
 root_two H (d ∷ e ∷ f ∷ ds) left right some few first second = absurd (omega arith)
 
 -- the root over more is the branch over the roots of both parts
@@ -42,8 +42,8 @@ root_parts H ds front rest e low high more first second =
 pub take_drop_take : (a b c : ℕ) (xs : List (List ℕ)) → a + b ≤ c → take b (drop a (take c xs)) ≡ take b (drop a xs)
 take_drop_take a b c xs fits =
     let parts : a + (c - a) ≡ c = omega arith in
-    ap (λ n. take b (drop a (take n xs))) (sym parts) ∙ ap (take b) (drop-take a (c - a) xs)
-    ∙ take-take b (c - a) (drop a xs) (omega arith)
+    rw (← parts) (ap (take b) (drop-take a (c - a) xs)
+    ∙ take-take b (c - a) (drop a xs) (omega arith))
 
 -- the root over the roots of parts, of which the last may be shorter, is the root over all
 pub roots_of_chunks : (H : List ℕ → List ℕ) (m k : ℕ) (ys xs : List (List ℕ)) → 0 < length ys → length ys ≤ 2 ^ (k + m)
@@ -66,7 +66,7 @@ roots_of_chunks H m (suc k) ys xs some most low high each = elim (cases_lt (2 ^ 
       let s = 2 ^ (k + m) in
       let whole : s ≡ 2 ^ k * p = pow-add 2 k m in
       let exponent : suc k + m ≡ suc (k + m) = omega arith in
-      let twice : 2 ^ (suc k + m) ≡ 2 * s = ap (λ n. 2 ^ n) exponent ∙ omega (arith, pow-suc 2 (k + m)) in
+      let twice : 2 ^ (suc k + m) ≡ 2 * s = rw exponent (omega (arith, pow-suc 2 (k + m))) in
       let over : 2 ^ k * p < length xs * p = omega arith in
       let under : length xs * p < (2 * 2 ^ k + 1) * p = omega arith in
       let above = lt_of_mul-lt-mul_right p over in

@@ -1,5 +1,5 @@
 -- Digests in a row whose root is that over the leaves below them are the roots of these, or two byte lists collide.
-use Rattle.std.proofs.Common.{◌≡◌, ◌⊎◌, inl, inr, ℕ, zero, suc, ◌+◌, ◌-◌, ◌*◌, ◌^◌, ◌<◌, ◌≤◌, min, List, [], length, take, drop, slice_index_or, refl, sym, ap, subst, ◌∙◌, arith}
+use Rattle.std.proofs.Common.{◌≡◌, ◌⊎◌, inl, inr, ℕ, zero, suc, ◌+◌, ◌-◌, ◌*◌, ◌^◌, ◌<◌, ◌≤◌, min, List, [], length, take, drop, slice_index_or, refl, sym, ap, ◌∙◌, arith}
 use Rattle.std.proofs.Math.Nat.{mul-le-mul_left}
 use Rattle.std.proofs.lemmas.Nat.{pow_pos, pow-add}
 use Rattle.std.proofs.lemmas.Bool.{cases_lt}
@@ -16,17 +16,17 @@ use Rattle.warg_tiles.proofs.RootLemmas as roots
 pub root_size : (H : List ℕ → List ℕ) → HasSize H → (ds : List (List ℕ)) → AreHashes ds → (a n : ℕ) → 0 < n
     → a + n ≤ length ds → length (root_over H ds a n) ≡ 32
 root_size H gives ds hashes a n some fits = elim (cases_lt 1 n) [
-  | inl more ↦ ap length (root_over_parts H ds a n more fits) ∙ gives _
+  | inl more ↦ rw (root_over_parts H ds a n more fits) (gives _)
   | inr few ↦
       let one : n ≡ 1 = omega arith in
-      ap (λ k. length (root_over H ds a k)) one ∙ ap length (root_over_one H ds a (omega arith))
-      ∙ all_at (λ (d : List ℕ). length d ≡ 32) ds a [] hashes (omega arith)
+      rw one (ap length (root_over_one H ds a (omega arith))
+      ∙ all_at (λ (d : List ℕ). length d ≡ 32) ds a [] hashes (omega arith))
 ]
 
 -- as many of the leaves as are left
 cut_short : (ys : List (List ℕ)) (a p c : ℕ) → c ≡ min p (length ys - a) → take c (drop a ys) ≡ take p (drop a ys)
 cut_short ys a p c is = elim (cases_lt p (length ys - a)) [
-  | inl less ↦ let same : c ≡ p = omega arith in ap (λ n. take n (drop a ys)) same
+  | inl less ↦ let same : c ≡ p = omega arith in rw same refl
   | inr more ↦ take_all c (drop a ys) (omega (arith, length-drop a ys))
       ∙ sym (take_all p (drop a ys) (omega (arith, length-drop a ys)))
 ]
@@ -122,6 +122,6 @@ module _ (H : List ℕ → List ℕ) (digests : GivesHashes H) (xs ys : List (Li
   row_or_collides some low high e =
       let start : 0 * 2 ^ m ≡ 0 = omega arith in
       let all : 0 + length xs ≡ length xs = omega arith in
-      subst (λ k. AreRoots 0 k ⊎ SomeCollision H (IsRowPlaced H xs (2 ^ m) ys)) all
+      rw all at
       (at_range (length xs) 0 (length xs) (length ys) (omega arith) some whole (omega arith) (omega arith) low
       (roots.whole H xs ∙ e ∙ sym (ap (λ b. root_over H ys b (length ys)) start ∙ roots.whole H ys)))

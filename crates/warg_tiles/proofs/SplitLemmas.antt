@@ -25,13 +25,13 @@ pub split_none : (n level : ℕ) (rest : List (List ℕ)) → level < 8 → n / 
     → split_into (partial_from n level) rest ≡ split_into (partial_from n (level + 1))
     (take (length rest - n / 2 ^ (8 * level) % 256) rest)
 split_none n level rest low none =
-    ap (λ l. split_into l rest) (from_none n level low none) ∙ ap (split_into (partial_from n (level + 1)))
-    (sym (nothing_cut rest (n / 2 ^ (8 * level) % 256) none).0)
+    rw (from_none n level low none) (ap (split_into (partial_from n (level + 1)))
+    (sym (nothing_cut rest (n / 2 ^ (8 * level) % 256) none).0))
 
 pub split_some : (n level : ℕ) (rest : List (List ℕ)) → level < 8 → 0 < n / 2 ^ (8 * level) % 256
     → split_into (partial_from n level) rest ≡ (last_tile n level, drop (length rest - n / 2 ^ (8 * level) % 256) rest)
     ∷ split_into (partial_from n (level + 1)) (take (length rest - n / 2 ^ (8 * level) % 256) rest)
-split_some n level rest low some = ap (λ l. split_into l rest) (from_some n level low some)
+split_some n level rest low some = rw (from_some n level low some) refl
 
 -- one level's tile more
 pub split_more : (n level : ℕ) (rest above digests : List (List ℕ)) (old new whole : Tiles) → level < 8
@@ -47,7 +47,7 @@ split_more n level rest above digests old new whole low front back none some is 
           rw (some wide, front, back) (append_assoc old _ _ ∙ ap (λ l. old ++ l) (sym (split_some n level rest low wide))
           ∙ is)
       | inr few ↦ let nought : n / 2 ^ (8 * level) % 256 ≡ 0 = omega arith in
-          rw (none nought, front) (ap (λ l. old ++ l) (sym (split_none n level rest low nought)) ∙ is)
+          rw (none nought, front, ← split_none n level rest low nought) is
     ]
 
 -- the root by the tiles from a level on
@@ -91,7 +91,7 @@ split_joined tile_of digests_of count (x ∷ xs) =
     let size : length above ≡ length (above ++ digests_of x) - (tile_of x).width =
     omega (arith, length-append above (digests_of x), count x) in
     rw (take_at above (digests_of x) _ size, drop_at above (digests_of x) _ size)
-    (ap (λ l. (tile_of x, digests_of x) ∷ l) (split_joined tile_of digests_of count xs))
+    (rw (split_joined tile_of digests_of count xs) refl)
 
 pub open_tiles : {X : Type 0} (tile_of : X → TileAt) (digests_of : X → List (List ℕ)) (xs : List X) (n : ℕ)
     (edge : List (List ℕ)) → ((x : X) → length (digests_of x) ≡ (tile_of x).width)

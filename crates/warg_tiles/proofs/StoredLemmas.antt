@@ -33,9 +33,9 @@ use Rattle.warg_tiles.proofs.OpenLemmas.{from_none, from_some}
 pub some_hashes : (a n : ℕ) (ds : List (List ℕ)) → AreHashes ds → AreHashes (take n (drop a ds))
 some_hashes a n ds all =
     let Size : List ℕ → Type 0 = λ d. length d ≡ 32 in
-    let behind = (all_parts Size (take a ds) (drop a ds) (subst AreHashes (sym (take-append-drop a ds)) all)).1 in
+    let behind = (all_parts Size (take a ds) (drop a ds) (rw (take-append-drop a ds) all)).1 in
     (all_parts Size (take n (drop a ds)) (drop n (drop a ds))
-    (subst AreHashes (sym (take-append-drop n (drop a ds))) behind)).0
+    (rw (take-append-drop n (drop a ds)) behind)).0
 
 -- a log's own digest of a tile's node that is there
 pub own_at : (H : List ℕ → List ℕ) (ds : List (List ℕ)) (t : TileAt) (i : ℕ) (d : List ℕ)
@@ -91,28 +91,38 @@ tile_collides H ds t digests x gives leaf_hashes hashes count has is =
           (sym level)))
     ]
 
+-- The places of some tiles, the digests that they have, and that these have 32 bytes.
+abbrev places_of : Tiles → List TileAt
+places_of tiles = map (λ (t : TileAt × List (List ℕ)). t.0) tiles
+
+abbrev AreCounted : Tiles → Type 0
+AreCounted tiles = AllByRecursion (λ (t : TileAt × List (List ℕ)). length t.1 ≡ t.0.width) tiles
+
+abbrev AreHashed : Tiles → Type 0
+AreHashed tiles = AllByRecursion (λ (t : TileAt × List (List ℕ)). AreHashes t.1) tiles
+
 -- the first of some tiles, by their places
-first_tile : (tiles : Tiles) (t : TileAt) (ts : List TileAt) → map (λ (t : TileAt × List (List ℕ)). t.0) tiles ≡ t ∷ ts
+first_tile : (tiles : Tiles) (t : TileAt) (ts : List TileAt) → places_of tiles ≡ t ∷ ts
     → (stored : List (List ℕ)) × (upper : Tiles) × (tiles ≡ (t, stored) ∷ upper)
-    × (map (λ (t : TileAt × List (List ℕ)). t.0) upper ≡ ts)
+    × (places_of upper ≡ ts)
 first_tile [] t ts is = cc
 first_tile ((u, stored) ∷ upper) t ts is = let first : u ≡ t = cc in
-    let others : map (λ (t : TileAt × List (List ℕ)). t.0) upper ≡ ts = cc in
-    (stored, upper, ap (λ w. (w, stored) ∷ upper) first, others)
+    let others : places_of upper ≡ ts = cc in
+    (stored, upper, rw first refl, others)
 
-no_places : (tiles : Tiles) → map (λ (t : TileAt × List (List ℕ)). t.0) tiles ≡ [] → tiles ≡ []
+no_places : (tiles : Tiles) → places_of tiles ≡ [] → tiles ≡ []
 no_places [] is = refl
 no_places (t ∷ tiles) is = cc
 
 drop_hashes : (a : ℕ) (ds : List (List ℕ)) → AreHashes ds → AreHashes (drop a ds)
 drop_hashes a ds all = (all_parts (λ (d : List ℕ). length d ≡ 32) (take a ds) (drop a ds)
-    (subst AreHashes (sym (take-append-drop a ds)) all)).1
+    (rw (take-append-drop a ds) all)).1
 
 -- the root over digests of 32 bytes has 32 bytes
 pub root_len : (H : List ℕ → List ℕ) → HasSize H → (ds : List (List ℕ)) → 0 < length ds → AreHashes ds
     → length (root_of H ds) ≡ 32
-root_len H gives ds some hashes = ap length (sym (roots.whole H ds)) ∙ root_size H gives ds hashes 0 (length ds) some
-    (omega arith)
+root_len H gives ds some hashes = rw (← roots.whole H ds) (root_size H gives ds hashes 0 (length ds) some
+    (omega arith))
 
 -- the root by tiles is there where a tile is
 root_there : (H : List ℕ → List ℕ) (behind : Option (List ℕ)) (tiles : Tiles) → 0 < length tiles → (r : List ℕ)
@@ -130,6 +140,10 @@ root_on_append H behind (t ∷ xs) ys = root_on_append H (Some (root_of H (t.1 +
 
 module _ (H : List ℕ → List ℕ) (digests : GivesHashes H) (ds : List (List ℕ)) (leaves : AreHashes ds) (n : ℕ)
     (count : length ds ≡ n) (small : n ≤ 2 ^ 63) where
+  -- That tiles are the log's own.
+  abbrev pub AreOwn : Tiles → Type 0
+  AreOwn tiles = AllByRecursion (λ t. IsTileBy (own_digest H ds) t.0 t.1) tiles
+
   -- What is behind a level's nodes has a root of 32 bytes exactly if there is anything.
   record HasBehind (level : ℕ) (behind : Option (List ℕ)) : Type 0 where
     none : n % 2 ^ (8 * level) ≡ 0 → behind ≡ None
@@ -182,9 +196,8 @@ module _ (H : List ℕ → List ℕ) (digests : GivesHashes H) (ds : List (List 
       ∙ root_if_some H ys (omega arith) in cc in
       let tile : ((i : ℕ) → i < w → slice_index_or stored i [] ≡ root_of H (take p (drop (i * p) ys)))
       → IsTileBy (own_digest H ds) (last_tile n level) stored = λ are.
-      subst (IsTileBy (own_digest H ds) (last_tile n level))
-      (sym (fill_by_all (λ i. root_of H (leaves_below (node_in (last_tile n level) i) ds)) stored w [] size
-      (λ i low. are i low ∙ sym (chunk_at H ds level m i low) ∙ digest_at_place H ds (last_tile n level) i low)))
+      rw (fill_by_all (λ i. root_of H (leaves_below (node_in (last_tile n level) i) ds)) stored w [] size
+      (λ i low. are i low ∙ sym (chunk_at H ds level m i low) ∙ digest_at_place H ds (last_tile n level) i low))
       ((own_tile H ds (last_tile n level) (omega (arith, ap (λ k. k * p) whole))).digests.0) in
       let put : (row : List (List ℕ)) → row ≡ stored ++ option_to_list behind → SomeCollision H (IsRowPlaced H row p ys)
       → SomeCollision H (IsEdgePlaced H (lower ++ (last_tile n level, stored) ∷ upper) ds) = λ row is c. record {
@@ -196,8 +209,7 @@ module _ (H : List ℕ → List ℕ) (digests : GivesHashes H) (ds : List (List 
           tile = (last_tile n level, stored);
           upper = upper;
           split = refl;
-          row = subst (λ b. IsRowPlaced H (stored ++ option_to_list b) p (drop (256 * (m / 256) * p) ds) c.first
-              c.second) made
+          row = rw made at
               (subst (λ l. IsRowPlaced H l p (drop (256 * (m / 256) * p) ds) c.first c.second) is
               (subst (λ b. IsRowPlaced H row p (drop b ds) c.first c.second) (sym start) c.placed));
         };
@@ -244,16 +256,14 @@ module _ (H : List ℕ → List ℕ) (digests : GivesHashes H) (ds : List (List 
 
   -- from a level on
   from_level : (k level : ℕ) (lower tiles : Tiles) (behind : Option (List ℕ)) → level + k ≡ 8
-      → map (λ (t : TileAt × List (List ℕ)). t.0) tiles ≡ partial_from n level
-      → AllByRecursion (λ (t : TileAt × List (List ℕ)). length t.1 ≡ t.0.width) tiles
-      → AllByRecursion (λ (t : TileAt × List (List ℕ)). AreHashes t.1) tiles
-      → HasBehind level behind → behind ≡ root_on H None lower → root_on H behind tiles ≡ root_if H ds
-      → (AllByRecursion (λ (t : TileAt × List (List ℕ)). IsTileBy (own_digest H ds) t.0 t.1) tiles
-      × (behind ≡ own_behind level)) ⊎ SomeCollision H (IsEdgePlaced H (lower ++ tiles) ds)
+      → places_of tiles ≡ partial_from n level
+      → AreCounted tiles → AreHashed tiles → HasBehind level behind → behind ≡ root_on H None lower
+      → root_on H behind tiles ≡ root_if H ds
+      → (AreOwn tiles × (behind ≡ own_behind level)) ⊎ SomeCollision H (IsEdgePlaced H (lower ++ tiles) ds)
   from_level zero level lower [] behind last places counts hashes has made e =
       inl (tt, e ∙ sym (root_end H ds n level small (omega arith)))
   from_level zero level lower (t ∷ tiles) behind last places counts hashes has made e =
-      let eight : level ≡ 8 = omega arith in let none : t.0 ∷ map (λ (t : TileAt × List (List ℕ)). t.0) tiles ≡ [] =
+      let eight : level ≡ 8 = omega arith in let none : t.0 ∷ places_of tiles ≡ [] =
       places ∙ ap (partial_from n) eight in cc
   from_level (suc k) level lower tiles behind last places counts hashes has made e =
       elim (cases_lt 0 (n / 2 ^ (8 * level) % 256)) [
@@ -282,11 +292,9 @@ module _ (H : List ℕ → List ℕ) (digests : GivesHashes H) (ds : List (List 
             let next = behind_next level in
             let (stored, upper, split, above) = first_tile tiles (last_tile n level) (partial_from n (level + 1))
             (places ∙ from_some n level (omega arith) some) in
-            let P : Tiles → Type 0 = λ tiles. AllByRecursion (λ (t : TileAt × List (List ℕ)). length t.1 ≡ t.0.width) tiles
-            → AllByRecursion (λ (t : TileAt × List (List ℕ)). AreHashes t.1) tiles → root_on H behind tiles
-            ≡ root_if H ds
-            → (AllByRecursion (λ (t : TileAt × List (List ℕ)). IsTileBy (own_digest H ds) t.0 t.1) tiles
-            × (behind ≡ own_behind level)) ⊎ SomeCollision H (IsEdgePlaced H (lower ++ tiles) ds) in
+            let P : Tiles → Type 0 = λ tiles. AreCounted tiles → AreHashed tiles
+            → root_on H behind tiles ≡ root_if H ds
+            → (AreOwn tiles × (behind ≡ own_behind level)) ⊎ SomeCollision H (IsEdgePlaced H (lower ++ tiles) ds) in
             let at : P ((last_tile n level, stored) ∷ upper) = λ counts hashes e.
             let root = root_of H (stored ++ option_to_list behind) in
             let tile : TileAt × List (List ℕ) = (last_tile n level, stored) in
@@ -297,10 +305,8 @@ module _ (H : List ℕ → List ℕ) (digests : GivesHashes H) (ds : List (List 
             let above_has : HasBehind (level + 1) (Some root) =
             record { none = λ is. absurd (omega arith); some = λ more. (root, refl, size) } in
             elim (from_level k (level + 1) (lower ++ tile ∷ []) upper (Some root) (omega arith) above counts.1 hashes.1
-            above_has (ap (λ b. Some (root_of H (stored ++ option_to_list b))) made
-            ∙ sym (root_on_append H None lower (tile ∷ []))) e) [
-              | inr collision ↦ inr (subst (λ l. SomeCollision H (IsEdgePlaced H l ds))
-                  (append_assoc lower (tile ∷ []) upper) collision)
+            above_has (rw made (sym (root_on_append H None lower (tile ∷ [])))) e) [
+              | inr collision ↦ inr (rw (append_assoc lower (tile ∷ []) upper) at collision)
               | inl own ↦ elim (at_tile level stored behind lower upper (omega arith) some counts.0 hashes.0 has made own.1) [
                 | inr collision ↦ inr collision
                 | inl here ↦ inl ((here.0, own.0), here.1)
@@ -323,7 +329,7 @@ module _ (H : List ℕ → List ℕ) (digests : GivesHashes H) (ds : List (List 
     )
   ]
 
-  some_tiles : (tiles : Tiles) → map (λ (t : TileAt × List (List ℕ)). t.0) tiles ≡ partial_tiles n → 0 < n
+  some_tiles : (tiles : Tiles) → places_of tiles ≡ partial_tiles n → 0 < n
       → 0 < length tiles
   some_tiles [] places some = let all : n / 2 ^ (8 * 0) ≡ n = omega arith in
       omega (arith, none_left 8 0 (omega arith) (sym places))
@@ -331,12 +337,12 @@ module _ (H : List ℕ → List ℕ) (digests : GivesHashes H) (ds : List (List 
 
   -- partial tiles that lead to the root of a log are the log's own
   pub edge_collides : (tiles : Tiles) → ArePartialTiles n tiles → root_by_tiles H tiles ≡ root_of H ds
-      → AllByRecursion (λ t. IsTileBy (own_digest H ds) t.0 t.1) tiles ⊎ SomeCollision H (IsEdgePlaced H tiles ds)
+      → AreOwn tiles ⊎ SomeCollision H (IsEdgePlaced H tiles ds)
   edge_collides tiles are e = elim (cases_lt 0 n) [
     | inr none ↦
         let empty : n ≡ 0 = omega arith in
         let nothing : tiles ≡ [] = no_places tiles (are.places ∙ ap partial_tiles empty) in
-        inl (subst (λ tiles. AllByRecursion (λ t. IsTileBy (own_digest H ds) t.0 t.1) tiles) (sym nothing) tt)
+        inl (rw nothing tt)
     | inl some ↦
         let whole : n % 2 ^ (8 * 0) ≡ 0 = omega arith in
         let (r, is) = root_there H None tiles (some_tiles tiles are.places some) in

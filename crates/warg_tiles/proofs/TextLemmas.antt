@@ -1,5 +1,5 @@
 -- Checkpoint texts, line by line.
-use Rattle.std.proofs.Common.{◌≡◌, ◌≢◌, ℕ, ◌+◌, ◌*◌, ◌/◌, ◌%◌, ◌^◌, ◌<◌, ◌≤◌, ◌==◌, false, List, [], ◌∷◌, ◌++◌, length, get_or, map, take, replicate, Option, Some, None, Result, Ok, Err, Bor, refl, sym, ap, subst, ◌∙◌, inl, inr, arith}
+use Rattle.std.proofs.Common.{◌≡◌, ◌≢◌, ℕ, ◌+◌, ◌*◌, ◌/◌, ◌%◌, ◌^◌, ◌<◌, ◌≤◌, ◌==◌, false, List, [], ◌∷◌, ◌++◌, length, get_or, map, take, replicate, Option, Some, None, Result, Ok, Err, Bor, refl, sym, ap, ◌∙◌, inl, inr, arith}
 use Rattle.std.specs.List.{AllByRecursion, list_any}
 use Rattle.std.proofs.lemmas.Bool.{cases_lt, true≢false}
 use Rattle.std.proofs.lemmas.List.Elements.{All-get_or, All-from_get_or, All-replicate, recursion_from_All}
@@ -8,7 +8,7 @@ use Rattle.warg_protobuf.proofs.ForCallers.{all_append, all_push}
 use Rattle.std.specs.Fmt.{decimal}
 use Rattle.std.proofs.lemmas.Fmt.{decimal_injective}
 use Rattle.std.specs.Str.{IsUtf8}
-use Rattle.std.specs.Prelude.{MatchResult, IfOk, IfErr, OnOk, IsOk, IsErr, IsErrAnd, ◌↔◌}
+use Rattle.std.specs.Prelude.{MatchResult, IfOk, OnOk, IsOk, IsErr, ◌↔◌}
 use Rattle.std.specs.Result.{result_ok}
 use Rattle.std.proofs.lemmas.List.{append_assoc, append-nil, get_or_past, length-append, length-replicate, map_more}
 use Rattle.base64.specs.Engines.{standard}
@@ -18,7 +18,7 @@ use Rattle.base64.proofs.EngineFacts.{decode_of-encode_of, decode_of_strict, fro
 use Rattle.base64.proofs.RoundTrip.{length-encode_symbols}
 use Rattle.warg_crypto.specs.Digests.{IsDigest, IsByte}
 use Rattle.warg_tiles.specs.CheckpointText.{Said, HasNoNewline, IsLine, CanBeSaid, line, length_line, root_line, lines, behind, text_before}
-use Rattle.warg_tiles.specs.CheckpointFaults.{HasLength, HasRoot, IsFirstFault}
+use Rattle.warg_tiles.specs.CheckpointFaults.{HasOrigin, HasLength, HasRoot, IsFirstFault}
 use Rattle.warg_tiles.specs.Private.Texts.{IsExtensionFault}
 use Rattle.warg_tiles.specs.declared.error.CheckpointTextError.{CheckpointTextError}
 use Rattle.warg_tiles.specs.declared.error.CheckpointTextError.TheVariants.{Origin, Length, Root, Extension, Memory}
@@ -105,8 +105,7 @@ not_utf8 P Q bytes (Err e) o cases is none = cases.0
 pub text_read : {E : Type 0} (P : Bor (List ℕ) → Type 0) (Q : E → Type 0) (bytes : List ℕ) (r : Result (Bor (List ℕ)) E)
     (o : Option (Bor (List ℕ))) (t : Bor (List ℕ)) → MatchResult r (λ s. (s.now ≡ bytes) × P s) Q → o ≡ result_ok r
     → o ≡ Some t → t.now ≡ bytes
-text_read P Q bytes (Ok s) o t cases is some = let e : s ≡ t = cc (is, some) in ap (λ (b : Bor (List ℕ)). b.now) (sym e)
-    ∙ cases.0
+text_read P Q bytes (Ok s) o t cases is some = let e : s ≡ t = cc (is, some) in rw (← e) cases.0
 text_read P Q bytes (Err e) o t cases is some = let f = sym is ∙ some in cc f
 
 -- the number in decimal on a line is in its bytes alone
@@ -130,7 +129,7 @@ root_line_is bytes text rest more root none is digest other =
         digest.has_32,
         length-replicate {A = ℕ} (padding_len (length root)) 61,
       ),
-      ap (decode_of standard) same ∙ decode_of-encode_of standard root refl (digest_bytes root digest),
+      rw same (decode_of-encode_of standard root refl (digest_bytes root digest)),
     )
 
 -- a text that was decoded is the base64 of what it gave
@@ -138,7 +137,7 @@ pub root_read : (bytes text rest decoded root : List ℕ) → IsBytes bytes → 
     → decode_of standard text ≡ Ok decoded → root ≡ decoded → bytes ≡ root_line root rest
 root_read bytes text rest decoded root all front is same =
     front ∙ ap (λ l. line l rest) (decode_of_strict standard text decoded (refl, refl)
-    (front_bytes text (10 ∷ rest) (subst IsBytes front all)) is ∙ ap (encode_of standard) (sym same))
+    (front_bytes text (10 ∷ rest) (rw front at all)) is ∙ ap (encode_of standard) (sym same))
 
 -- what is read as a hash
 pub hash_read : {E : Type 0} (r : Result (List ℕ) E) (o : Option (List ℕ)) (root items : List ℕ)
@@ -163,7 +162,7 @@ decoded_length r root decoded one two is = let e = sym one ∙ two in let same :
 lines-append : (xs : List (List ℕ)) (rest : List ℕ) → lines xs rest ≡ lines xs [] ++ rest
 unfolding lines
 lines-append [] rest = refl
-lines-append (x ∷ xs) rest = ap (line x) (lines-append xs rest) ∙ sym (append_assoc x (10 ∷ lines xs []) rest)
+lines-append (x ∷ xs) rest = rw (lines-append xs rest) (sym (append_assoc x (10 ∷ lines xs []) rest))
 
 -- one line more behind lines
 pub lines-last : (xs : List (List ℕ)) (x rest : List ℕ) → lines (xs ++ x ∷ []) rest ≡ lines xs (line x rest)
@@ -252,84 +251,63 @@ text_once s t a b p q e =
     let two = length_once s.length t.length _ _ p.length q.length one.1 in
     let three = root_once s.root t.root _ _ p.root q.root two.1 in
     let four = lines_once s.extensions t.extensions a b p.extensions q.extensions three.1 in (
-      ap (λ o. record s { origin = o }) one.0 ∙ ap (λ n. record s { origin = t.origin; length = n }) two.0
+      rw one.0 (ap (λ n. record s { origin = t.origin; length = n }) two.0
           ∙ ap (λ r. record s { origin = t.origin; length = t.length; root = r }) three.0
-          ∙ ap (λ x. record t { extensions = x }) four.0,
+          ∙ ap (λ x. record t { extensions = x }) four.0),
       four.1,
     )
-
--- an error that is handed on
-pub err_same : {X E : Type 0} (P : E → Type 0) (e : E) (r : Result X E) → IsErrAnd r (λ f. f ≡ e) → P e → IfErr r P
-err_same P e (Ok x) is holds = tt
-err_same P e (Err f) is holds = subst P (sym is) holds
 
 pub err_on_ok : {X E : Type 0} (r : Result X E) (P : Type 0) → IsErr r → OnOk r P
 err_on_ok (Ok x) P is = cc
 err_on_ok (Err e) P is = tt
 
 -- no length's line is behind an origin's
-pub no_length : (bytes origin rest : List ℕ) → IsLine origin → bytes ≡ line origin rest
-    → ((n : ℕ) (more : List ℕ) → n ≤ 2 ^ 63 → rest ≢ length_line n more) → HasLength bytes → ⊥
-no_length bytes origin rest is first none h =
-    let behind_origin = (line_once h.0 (length_line h.1 h.2) origin rest h.3.no_newline is.no_newline
-    (sym h.5 ∙ first)).1 in
-    none h.1 h.2 h.4 (sym behind_origin)
+pub no_length : {bytes : List ℕ} (own : HasOrigin bytes)
+    → ((n : ℕ) (more : List ℕ) → n ≤ 2 ^ 63 → own.1 ≢ length_line n more) → HasLength bytes → ⊥
+no_length own none h =
+    let after = (line_once h.0 (length_line h.1 h.2) own.0 own.1 h.3.no_newline own.2.no_newline (sym h.5 ∙ own.3)).1 in
+    none h.1 h.2 h.4 (sym after)
 
 -- no root's line is behind a length's
-pub no_root : (bytes origin rest more : List ℕ) (length : ℕ) → IsLine origin → bytes ≡ line origin rest
-    → length ≤ 2 ^ 63 → rest ≡ length_line length more
-    → ((root last : List ℕ) → IsDigest root → more ≢ root_line root last) → HasRoot bytes → ⊥
-no_root bytes origin rest more length is first most second none h =
-    let behind_origin = (line_once h.0 (length_line h.1 (root_line h.2 h.3)) origin rest h.4.no_newline is.no_newline
-    (sym h.7 ∙ first)).1 in
-    none h.2 h.3 h.6 (sym (length_once h.1 length _ more h.5 most (behind_origin ∙ second)).1)
+pub no_root : {bytes : List ℕ} (own : HasLength bytes)
+    → ((root last : List ℕ) → IsDigest root → own.2 ≢ root_line root last) → HasRoot bytes → ⊥
+no_root own none h =
+    let after = (line_once h.0 _ own.0 _ h.4.no_newline own.3.no_newline (sym h.7 ∙ own.5)).1 in
+    none h.2 h.3 h.6 (sym (length_once h.1 own.1 _ own.2 h.5 own.4 after).1)
 
 -- a text of these parts has no fault
-pub only_memory : {X : Type 0} (bytes origin rest more root last : List ℕ) (length : ℕ) → IsLine origin
-    → bytes ≡ line origin rest → length ≤ 2 ^ 63 → rest ≡ length_line length more
-    → IsDigest root → more ≡ root_line root last → (e : CheckpointTextError) (r : Result X CheckpointTextError)
-    → r ≡ Err e
-    → (r ≡ Err Origin → ⊥) → (r ≡ Err Length → ⊥) → (r ≡ Err Root → ⊥) → (r ≡ Err Extension → ⊥) → IsFirstFault bytes e
-only_memory bytes origin rest more root last length is first most second digest third Origin r of a b c d =
-    absurd (a of)
-only_memory bytes origin rest more root last length is first most second digest third Length r of a b c d =
-    absurd (b of)
-only_memory bytes origin rest more root last length is first most second digest third Root r of a b c d = absurd (c of)
-only_memory bytes origin rest more root last length is first most second digest third Extension r of a b c d =
-    absurd (d of)
-only_memory bytes origin rest more root last length is first most second digest third Memory r of a b c d =
-    (origin, length, root, last, is, most, digest, first ∙ ap (line origin) (second ∙ ap (length_line length) third))
+pub only_memory : {X : Type 0} {bytes : List ℕ} → HasRoot bytes → (e : CheckpointTextError)
+    (r : Result X CheckpointTextError) → r ≡ Err e → (r ≡ Err Origin → ⊥) → (r ≡ Err Length → ⊥) → (r ≡ Err Root → ⊥)
+    → (r ≡ Err Extension → ⊥) → IsFirstFault bytes e
+only_memory own Origin r of a b c d = absurd (a of)
+only_memory own Length r of a b c d = absurd (b of)
+only_memory own Root r of a b c d = absurd (c of)
+only_memory own Extension r of a b c d = absurd (d of)
+only_memory own Memory r of a b c d = own
 
 -- what is behind the root's line is no further lines
-pub no_extensions : (bytes origin rest more root last : List ℕ) (length : ℕ) → IsLine origin → bytes ≡ line origin rest
-    → length ≤ 2 ^ 63 → rest ≡ length_line length more
-    → IsDigest root → more ≡ root_line root last → (e : CheckpointTextError) → IsExtensionFault last e
+pub no_extensions : {bytes : List ℕ} (own : HasRoot bytes) (e : CheckpointTextError) → IsExtensionFault own.3 e
     → IsFirstFault bytes e
-no_extensions bytes origin rest more root last length is first most second digest third Extension fault =
-    let whole : bytes ≡ line origin (length_line length (root_line root last)) = first
-    ∙ ap (line origin) (second ∙ ap (length_line length) third) in (
-      (origin, length, root, last, is, most, digest, whole),
-      λ h.
-          let one = (line_once h.0.origin _ origin _ h.2.origin.no_newline is.no_newline (sym h.3 ∙ whole)).1 in
-          let two = (length_once h.0.length length _ _ h.2.length most one).1 in
-          fault h.0.extensions h.1 h.2.extensions (sym (root_once h.0.root root _ _ h.2.root digest two).1),
-    )
-no_extensions bytes origin rest more root last length is first most second digest third Memory fault =
-    (origin, length, root, last, is, most, digest, first ∙ ap (line origin) (second ∙ ap (length_line length) third))
-no_extensions bytes origin rest more root last length is first most second digest third Origin fault = absurd fault
-no_extensions bytes origin rest more root last length is first most second digest third Length fault = absurd fault
-no_extensions bytes origin rest more root last length is first most second digest third Root fault = absurd fault
+no_extensions own Extension fault = (
+  own,
+  λ h.
+      let one = (line_once h.0.origin _ own.0 _ h.2.origin.no_newline own.4.no_newline (sym h.3 ∙ own.7)).1 in
+      let two = (length_once h.0.length own.1 _ _ h.2.length own.5 one).1 in
+      fault h.0.extensions h.1 h.2.extensions (sym (root_once h.0.root own.2 _ _ h.2.root own.6 two).1),
+)
+no_extensions own Memory fault = own
+no_extensions own Origin fault = absurd fault
+no_extensions own Length fault = absurd fault
+no_extensions own Root fault = absurd fault
 
 -- the text of these parts and further lines
-pub said_before : (bytes origin rest more root last : List ℕ) (length : ℕ) → IsLine origin → bytes ≡ line origin rest
-    → length ≤ 2 ^ 63 → rest ≡ length_line length more
-    → IsDigest root → more ≡ root_line root last → (text said : Said) (rest_of : Option (List ℕ))
-    → text ≡ record { origin = origin; length = length; root = root; extensions = [] } → (ls : List (List ℕ))
+pub said_before : {bytes : List ℕ} (own : HasRoot bytes) {text said : Said} (rest : Option (List ℕ))
+    → text ≡ record { origin = own.0; length = own.1; root = own.2; extensions = [] } → (ls : List (List ℕ))
     × AllByRecursion IsLine ls × (said ≡ record text { extensions = text.extensions ++ ls })
-    × (last ≡ lines ls (behind rest_of))
-    → CanBeSaid said × (bytes ≡ text_before said rest_of)
-said_before bytes origin rest more root last length is first most second digest third text said rest_of made h =
+    × (own.3 ≡ lines ls (behind rest))
+    → CanBeSaid said × (bytes ≡ text_before said rest)
+said_before own rest made h =
     rw (h.2, made) (
-      record { origin = is; length = most; root = digest; extensions = h.1 },
-      first ∙ ap (line origin) (second ∙ ap (length_line length) (third ∙ ap (root_line root) h.3)),
+      record { origin = own.4; length = own.5; root = own.6; extensions = h.1 },
+      own.7 ∙ ap (λ l. line own.0 (length_line own.1 (root_line own.2 l))) h.3,
     )

@@ -30,7 +30,7 @@ complete : (g : _) (c : After-commit_with g) → g.F.Folder.IsFaithful → {serv
 complete g c faithful {served} {old} {next} has is fresh =
     let all = next_has g.F.Folder is (c.in_ok-put_all.ensures.put faithful served old _
     (c.in_ok-push_all.ensures.pushed faithful served old old has) fresh) in
-    let lines = is.lines ∙ sym (ap items_of c.as_slice.ensures.value ∙ c.in_ok-lines.ensures.lines) in (
+    let lines = is.lines ∙ sym (rw c.as_slice.ensures.value c.in_ok-lines.ensures.lines) in (
       all,
       lines,
       λ run. commit_then g.F.Folder g.met.F.Folder.counts_now g.met.F.Folder.seen_may_stay run has.keeps

@@ -1,10 +1,9 @@
-use Rattle.std.proofs.Common.{◌≡◌, ◌<◌, ◌+◌, ◌^◌, ◌∷◌, ◌++◌, List, ℕ, Err, true≢false, length, map, take, sym, ap, subst, ◌∙◌, arith}
+use Rattle.std.proofs.Common.{◌≡◌, ◌<◌, ◌+◌, ◌^◌, ◌∷◌, ◌++◌, List, ℕ, Err, true≢false, length, map, take, sym, ap, ◌∙◌, arith}
 use Rattle.std.specs.declared.alloc.Global.{Global}
 use Rattle.std.specs.declared.vec.Vec.{Vec}
 use Rattle.std.proofs.lemmas.List.{take_all, length-append, length-map, length-take-le}
 use Rattle.warg_crypto.specs.Digests.{sha256}
-use Rattle.warg_store.specs.Growing.{Has}
-use Rattle.warg_store.specs.Log.{LogOf, AreShort}
+use Rattle.warg_store.specs.Log.{AreShort}
 use Rattle.warg_registry.specs.Folder.{with_entries}
 use Rattle.warg_registry.proofs.RegistryGrowth.{pushed_more, no_entries_more}
 use Rattle.warg_registry.proofs.FolderMoments.{stages_none, beside_then}
@@ -16,7 +15,7 @@ pub entries-init : goal.entries-init
 entries-init g c =
     let dev = g.F.Folder in record {
       pushed = λ faithful served old next has.
-          subst (λ (n : LogOf). Has dev.seen dev.may_leave served old n c.args.log.now) (no_entries_more next) has;
+          rw (no_entries_more next) at has;
       ready = λ faithful. c.requires faithful;
       moments = λ faithful served old next has.
           stages_none g.F.Folder (g.met.F.Folder.only_now c.args.log.now.folder) has.staging;
@@ -39,7 +38,7 @@ entries-preserved g c =
           let taken = items_of (take c.entries.entry-index c.args.entries.now) in
           let more = pushed_more (λ (e : Vec ℕ Global). e.items) next c.args.entries.now c.entries.entry-index
           c.entry-item.result c.as_slice.result.now (omega arith) c.entry-item.is c.as_slice.ensures.value in
-          subst (λ (n : LogOf). Has dev.seen dev.may_leave served old n c.push.new.self) (sym more)
+          rw more
           (c.in_ok-push.ensures.pushed faithful served old (with_entries next taken)
           (c.entries.invariant.pushed faithful served old next has));
       ready = λ faithful. c.push.ensures.ready faithful;
@@ -55,8 +54,7 @@ returns-clause-pushed g c = λ faithful served old next has.
     let dev = g.F.Folder in
     let all : take c.entries.entry-index c.args.entries.now ≡ c.args.entries.now =
     take_all c.entries.entry-index c.args.entries.now (omega arith) in
-    subst (λ (l : List (Vec ℕ Global)). Has dev.seen dev.may_leave served old
-    (with_entries next (map (λ e. e.items) l)) c.entries.log) all
+    rw all at
     (c.entries.invariant.pushed faithful served old next has)
 
 pub returns-clause-ready : goal.returns-clause-ready

@@ -1,8 +1,5 @@
-use Rattle.std.proofs.Common.{◌≡◌, List, take, refl, sym, subst, ◌∙◌, arith}
+use Rattle.std.proofs.Common.{◌≡◌, take, refl, ◌∙◌, arith}
 use Rattle.std.proofs.lemmas.List.{take_all}
-use Rattle.warg_pages.specs.ChangedPages.{ChangedPageAt}
-use Rattle.warg_store.specs.Growing.{Has}
-use Rattle.warg_store.specs.Log.{LogOf}
 use Rattle.warg_registry.specs.Folder.{with_pages, files_of}
 use Rattle.warg_registry.proofs.RegistryGrowth.{put_more, put_fresh}
 use Rattle.warg_registry.proofs.FolderMoments.{stages_none, beside_then}
@@ -37,7 +34,7 @@ pages-preserved g c =
           let next_put = with_pages next (files_of (take i changed)) in
           let more = put_more next changed i c.page-item.result (omega arith) c.page-item.is in
           let free = put_fresh served old next changed i c.page-item.result (omega arith) c.page-item.is fresh in
-          subst (λ (n : LogOf). Has dev.seen dev.may_leave served old n c.put_one.new.log) (sym more)
+          rw more
           (c.in_ok-put_one.ensures.put faithful served old next_put
           (c.pages.invariant.put faithful served old next has fresh) free);
       ready = λ faithful. c.put_one.ensures.ready faithful;
@@ -54,8 +51,7 @@ returns-clause-put g c = λ faithful served old next has fresh.
     let dev = g.F.Folder in
     let all : take c.pages.page-index c.args.changed.now ≡ c.args.changed.now =
     take_all c.pages.page-index c.args.changed.now (omega arith) in
-    subst (λ (l : List ChangedPageAt). Has dev.seen dev.may_leave served old (with_pages next (files_of l)) c.pages.log)
-    all (c.pages.invariant.put faithful served old next has fresh)
+    rw all at (c.pages.invariant.put faithful served old next has fresh)
 
 pub returns-clause-ready : goal.returns-clause-ready
 returns-clause-ready g c = c.pages.invariant.ready

@@ -1,5 +1,4 @@
-use Rattle.std.proofs.Common.{◌≡◌, sym, subst, ◌∙◌, arith}
-use Rattle.std.specs.Str.{IsUtf8}
+use Rattle.std.proofs.Common.{◌≡◌, sym, ◌∙◌, arith}
 use Rattle.std.specs.Fmt.{decimal}
 use Rattle.std.proofs.lemmas.Fmt.{decimal_injective, IsAscii-decimal}
 use Rattle.std.proofs.lemmas.Str.{IsUtf8-from_ascii}
@@ -16,7 +15,7 @@ returns-in_err-ok c =
     let at = decimal_line c.args.bytes.now c.in_ok-line.line.now c.in_ok-line.rest.now rest n c.in_ok-line.ensures.0
     c.in_ok-line.ensures.1 most is in
     not_utf8 _ _ c.in_ok-line.line.now c.from_utf8.result c.ok.result c.from_utf8.ensures.cases c.ok.ensures.value
-    c.in_err-ok.was (subst IsUtf8 (sym at) (IsUtf8-from_ascii (decimal n) (IsAscii-decimal n (omega arith)))))
+    c.in_err-ok.was (rw at (IsUtf8-from_ascii (decimal n) (IsAscii-decimal n (omega arith)))))
 
 pub returns-in_err-length : goal.returns-in_err-length
 returns-in_err-length c =

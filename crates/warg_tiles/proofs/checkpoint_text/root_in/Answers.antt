@@ -1,7 +1,6 @@
-use Rattle.std.proofs.Common.{sym, ◌∙◌, subst, arith}
+use Rattle.std.proofs.Common.{sym, ◌∙◌, arith}
 use Rattle.base64.specs.Engines.{standard}
 use Rattle.base64.specs.GeneralPurpose.{encode_of}
-use Rattle.warg_crypto.specs.Digests.{IsDigest}
 use Rattle.warg_tiles.proofs.TextLemmas.{no_line, root_line_is, root_read, decoded_length, hash_read, hash_unread}
 use Rattle.warg_tiles.proofs.checkpoint_text.root_in.Goals as goal
 
@@ -36,7 +35,7 @@ pub returns : goal.returns
 returns g c =
     let read = hash_read c.try_from.result c.ok.result c.in_ok-root.root _ c.try_from.ensures.ok
     c.try_from.ensures.exactly c.ok.ensures.value c.in_ok-root.was in (
-      subst IsDigest c.bytes-digest.ensures.value c.bytes-digest.ensures.digest,
+      rw c.bytes-digest.ensures.value at c.bytes-digest.ensures.digest,
       root_read c.args.bytes.now c.in_ok-line.line.now c.in_ok-line.rest.now _ c.in_ok-root.root
           (λ i. let f = c.type_inv.bytes i in omega arith) c.in_ok-line.ensures.1 c.in-Ok.ensures.ok.0 read.0,
     )

@@ -3,7 +3,7 @@ use Rattle.std.proofs.lemmas.Result.{IfErr-weaker, on_ok_weaker}
 use Rattle.warg_protobuf.specs.Decoding.{earlier}
 use Rattle.warg_tiles.specs.TileLog.{tiles_fault}
 use Rattle.warg_tiles.specs.Private.Edges.{partial_from}
-use Rattle.warg_tiles.proofs.TextLemmas.{err_same}
+use Rattle.warg_tiles.proofs.ForCallers.{err_same}
 use Rattle.warg_tiles.proofs.OpenLemmas.{from_none, fault_step, fault_missing}
 use Rattle.warg_tiles.proofs.tile_log.+check_tiles.Goals as goal
 

@@ -1,7 +1,7 @@
-use Rattle.std.proofs.Common.{◌≡◌, length, refl, sym, ap, subst, ◌∙◌}
+use Rattle.std.proofs.Common.{◌≡◌, length, refl, ap, ◌∙◌}
 use Rattle.std.proofs.lemmas.List.{length-map}
 use Rattle.warg_tiles.specs.CheckpointText.{Said}
-use Rattle.warg_registry.specs.Folder.{registry_of, HasRegistry, RegistryIn}
+use Rattle.warg_registry.specs.Folder.{registry_of}
 use Rattle.warg_registry.proofs.Refused.{told_as}
 use Rattle.warg_registry.specs.Insertions.{entry_of}
 use Rattle.warg_registry.proofs.MapLines.{own_root, root_of_map}
@@ -13,8 +13,7 @@ returns-clause-has g c = λ faithful origin served kept has.
     let found = c.in_ok-log.ensures.has faithful (registry_of origin served) (registry_of origin kept) has in
     let counts : c.in_ok-log.log.edge.len ≡ length kept = c.in_ok-log.ensures.all
     ∙ ap (λ (t : Said). t.length) found.text ∙ length-map kept entry_of in
-    subst (λ (r : RegistryIn g.row.F.Denot). HasRegistry dev.seen dev.may_leave origin served kept r)
-    (sym c.with.ensures)
+    rw c.with.ensures
     (record {
       takes = refl;
       log = found;

@@ -114,5 +114,5 @@ returns-in_err-grow-clause-refusal g c = λ faithful origin served kept has.
     let full : Type 0 = CanBeKept N → ⊥ in
     let e = c.in_err-grow.field-0.0 in
     told_as _ _ _ c.from_residual-in_err-grow.ensures.1 (refused_for _ full _ full e
-    (subst long (ap items_of c.as_slice.ensures.value ∙ c.in_ok-entries.ensures.made)) (λ n. n)
+    (subst long (rw c.as_slice.ensures.value c.in_ok-entries.ensures.made)) (λ n. n)
     (c.in_err-grow.ensures.refused faithful _ _ _ is.at is.next is.fresh))

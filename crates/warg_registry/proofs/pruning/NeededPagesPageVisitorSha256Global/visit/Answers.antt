@@ -1,11 +1,7 @@
-use Rattle.std.proofs.Common.{⊎_elim, [], ◌∷◌, List, inl, inr, sym, ap, subst, ◌∙◌}
+use Rattle.std.proofs.Common.{⊎_elim, [], ◌∷◌, inl, inr, sym, ap, ◌∙◌}
 use Rattle.std.proofs.lemmas.List.Elements.{Contains-append_cases, Contains-append_left, Contains-append_right}
-use Rattle.std.specs.List.{Contains}
-use Rattle.std.specs.declared.alloc.Global.{Global}
-use Rattle.std.specs.declared.string.String.{String}
 use Rattle.warg_pages.specs.ChangedPages.{ChangedPageAt}
 use Rattle.warg_pages.specs.PagePaths.{page_path}
-use Rattle.warg_registry.specs.Pruning.{bytes_of}
 use Rattle.warg_registry.proofs.Listed.{of_one, first_there}
 use Rattle.warg_registry.proofs.Pruned.{name_there, name_from, same_names}
 use Rattle.warg_registry.proofs.pruning.NeededPagesPageVisitorSha256Global.visit.Goals as goal
@@ -16,7 +12,7 @@ returns c = λ pages named.
     let keys = c.args.self.now.names.keys in (
       λ p there.
           let n = page_path p.prefix p.version in
-          subst (λ (ks : List (String Global)). Contains (bytes_of ks) n) (sym c.in_ok-insert.ensures.keys)
+          rw c.in_ok-insert.ensures.keys
           (name_there _ same_names keys c.in_ok-page_path.field-0 n (⊎_elim (λ old. inl (named.0 p old))
           (λ new. inr (c.in_ok-page_path.ensures
           ∙ ap (λ (q : ChangedPageAt). page_path q.prefix q.version) (of_one r p new)))
@@ -26,5 +22,5 @@ returns c = λ pages named.
           (from.0, Contains-append_left pages (r ∷ []) from.0 from.1, from.2))
           (λ new. (r, Contains-append_right pages (r ∷ []) r (first_there [] r), sym c.in_ok-page_path.ensures ∙ new))
           (name_from _ keys c.in_ok-page_path.field-0 n
-          (subst (λ (ks : List (String Global)). Contains (bytes_of ks) n) c.in_ok-insert.ensures.keys is)),
+          (rw c.in_ok-insert.ensures.keys at is)),
     )

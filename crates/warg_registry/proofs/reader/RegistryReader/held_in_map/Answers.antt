@@ -19,7 +19,7 @@ returns-clause-whole g c = λ faithful root all led.
     let P : ℕ → Type 0 = λ n. AreAllInFiles (g.F.Folder.seen log.folder) root n all in
     c.or_refusal.ensures.whole (none_led _ c.held_in_pages-led.ensures.refused (λ refused.
     refused (at_served g.F.Folder log) root all (was.known faithful) refl
-    (subst P (sym c.version-version.ensures) led)))
+    (rw c.version-version.ensures led)))
 
 pub returns-clause-same : goal.returns-clause-same
 returns-clause-same g c =

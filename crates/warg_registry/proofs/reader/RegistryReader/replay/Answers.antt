@@ -56,8 +56,7 @@ returns-in_err-replay_bundle-clause-whole g c = λ faithful insertions all has.
     let first = c.args.self.now in
     let was = c.bundles.invariant in
     let log = registry_of has.origin insertions in
-    let size : first.log.text.length ≡ length insertions = ap (λ (t : Said). t.length) has.reads.reads.text
-    ∙ length-map insertions entry_of in
+    let size : first.log.text.length ≡ length insertions = rw has.reads.reads.text (length-map insertions entry_of) in
     let long : c.length-2.result ≡ first.log.text.length =
     c.length-2.ensures ∙ ap (λ (k : RootAndLength). k.length) c.checkpoint.ensures in
     let inside : 256 * c.bundles.bundle < length insertions =

@@ -1,8 +1,7 @@
 use Rattle.std.proofs.Common.{◌≡◌, ◌≤◌, ◌+◌, ◌*◌, ◌++◌, [], ◌∷◌, ℕ, List, Vec, Global, length, refl, sym, ap, subst, ◌∙◌, arith, append_assoc}
 use Rattle.std.proofs.lemmas.List.{map-append, append-nil, length-map, take_all}
-use Rattle.std.specs.Prelude.{slice_get}
 use Rattle.warg_folder.specs.Moments.{IsRead}
-use Rattle.warg_store.specs.Reading.{ServedIn, Reads, bundle_in}
+use Rattle.warg_store.specs.Reading.{Reads, bundle_in}
 use Rattle.warg_tiles.specs.CheckpointText.{Said}
 use Rattle.warg_registry.specs.Auditing.{AreReplayed}
 use Rattle.warg_registry.specs.Folder.{registry_of}
@@ -24,8 +23,7 @@ entries-init g c =
       count = omega arith;
       same = (
         ap (λ (r : RegistryRead g.row.F.Denot). r.root) c.self.view_is,
-        ap (λ (l : ServedIn g.row.F.Denot). l.text) c.in_ok-entries.ensures.same
-            ∙ ap (λ (r : RegistryRead g.row.F.Denot). r.log.text) c.self.view_is,
+        rw c.in_ok-entries.ensures.same (ap (λ (r : RegistryRead g.row.F.Denot). r.log.text) c.self.view_is),
       );
       read = λ faithful.
           (let P : RegistryRead g.row.F.Denot → Type 0 = λ r. IsRead dev.seen dev.may_leave dev.moment dev.left_since
@@ -93,8 +91,8 @@ returns-in_err-replay_entry-clause-whole g c = λ faithful insertions all has in
     let items = c.deref-entry-items.result.now in
     let first = 256 * c.args.bundle in
     let Read : RegistryRead g.row.F.Denot → Type 0 = λ r. Reads dev.seen log r.log in
-    let own : items_of items ≡ bundle_in log c.args.bundle = ap items_of c.deref-entry-items.ensures.value
-    ∙ c.in_ok-entries.ensures.own faithful log (subst Read (sym c.self.view_is) has.reads.reads) in
+    let own : items_of items ≡ bundle_in log c.args.bundle = rw c.deref-entry-items.ensures.value
+    (c.in_ok-entries.ensures.own faithful log (subst Read (sym c.self.view_is) has.reads.reads)) in
     let found = entry_in_bundle insertions (items_of items) first c.entries.entry-index c.entry-item.result.items own
     (made_at (λ (e : Vec ℕ Global). e.items) items c.entries.entry-index c.entry-item.result c.entries-test.true
     c.entry-item.is) in
@@ -102,4 +100,4 @@ returns-in_err-replay_entry-clause-whole g c = λ faithful insertions all has in
     let visited = visited_read dev was.same (was.read faithful) insertions all has in
     told_as _ _ _ c.from_residual-in_err-replay_entry.ensures.1
     (c.in_err-replay_entry.ensures.whole faithful insertions all visited found.0
-    (ap (slice_get insertions) place ∙ found.1) found.2)
+    (rw place found.1) found.2)

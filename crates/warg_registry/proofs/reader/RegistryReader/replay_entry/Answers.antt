@@ -1,4 +1,4 @@
-use Rattle.std.proofs.Common.{◌≡◌, ◌+◌, ◌++◌, [], ◌∷◌, ℕ, List, Some, cond, sym, ap, subst, ◌∙◌, arith}
+use Rattle.std.proofs.Common.{◌≡◌, ◌+◌, ◌++◌, [], ◌∷◌, ℕ, List, Some, cond, sym, ap, ◌∙◌, arith}
 use Rattle.warg_crypto.specs.Digests.{sha256}
 use Rattle.warg_crypto.specs.Tree.{leaf_digest}
 use Rattle.warg_log.specs.Blocks.{StandsFor}
@@ -22,10 +22,10 @@ returns-clause-replayed g c before was =
     let stands : (ds : List (List ℕ)) → StandsFor sha256 log ds
     → StandsFor sha256 new (ds ++ leaf_digest sha256 (entry_of e) ∷ []) = λ ds old.
     (let P : List ℕ → Type 0 = λ bytes. StandsFor sha256 new (ds ++ leaf_digest sha256 bytes ∷ []) in
-    subst P entry (c.in_ok-push.ensures.stands ds old)) in
+    rw entry at (c.in_ok-push.ensures.stands ds old)) in
     let by : IsLastBy dev.IsFaithful files version log.len e c.in_ok-is_last.is_last =
     (let P : ℕ → Type 0 = λ i. IsLastBy dev.IsFaithful files version i e c.in_ok-is_last.is_last in
-    subst P c.length-index.ensures.value c.in_ok-is_last.ensures.in_pages) in
+    rw c.length-index.ensures.value at c.in_ok-is_last.ensures.in_pages) in
     let last = c.args.replay.now.last in (
       e,
       entry,
@@ -43,6 +43,6 @@ returns-in_err-is_last-clause-whole g c = λ faithful insertions all has e at is
     let entry : c.args.entry.now.items ≡ entry_of read = sym c.as_slice.ensures.value ∙ c.in-Ok.ensures.ok.1 in
     let one : read ≡ e = one_insertion read e c.in-Ok.ensures.ok.0 (sym entry ∙ is) in
     let here : slice_get insertions c.length-index.result ≡ Some read =
-    ap (slice_get insertions) c.length-index.ensures.value ∙ at ∙ ap (λ x. Some x) (sym one) in
+    rw c.length-index.ensures.value (at ∙ ap (λ x. Some x) (sym one)) in
     told_as _ _ _ c.from_residual.ensures.1
     (c.in_err-is_last.ensures.whole faithful insertions all has here)

@@ -1,9 +1,9 @@
-use Rattle.std.proofs.Common.{[], subst, sym, inr, ◌∙◌}
+use Rattle.std.proofs.Common.{[], sym, inr, ◌∙◌}
 use Rattle.std.proofs.lemmas.List.Elements.{Contains-append_left}
 use Rattle.warg_crypto.specs.Digests.{sha256}
 use Rattle.warg_pages.specs.ProvedKeys.{IsOwnSource}
 use Rattle.warg_registry.specs.Folder.{page_read}
-use Rattle.warg_registry.specs.Pruning.{bytes_of, IsPageOf}
+use Rattle.warg_registry.specs.Pruning.{bytes_of}
 use Rattle.warg_registry.proofs.Pruned.{no_paths, none_named, of_visits}
 use Rattle.warg_registry.proofs.Refused.{told_as}
 use Rattle.warg_registry.proofs.source.KeptPages.needed.Goals as goal
@@ -42,7 +42,7 @@ returns-then-is_map-clause-needed g c = λ faithful known origin served kept rea
     record {
       all_served = of_served.0 names first.1;
       all_kept = of_kept.0 names first.1;
-      only = λ n is. let from = first.2 n is in inr (subst (IsPageOf kept) from.2 (of_kept.1 from.0 from.1));
+      only = λ n is. let from = first.2 n is in inr (rw from.2 at (of_kept.1 from.0 from.1));
     }
 
 pub returns-in_err-add-clause-whole : goal.returns-in_err-add-clause-whole

@@ -1,9 +1,8 @@
-use Rattle.std.proofs.Common.{sym, subst, ◌∙◌}
-use Rattle.warg_folder.specs.Files.{Files}
+use Rattle.std.proofs.Common.{◌∙◌}
 use Rattle.warg_folder.specs.declared.device.Folder.{Ghosts}
 use Rattle.warg_store.specs.Growing.{LogIn}
 use Rattle.warg_store.specs.Log.{LogOf, Serves}
-use Rattle.warg_registry.specs.Folder.{registry_of, IsLogRead, IsNoFault as NoFault}
+use Rattle.warg_registry.specs.Folder.{registry_of, IsLogRead}
 use Rattle.warg_registry.proofs.FolderMoments.{log_read_then}
 use Rattle.warg_registry.proofs.MapLines.{own_root}
 use Rattle.warg_registry.proofs.Pruned.{served_source}
@@ -14,7 +13,7 @@ use Rattle.warg_registry.proofs.source.KeptPages.served.Goals as goal
 still_serves : {F : Type 0} (dev : Ghosts F) {known now : LogIn F} {log : LogOf}
     → IsLogRead dev.seen dev.may_leave dev.moment dev.left_since known now → Serves log (dev.seen known.folder)
     → Serves log (dev.seen now.folder)
-still_serves dev {log = log} read serves = subst (λ (f : Files). Serves log f) (sym read.read.found) serves
+still_serves dev {log = log} read serves = rw read.read.found serves
 
 pub returns-in-Ok-clause-served : goal.returns-in-Ok-clause-served
 returns-in-Ok-clause-served g c = λ faithful known origin insertions read serves.
@@ -44,10 +43,10 @@ pub returns-in-Err-Log-clause-whole : goal.returns-in-Err-Log-clause-whole
 returns-in-Err-Log-clause-whole g c = λ faithful known origin insertions read serves.
     let still = still_serves g.F.Folder read serves in
     let said = c.in_ok-text.ensures.said faithful (registry_of origin insertions) still in
-    subst NoFault c.in-Err-Log.field-0-is (own_root origin insertions said c.in-Err-Log.ensures.err)
+    rw c.in-Err-Log.field-0-is at (own_root origin insertions said c.in-Err-Log.ensures.err)
 
 pub returns-clause-whole : goal.returns-clause-whole
 returns-clause-whole g c = λ faithful known origin insertions read serves.
     let still = still_serves g.F.Folder read serves in
     let said = c.in_ok-text.ensures.said faithful (registry_of origin insertions) still in
-    absurd (subst NoFault c.in-Err-NoMap.field-0-is (own_root origin insertions said c.in-Err-NoMap.ensures.err))
+    absurd (rw c.in-Err-NoMap.field-0-is at (own_root origin insertions said c.in-Err-NoMap.ensures.err))

@@ -1,5 +1,4 @@
-use Rattle.std.proofs.Common.{◌++◌, length, map, sym, ap, subst, ◌∙◌, arith, refl}
-use Rattle.warg_tiles.specs.TileLog.{StandsFor}
+use Rattle.std.proofs.Common.{◌++◌, map, ap, ◌∙◌, arith, refl}
 use Rattle.warg_tiles.specs.Private.Edges.{joined}
 use Rattle.warg_tiles.proofs.OpenLemmas.{open_width, open_stands}
 use Rattle.warg_tiles.proofs.SplitLemmas.{open_tiles}
@@ -9,8 +8,8 @@ pub invariant_of-result : goal.invariant_of-result
 invariant_of-result g c =
     let edge = c.in_ok-push_digests.ensures ∙ ap (λ l. l ++ joined (map (λ t. t.digests.items) c.args.tiles.now))
     c.new-edge.ensures.items in (
-      ap length edge ∙ open_width (λ t. t.tile) (λ t. t.digests.items) c.args.tiles.now c.args.log_length
-          (λ t. t.count) c.in_ok-check_tiles.ensures.ok,
+      rw edge (open_width (λ t. t.tile) (λ t. t.digests.items) c.args.tiles.now c.args.log_length
+          (λ t. t.count) c.in_ok-check_tiles.ensures.ok),
       c.requires,
       omega arith,
     )
@@ -19,13 +18,7 @@ pub returns-clause-stands : goal.returns-clause-stands
 returns-clause-stands g c = λ ds count all.
     let edge = c.in_ok-push_digests.ensures ∙ ap (λ l. l ++ joined (map (λ t. t.digests.items) c.args.tiles.now))
     c.new-edge.ensures.items in
-    subst (λ l. StandsFor g.D.SupportedDigest.digest
-    (record {
-      len = c.args.log_length;
-      taken = c.args.log_length;
-      digests = c.push_digests.new.edge.items;
-      full = map (λ t. (t.tile, t.digests.items)) l;
-    }) ds) (sym c.new.ensures.items)
+    rw c.new.ensures.items
     (open_stands g.D.SupportedDigest.digest ds c.push_digests.new.edge.items (λ t. t.tile)
     (λ t. t.digests.items) c.args.tiles.now c.args.log_length c.in_ok-check_tiles.ensures.ok count all edge)
 

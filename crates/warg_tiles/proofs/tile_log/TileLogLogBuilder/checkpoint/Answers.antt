@@ -1,4 +1,4 @@
-use Rattle.std.proofs.Common.{◌≡◌, ℕ, List, [], Option, Some, None, unwrap_or, sym, ap, subst, ◌∙◌}
+use Rattle.std.proofs.Common.{◌≡◌, ℕ, List, [], Option, Some, None, unwrap_or, sym, ap, subst, ◌∙◌, refl}
 use Rattle.warg_tiles.specs.TileLog.{RightEdge, StandsFor, edge_tiles, partial_tiles, split_into, root_on, root_by_tiles}
 use Rattle.warg_tiles.proofs.PushLemmas.{edge_of}
 use Rattle.warg_tiles.proofs.ChunkLemmas.{root_found, root_lacks}
@@ -23,8 +23,8 @@ by_tiles : (H : List ℕ → List ℕ) (e view : RightEdge) (edge : List (List �
     → edge ≡ e.digests → e ≡ view → found ≡ root_on H None (split_into (partial_tiles e.len) edge)
     → unwrap_or found (H []) ≡ root_by_tiles H (edge_tiles view)
 by_tiles H e view edge found same is made =
-    ap (λ o. unwrap_or o (H [])) (made ∙ ap (λ l. root_on H None (split_into (partial_tiles e.len) l)) same)
-    ∙ ap (λ (v : RightEdge). root_by_tiles H (edge_tiles v)) is
+    rw (made ∙ ap (λ l. root_on H None (split_into (partial_tiles e.len) l)) same)
+    (rw is refl)
 
 pub returns-in-Some-clause-by_tiles : goal.returns-in-Some-clause-by_tiles
 returns-in-Some-clause-by_tiles g c =
