@@ -24,9 +24,7 @@ gone : (new : Files) (names : List (String Global)) (n : List ℕ) → ArePagesG
     → Contains (bytes_of names) n → new n ≡ None
 gone new names n removed page there =
     let found = of_mapped (λ (k : String Global). string_bytes k) names n there in
-    let Gone : String Global → Type 0 = λ k. is_page (string_bytes k) ≡ true → new (string_bytes k) ≡ None in
     let at = rw found.1.2 at (removed found.1.0 found.0 found.1.1) in
-    let Q : List ℕ → Type 0 = λ m. new m ≡ None in
     rw found.2 at (at (rw found.2 page))
 
 -- a page that is there stays while files are pruned

@@ -102,7 +102,6 @@ picked_apart first (v ∷ vs) = one (eqb v (first + 1)) refl (picked_apart (firs
 picked_first : (first v : ℕ) (vs : List ℕ) → v ≡ suc (first + zero) → Contains (picked first (v ∷ vs))
     (suc (first + zero))
 picked_first first v vs is =
-    let P : List ℕ → Type 0 = λ ws. Contains ws (suc (first + zero)) in
     rw (cond-true _ (v ∷ picked (first + 1) vs) (picked (first + 1) vs) (eq-eqb v (first + 1)
     (omega (arith, is))))
     (first_is (picked (first + 1) vs) is)
@@ -136,7 +135,6 @@ picked_there H all first [] vs are i e at is = absurd (cc)
 picked_there H all first (d ∷ es) [] are i e at is = absurd are
 picked_there H all first (d ∷ es) (w ∷ vs) are zero e at is =
     let same : d ≡ e = cc in
-    let Among : List ℕ × List ℕ → Type 0 = λ f. IsLoneAmong all (H f.0) w are.0.leaf in
     picked_first first w vs (is w are.0.leaf (rw same at are.0.held))
 picked_there H all first (d ∷ es) (w ∷ vs) are (suc i) e at is =
     let place : suc (first + 1 + i) ≡ suc (first + suc i) = omega arith in

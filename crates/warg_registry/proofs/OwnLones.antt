@@ -73,7 +73,6 @@ module _ (H : List ℕ → List ℕ) (gives : GivesHashes H) (es : List (List �
   one_key p e f lone there under =
       let passes = each_passes (λ g. not (is_below H p g) || same_bits (key_bits H f.0) (key_bits H g.0)) es e
       lone there in
-      let P : Bool → Type 0 = λ b. (not b || same_bits (key_bits H f.0) (key_bits H e.0)) ≡ true in
       same_digest H f.0 e.0 (gives f.0) (gives e.0)
       (same_bits-true (key_bits H f.0) (key_bits H e.0) (rw under at passes))
 

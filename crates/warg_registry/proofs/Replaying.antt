@@ -67,8 +67,7 @@ one_replayed {log = log} {new = new} {es = es} {e = e} is_last stands by counts 
       let one = by faithful root all led in
       let size : length old.0 ≡ log.len = length_versions sha256 all 0 es old.0 old.1 ∙ many in
       let index : log.len ≡ 0 + length es = omega (arith, many) in
-      let last_place : log.len + 1 ≡ 0 + length old.0 + 1 = omega (arith, size) in
-      let P : ℕ → Type 0 = λ i. IsInPages sha256 all i e one.0 in (
+      let last_place : log.len + 1 ≡ 0 + length old.0 + 1 = omega (arith, size) in (
         old.0 ++ one.0 ∷ [],
         AreInPages-push sha256 all 0 es old.0 e one.0 old.1 (rw index at one.1),
         counts ∙ (λ i. old.2 i + cond ((one.2 ∙ ap (eqb one.0) last_place) i) 1 0)

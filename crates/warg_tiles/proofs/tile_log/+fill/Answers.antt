@@ -22,7 +22,7 @@ returns-then-count-lt255 g t c =
         ),
       );
       edge = λ ds is. rw (take-length c.args.edge.now)
-      (edge_partial g.D.SupportedDigest.digest ds c.args.edge.now c.args.digest c.args.level c.args.count low
+          (edge_partial g.D.SupportedDigest.digest ds c.args.edge.now c.args.digest c.args.level c.args.count low
           c.if-count-lt255.true is);
       filled = λ ds is. nothing_added g.D.SupportedDigest.digest ds _ c.args.level c.args.count low
           c.if-count-lt255.true;

@@ -34,7 +34,6 @@ returns-in_err-log-clause-origin g c = λ refused.
     let origin = c.args.origin.now in
     let P : CreateError → Type 0 =
     λ e. e ≡ Origin → (65535 < length origin) ⊎ (CanBeKept (registry_of origin []) → ⊥) in
-    let Q : LogOf → Type 0 = λ n. (65535 < length origin) ⊎ (CanBeKept n → ⊥) in
     let at = goal.at.returns-in_err-log-clause-origin g c in
     subst (λ r. IfErr r P) refused (told_as _ _ _ c.from_residual-in_err-log.ensures.1
     (λ is. rw (empty_log g at.After-create_with) at (c.in_err-log.ensures.origin (ap (λ e. Err e) is)))) refl

@@ -9,7 +9,6 @@ use Rattle.warg_registry.proofs.folder.RegistryFolder.open.Goals as goal
 
 pub returns-clause-has : goal.returns-clause-has
 returns-clause-has g c = λ faithful origin served kept has.
-    let dev = g.F.Folder in
     let found = c.in_ok-log.ensures.has faithful (registry_of origin served) (registry_of origin kept) has in
     let counts : c.in_ok-log.log.edge.len ≡ length kept = c.in_ok-log.ensures.all
     ∙ ap (λ (t : Said). t.length) found.text ∙ length-map kept entry_of in

@@ -20,7 +20,6 @@ returns-clause-entries g c =
 
 pub returns-clause-insertions : goal.returns-clause-insertions
 returns-clause-insertions g c = λ faithful.
-    let dev = g.F.Folder in
     let first = c.args.self.now in
     let read = c.count_keys.new.self in
     let was = c.in_ok-keys.ensures in
@@ -65,7 +64,6 @@ returns-in_err-replay-clause-whole g c = λ faithful origin insertions has.
 pub returns-then-ne-clause-whole : goal.returns-then-ne-clause-whole
 returns-then-ne-clause-whole g c = λ faithful origin insertions has.
     let dev = g.F.Folder in
-    let mid = c.count_keys.new.self in
     let was = c.in_ok-keys.ensures in
     let done = c.in_ok-replay.ensures in
     let has_mid = registry_read dev was.same (was.read faithful) origin insertions has in

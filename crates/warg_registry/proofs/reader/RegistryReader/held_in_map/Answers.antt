@@ -16,7 +16,6 @@ pub returns-clause-whole : goal.returns-clause-whole
 returns-clause-whole g c = λ faithful root all led.
     let log = c.args.self.now.log in
     let was = served_read g.F.Folder c.self.view_is c.forget.ensures c.held_in_pages-led.ensures.known in
-    let P : ℕ → Type 0 = λ n. AreAllInFiles (g.F.Folder.seen log.folder) root n all in
     c.or_refusal.ensures.whole (none_led _ c.held_in_pages-led.ensures.refused (λ refused.
     refused (at_served g.F.Folder log) root all (was.known faithful) refl
     (rw c.version-version.ensures led)))

@@ -21,11 +21,9 @@ returns-clause-replayed g c before was =
     let entry : c.args.entry.now.items ≡ entry_of e = sym c.as_slice.ensures.value ∙ c.in-Ok.ensures.ok.1 in
     let stands : (ds : List (List ℕ)) → StandsFor sha256 log ds
     → StandsFor sha256 new (ds ++ leaf_digest sha256 (entry_of e) ∷ []) = λ ds old.
-    (let P : List ℕ → Type 0 = λ bytes. StandsFor sha256 new (ds ++ leaf_digest sha256 bytes ∷ []) in
-    rw entry at (c.in_ok-push.ensures.stands ds old)) in
+    rw entry at (c.in_ok-push.ensures.stands ds old) in
     let by : IsLastBy dev.IsFaithful files version log.len e c.in_ok-is_last.is_last =
-    (let P : ℕ → Type 0 = λ i. IsLastBy dev.IsFaithful files version i e c.in_ok-is_last.is_last in
-    rw c.length-index.ensures.value at c.in_ok-is_last.ensures.in_pages) in
+    rw c.length-index.ensures.value at c.in_ok-is_last.ensures.in_pages in
     let last = c.args.replay.now.last in (
       e,
       entry,
