@@ -1,5 +1,5 @@
 -- A page with one lone key, and the roots of no insertion and of this key's.
-use Rattle.std.proofs.Common.{◌≡◌, ℕ, false, List, [], ◌∷◌, ◌++◌, Some, refl, sym, ap, ◌∙◌, arith}
+use Rattle.std.proofs.Common.{◌≡◌, ℕ, false, List, [], ◌∷◌, ◌++◌, Some, refl, sym, ◌∙◌, arith}
 use Rattle.std.proofs.lemmas.List.Elements.{All-cons, All-nil}
 use Rattle.std.specs.Prelude.{replicate}
 use Rattle.warg_crypto.specs.EmptyTrees.{empty_root}
@@ -7,7 +7,6 @@ use Rattle.warg_crypto.proofs.ForCallers.{zeros, zeros_are, ones, ones_are, mark
 use Rattle.warg_map.specs.Bits.{bits_from, last_bits}
 use Rattle.warg_map.specs.Sparse.{sparse_root, map_of}
 use Rattle.warg_map.proofs.ForCallers.{same_bits-itself}
-use Rattle.std.specs.FinMap.{get}
 use Rattle.warg_pages.specs.Prefixes.{bits_of_bytes}
 use Rattle.warg_pages.specs.Slots.{IsSlot, IsPage}
 use Rattle.warg_pages.specs.Pages.{digest_at, page_digest}
@@ -25,7 +24,7 @@ unfolding bits_from
 all_false = refl
 
 pub key_root : sparse_root marked 256 (map_of marked lone_key) ≡ ones
-key_root = left_root 256 (get (map_of marked lone_key)) (ap (get (map_of marked lone_key)) all_false ∙ lone_here)
+key_root = left_root 256 _ (rw all_false lone_here)
 
 pub no_root : sparse_root marked 256 (map_of marked []) ≡ zeros
 no_root = sym (empty_digest marked) ∙ first_zeros 248 0 8
@@ -49,7 +48,7 @@ unfolding bits_from
 zeros_bits = refl
 
 lone_held : held_by ((zeros, ones) ∷ []) (bits_of_bytes (0 ∷ []) ++ replicate 248 false) ≡ Some ones
-lone_held = ap (held_by ((zeros, ones) ∷ [])) zeros_bits ∙ rw (same_bits-itself (last_bits zeros 256)) refl
+lone_held = rw zeros_bits (rw (same_bits-itself _) refl)
 
 lone_below : IsLoneBelow marked [] (lone_slot ones) (zeros, ones)
 lone_below = record {

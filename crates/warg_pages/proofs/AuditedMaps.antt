@@ -29,7 +29,7 @@ found_here : (test : List ℕ × List ℕ → Bool) (b : Bool) (x : SlotAt) (m l
     → (rest ≡ Some l → FoundIn xs test l) → FoundIn (x ∷ xs) test l
 found_here test true x m l xs rest t is e h =
     let same : m ≡ l = cc in
-    (x, first_among x xs, is ∙ e, ap test (sym same) ∙ t)
+    (x, first_among x xs, is ∙ e, rw (← same) t)
 found_here test false x m l xs rest t is e h = let found = h e in
     (found.0, later_among x xs found.0 found.1, found.2, found.3)
 
@@ -37,17 +37,16 @@ found_one : (test : List ℕ × List ℕ → Bool) (o : Option (List ℕ × List
     (xs : List SlotAt) → x.lone ≡ o → find test (cons_option o (filter_map (λ x. x.lone) xs)) ≡ Some l
     → (find test (filter_map (λ x. x.lone) xs) ≡ Some l → FoundIn xs test l) → FoundIn (x ∷ xs) test l
 found_one test None x l xs is e h = let found = h e in (found.0, later_among x xs found.0 found.1, found.2, found.3)
-found_one test (Some m) x l xs is e h = found_here test (test m) x m l xs (find test (filter_map
-    (λ x. x.lone) xs)) refl is e h
+found_one test (Some m) x l xs is e h = found_here test _ x m l xs _ refl is e h
 
 found_slot : (xs : List SlotAt) (test : List ℕ × List ℕ → Bool) (l : List ℕ × List ℕ)
     → find test (filter_map (λ x. x.lone) xs) ≡ Some l → FoundIn xs test l
-found_slot [] test l e = absurd (cc)
+found_slot [] test l e = absurd cc
 found_slot (x ∷ xs) test l e = found_one test x.lone x l xs refl e (found_slot xs test l)
 
 none_here : (test : List ℕ × List ℕ → Bool) (b : Bool) (m : List ℕ × List ℕ) (rest : Option (List ℕ × List ℕ))
     → test m ≡ b → cond b (Some m) rest ≡ None → (rest ≡ None) × (test m ≡ true → ⊥)
-none_here test true m rest t e = absurd (cc)
+none_here test true m rest t e = absurd cc
 none_here test false m rest t e = (e, λ pass. cc)
 
 none_one : (test : List ℕ × List ℕ → Bool) (o : Option (List ℕ × List ℕ)) (ls : List (List ℕ × List ℕ))
@@ -55,16 +54,16 @@ none_one : (test : List ℕ × List ℕ → Bool) (o : Option (List ℕ × List 
     → (find test ls ≡ None) × ((l : List ℕ × List ℕ) → o ≡ Some l → test l ≡ true → ⊥)
 none_one test None ls e = (e, λ l is pass. cc)
 none_one test (Some m) ls e =
-    let parts = none_here test (test m) m (find test ls) refl e in
-    (parts.0, λ l is pass. parts.1 (let same : m ≡ l = cc in ap test same ∙ pass))
+    let parts = none_here test _ m _ refl e in
+    (parts.0, λ l is pass. parts.1 (let same : m ≡ l = cc in rw same pass))
 
 none_found : (xs : List SlotAt) (test : List ℕ × List ℕ → Bool) → find test (filter_map (λ x. x.lone) xs) ≡ None
     → (x : SlotAt) (l : List ℕ × List ℕ) → Contains xs x → x.lone ≡ Some l → test l ≡ true → ⊥
-none_found [] test e x l c is pass = let lt = c.1 in omega arith
+none_found [] test e x l c is pass = omega arith
 none_found (y ∷ xs) test e x l c is pass =
-    let parts = none_one test y.lone (filter_map (λ x. x.lone) xs) e in
+    let parts = none_one test y.lone _ e in
     elim (among y xs x c) [
-      | inl same ↦ parts.1 l (ap (λ (z : SlotAt). z.lone) same ∙ is) pass
+      | inl same ↦ parts.1 l (rw same is) pass
       | inr later ↦ none_found xs test parts.0 x l later is pass
     ]
 
@@ -124,7 +123,6 @@ record AreLast (H : List ℕ → List ℕ) (all : List ChangedPageAt) (first : �
 later_last : (H : List ℕ → List ℕ) (first : ℕ) (e : List ℕ × List ℕ) (es : List (List ℕ × List ℕ)) (x : SlotAt)
     → IsLast H (first + 1) es x → IsLast H first (e ∷ es) x
 later_last H first e es x l =
-    let is = l.is_version in
     record {
       before = e ∷ l.before;
       e = l.e;
@@ -139,7 +137,7 @@ later_slots : (H : List ℕ → List ℕ) (all : List ChangedPageAt) (first : �
     → AreLast H all first (e ∷ es) (0 + count)
 later_slots H all first e es count rest = record {
   slots = rest.slots;
-  as_many = (let many = rest.as_many in omega arith);
+  as_many = omega arith;
   distinct = rest.distinct;
   within = rest.within;
   are_last = λ x c. later_last H first e es x (rest.are_last x c);
@@ -150,7 +148,7 @@ one_more : (H : List ℕ → List ℕ) (all : List ChangedPageAt) (first : ℕ) 
     → AreLast H all (first + 1) es count → AreLast H all first (e ∷ es) (1 + count)
 one_more H all first e es v count next is rest = record {
   slots = x ∷ rest.slots;
-  as_many = (let many = rest.as_many in omega arith);
+  as_many = omega arith;
   distinct = AllPairs-cons (λ x y. x ≢ y) x rest.slots differ rest.distinct;
   within = λ y c. elim (among x rest.slots y c) [
     | inl same ↦ rw (← same) is.held.there
@@ -181,7 +179,7 @@ one_more H all first e es v count next is rest = record {
       e = e;
       after = es;
       is_there = refl;
-      is_version = (let from = at in omega arith);
+      is_version = omega arith;
       is_lone = is.held.is_lone ∙ ap (λ leaf. Some (H e.0, leaf)) (is.last next);
     }
 
@@ -193,15 +191,15 @@ last_slots H all first [] [] h = record {
   as_many = refl;
   distinct = λ i j d lt within. absurd (omega arith);
   within = λ x c. absurd (let lt = c.1 in omega arith);
-  are_last = λ x c. absurd (let lt = c.1 in omega arith);
+  are_last = λ x c. absurd (omega arith);
 }
 last_slots H all first [] (v ∷ vs) h = absurd h
 last_slots H all first (e ∷ es) [] h = absurd h
 last_slots H all first (e ∷ es) (v ∷ vs) h =
     let rest = last_slots H all (first + 1) es vs h.1 in
     elim (eqb_tells v (first + 1)) [
-      | inl next ↦ rw next.0 (one_more H all first e es v (count_last (first + 1) vs) next.1 h.0 rest)
-      | inr other ↦ rw other.0 (later_slots H all first e es (count_last (first + 1) vs) rest)
+      | inl next ↦ rw next.0 (one_more H all first e es v _ next.1 h.0 rest)
+      | inr other ↦ rw other.0 (later_slots H all first e es _ rest)
     ]
 
 -- the law
@@ -209,7 +207,7 @@ held_is : (H : List ℕ → List ℕ) (es : List (List ℕ × List ℕ)) (all : 
     → ((x : SlotAt) (l : List ℕ × List ℕ) → Contains (lone_slots all) x → x.lone ≡ Some l → IsDigest l.0)
     → AreApart (lone_slots all) → AreInPages H all 0 es vs → count_last 0 vs ≡ length (lone_slots all)
     → (bits : List Bool) → held_by (lone_keys all) bits ≡ get (map_of H es) bits
-held_is H es all vs digests apart are same bits = either (find lone_has (lone_keys all)) refl
+held_is H es all vs digests apart are same bits = either _ refl
   where
     lone_has : List ℕ × List ℕ → Bool
     lone_has l = same_bits bits (last_bits l.0 256)
@@ -229,16 +227,14 @@ held_is H es all vs digests apart are same bits = either (find lone_has (lone_ke
     no_other x there last passes f c pass =
         let split = around last.after f c in
         let whole : es ≡ (last.before ++ last.e ∷ split.0) ++ f ∷ split.1 = last.is_there
-        ∙ ap (λ after. last.before ++ last.e ∷ after) split.2
-        ∙ sym (append_assoc last.before (last.e ∷ split.0) (f ∷ split.1)) in
+        ∙ ap (λ after. last.before ++ last.e ∷ after) split.2 ∙ sym (append_assoc last.before _ _) in
         let in_pages = entry_in H all 0 (last.before ++ last.e ∷ split.0) split.1 f vs (rw whole at are) in
         let keys : H last.e.0 ≡ H f.0 = same_digest H last.e.0 f.0
         (digests x (H last.e.0, leaf_digest H last.e.1) there last.is_lone)
         (digests in_pages.held.slot (H f.0, in_pages.leaf) in_pages.held.there in_pages.held.is_lone)
-        (sym (same_bits-true bits (key_bits H last.e.0) passes) ∙ same_bits-true bits (key_bits H f.0) pass) in
-        let one : x ≡ in_pages.held.slot = apart x in_pages.held.slot (H last.e.0)
-        (leaf_digest H last.e.1) in_pages.leaf there
-        in_pages.held.there last.is_lone (in_pages.held.is_lone ∙ ap (λ h. Some (h, in_pages.leaf)) (sym keys)) in
+        (sym (same_bits-true bits _ passes) ∙ same_bits-true bits _ pass) in
+        let one : x ≡ in_pages.held.slot = apart x _ _ _ in_pages.leaf there in_pages.held.there last.is_lone
+        (in_pages.held.is_lone ∙ ap (λ h. Some (h, in_pages.leaf)) (sym keys)) in
         let versions : x.version ≡ in_pages.held.slot.version = ap (λ (z : SlotAt). z.version) one in
         let is_version = in_pages.held.is_version in
         let later = in_pages.later in
@@ -251,22 +247,20 @@ held_is H es all vs digests apart are same bits = either (find lone_has (lone_ke
     either None e = in_map None (none_passes has es (λ f c pass.
         let split = around es f c in
         let in_pages = entry_in H all 0 split.0 split.1 f vs (rw split.2 at are) in
-        none_found (lone_slots all) lone_has e in_pages.held.slot (H f.0, in_pages.leaf) in_pages.held.there
-        in_pages.held.is_lone pass))
+        none_found _ lone_has e _ (H f.0, in_pages.leaf) in_pages.held.there in_pages.held.is_lone pass))
     either (Some l) e =
         let found = found_slot (lone_slots all) lone_has l e in
         let many = lasts.as_many in
-        let last = lasts.are_last found.0 (all_among lasts.slots (lone_slots all) lasts.distinct lasts.within
-        (omega arith)
-        found.0 found.1) in
+        let last = lasts.are_last found.0 (all_among lasts.slots _ lasts.distinct lasts.within (omega arith) found.0
+        found.1) in
         let is : l ≡ (H last.e.0, leaf_digest H last.e.1) = cc (found.2, last.is_lone) in
-        ap (λ p. Some p.1) is ∙ in_map (Some last.e) (ap (last_under H bits) last.is_there
+        rw is (in_map _ (ap (last_under H bits) last.is_there
         ∙ last_is has last.before last.e last.after (ap lone_has (sym is) ∙ found.3)
-        (none_passes has last.after (no_other found.0 found.1 last (ap lone_has (sym is) ∙ found.3))))
+        (none_passes has last.after (no_other found.0 found.1 last (ap lone_has (sym is) ∙ found.3)))))
 
 pub audited : (H : List ℕ → List ℕ) (IsThere : List ℕ → ℕ → List SlotAt → Type 0) (root : List ℕ) (version : ℕ)
     (es : List (List ℕ × List ℕ)) (all : List ChangedPageAt) (vs : List ℕ) → AreAllPages H IsThere root version all
     → AreInPages H all 0 es vs → count_last 0 vs ≡ length (lone_slots all) → root ≡ sparse_root H 256 (map_of H es)
 audited H IsThere root version es all vs are in_pages same = root_of_pages H IsThere root version all are
-    ∙ root-same H 256 (held_by (lone_keys all)) (get (map_of H es)) (held_is H es all vs
-    (lone_digests H IsThere root version all are) (lone_apart H IsThere root version all are) in_pages same)
+    ∙ root-same H 256 _ _ (held_is H es all vs (lone_digests H IsThere root version all are)
+    (lone_apart H IsThere root version all are) in_pages same)

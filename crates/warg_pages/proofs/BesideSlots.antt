@@ -3,7 +3,7 @@ use Rattle.std.proofs.Common.{◌≡◌, ℕ, ◌+◌, ◌*◌, ◌<◌, Bool, n
 use Rattle.std.proofs.lemmas.Bool.{cases_lt}
 use Rattle.std.specs.Prelude.{slice_index}
 use Rattle.std.specs.FinMap.{get}
-use Rattle.warg_map.specs.Bits.{last_bits, key_bits}
+use Rattle.warg_map.specs.Bits.{key_bits}
 use Rattle.warg_map.specs.Sparse.{root_of_levels, map_of}
 use Rattle.warg_map.specs.ProofValue.{peer_of}
 use Rattle.warg_map.specs.Peers.{IsBeside, ProvesEmpty}
@@ -33,16 +33,13 @@ pub beside_tree : (H : List ℕ → List ℕ) (n : ℕ) (digest : ℕ → List �
     → length (a ++ b ∷ c) ≡ 8
     → root_over H digest (first_beside (number (a ++ b ∷ c)) (length c)) (length c) ≡ root_of_levels H (length c + n)
     (λ r. held (a ++ not b ∷ r))
-beside_tree H n digest held a c b fits m = root_over-below H n (length c)
-    (first_beside (number (a ++ b ∷ c)) (length c)) digest (λ r. held (a ++ not b ∷ r)) at
+beside_tree H n digest held a c b fits m = root_over-below H n _ _ digest (λ r. held _) at
   where
     at : (q : List Bool) → length q ≡ length c → digest (first_beside (number (a ++ b ∷ c)) (length c) + number q)
         ≡ root_of_levels H n (λ r. held (a ++ not b ∷ (q ++ r)))
     at q e =
-        let len : length (a ++ not b ∷ q) ≡ 8 = rw (length-append a (not b ∷ q), e) (sym (length-append a (b ∷ c))
-        ∙ m) in
-        rw (number-beside a c q b e) (fits (a ++ not b ∷ q) len
-        ∙ root-same H n _ _ (λ r. ap held (append_assoc a (not b ∷ q) r)))
+        let len : length (a ++ not b ∷ q) ≡ 8 = rw (length-append a _, e) (sym (length-append a _) ∙ m) in
+        rw (number-beside a c q b e) (fits _ len ∙ root-same H n _ _ (λ r. ap held (append_assoc a _ r)))
 
 -- the peer beside a bit
 beside_at : (H : List ℕ → List ℕ) (peers : List (Option (List ℕ))) (held : List Bool → Option (List ℕ))
@@ -50,7 +47,7 @@ beside_at : (H : List ℕ → List ℕ) (peers : List (Option (List ℕ))) (held
     ≡ root_of_levels H (length rest) (λ q. held (p ++ not b ∷ q))
 unfolding IsBeside
 beside_at H peers held [] rest b h = h.0
-beside_at H peers held (x ∷ p) rest b h = beside_at H peers (λ q. held (x ∷ q)) p rest b h.1
+beside_at H peers held (x ∷ p) rest b h = beside_at H peers (λ q. held _) p rest b h.1
 
 -- the law, around one of the byte's bits
 around : (H : List ℕ → List ℕ) (es : List (List ℕ × List ℕ)) (p rest a c : List Bool) (b : Bool) (depth s k : ℕ)
@@ -58,18 +55,17 @@ around : (H : List ℕ → List ℕ) (es : List (List ℕ × List ℕ)) (p rest 
     → byte_bits s ≡ a ++ b ∷ c → length c ≡ k → IsBeside H peers (get (map_of H es)) (p ++ (byte_bits s ++ rest))
     → page_peer H depth (page_of H es p) s k ≡ peer_of H peers (slot_height depth + k)
 around H es p rest a c b depth s k peers lt n m byte e len h =
-    let all : length (a ++ b ∷ c) ≡ 8 = ap length (sym e) ∙ length-bits_from (s ∷ []) 0 8 in
+    let all : length (a ++ b ∷ c) ≡ 8 = ap length (sym e) ∙ length-bits_from _ 0 8 in
     let is : number (a ++ b ∷ c) ≡ s = ap number (sym e) ∙ number-byte_bits s byte in
     let path : p ++ (byte_bits s ++ rest) ≡ (p ++ a) ++ b ∷ (c ++ rest) = ap (λ t. p ++ (t ++ rest)) e
-    ∙ ap (λ t. p ++ t) (append_assoc a (b ∷ c) rest) ∙ sym (append_assoc p a (b ∷ (c ++ rest))) in
+    ∙ ap (λ t. p ++ t) (append_assoc a _ rest) ∙ sym (append_assoc p a _) in
     let height : length (c ++ rest) ≡ slot_height depth + k = rw (length-append c rest, len, m) (omega arith) in
     let swap : k + slot_height depth ≡ slot_height depth + k = omega arith in
-    let far = rw height at (beside_at H peers (get (map_of H es)) (p ++ a) (c ++ rest) b (rw path at h)) in
+    let far = rw height at (beside_at H peers _ _ _ b (rw path at h)) in
     let near = rw (is, len) at (beside_tree H (slot_height depth) (digest_at H (slot_height depth) (page_of H es p))
-    (below (map_of H es) p) a c b (λ q eight. page_slot H es p q depth lt n eight) all) in
+    (below _ p) a c b (λ q eight. page_slot H es p q depth lt n eight) all) in
     near ∙ ap (λ j. root_of_levels H j (λ q. get (map_of H es) (p ++ (a ++ not b ∷ q)))) swap
-    ∙ root-same H (slot_height depth + k) _ _ (λ q. ap (get (map_of H es)) (sym (append_assoc p a (not b ∷ q))))
-    ∙ sym far
+    ∙ root-same H _ _ _ (λ q. ap (get (map_of H es)) (sym (append_assoc p a _))) ∙ sym far
 
 -- so it is over the bits of a key
 pub page_peers : (H : List ℕ → List ℕ) (es : List (List ℕ × List ℕ)) (p rest : List Bool) (depth s k : ℕ)
@@ -78,7 +74,7 @@ pub page_peers : (H : List ℕ → List ℕ) (es : List (List ℕ × List ℕ)) 
     → IsBeside H peers (get (map_of H es)) (p ++ (byte_bits s ++ rest)) → page_peer H depth (page_of H es p) s k
     ≡ peer_of H peers (slot_height depth + k)
 page_peers H es p rest depth s k peers lt n m byte low h =
-    let r = split (byte_bits s) k (rw (length-bits_from (s ∷ []) 0 8) low) in
+    let r = split _ k (rw (length-bits_from _ 0 8) low) in
     around H es p rest r.0 r.2 r.1 depth s k peers lt n m byte r.3 r.4 h
 
 -- and those of the proof of a key, held or not
@@ -87,8 +83,5 @@ pub key_peers : (H : List ℕ → List ℕ) (es : List (List ℕ × List ℕ)) (
     → page_peer H depth (page_of H es (prefix_of H key depth)) (slice_index (H key) depth) k
     ≡ peer_of H peers (slot_height depth + k)
 key_peers H es key peers depth k is proves lt low =
-    let size = is.has_32 in
-    page_peers H es (prefix_of H key depth) (last_bits (H key) (slot_height depth)) depth
-    (slice_index (H key) depth) k peers lt (length-bits_from (H key) 0 (8 * depth))
-    (length-last_bits (H key) (slot_height depth)) (is.are_bytes depth 0 (omega arith)) low
-    (rw (key_split H key depth lt) at (key_beside H (map_of H es) key peers proves))
+    page_peers H es _ _ depth _ k peers lt (length-bits_from _ 0 _) (length-last_bits _ _)
+    (is.are_bytes depth 0 (omega arith)) low (rw (key_split H key depth lt) at (key_beside H _ key peers proves))

@@ -14,8 +14,8 @@ unfolding bits_from
 bits_from-one k i = refl
 
 pub bits_from-cons : (k : List ℕ) (i n : ℕ) → bits_from k i (n + 1) ≡ bit_at k i ∷ bits_from k (i + 1) n
-bits_from-cons k i n = let all : n + 1 ≡ 1 + n = omega arith in ap (bits_from k i) all ∙ bits_from-append k i 1 n
-    ∙ ap (λ t. t ++ bits_from k (i + 1) n) (bits_from-one k i)
+bits_from-cons k i n = let all : n + 1 ≡ 1 + n = omega arith in rw all (bits_from-append k i 1 n
+    ∙ ap (λ t. t ++ bits_from k (i + 1) n) (bits_from-one k i))
 
 pub one_bit_more : (a b : List ℕ) (n : ℕ) → bits_from a 0 n ≡ bits_from b 0 n → bit_at a n ≡ bit_at b n
     → bits_from a 0 (n + 1) ≡ bits_from b 0 (n + 1)
@@ -30,7 +30,7 @@ pub key_at : (k : List ℕ) (n : ℕ) → n ≤ 256 → last_bits k 256 ≡ bits
 key_at k n le =
     let all : 256 ≡ n + (256 - n) = omega arith in
     let at : 0 + n ≡ 256 - (256 - n) = omega arith in
-    ap (bits_from k 0) all ∙ bits_from-append k 0 n (256 - n) ∙ ap (λ i. bits_from k 0 n ++ bits_from k i (256 - n)) at
+    ap (bits_from k 0) all ∙ bits_from-append k 0 n _ ∙ ap (λ i. bits_from k 0 n ++ bits_from k i (256 - n)) at
 
 -- the bits from one on, around another
 pub last_at : (k : List ℕ) (i s : ℕ) → i ≤ s → s < 256 → last_bits k (256 - i) ≡ bits_from k i (s - i) ++ bit_at k s
@@ -40,9 +40,9 @@ last_at k i s le lt =
     let all : 256 - i ≡ s - i + (255 - s + 1) = omega arith in
     let at : i + (s - i) ≡ s = omega arith in
     let next : s + 1 ≡ 256 - (255 - s) = omega arith in
-    ap (λ j. bits_from k j (256 - i)) from ∙ ap (bits_from k i) all ∙ bits_from-append k i (s - i) (255 - s + 1)
+    rw from (ap (bits_from k i) all ∙ bits_from-append k i _ _
     ∙ ap (λ j. bits_from k i (s - i) ++ bits_from k j (255 - s + 1)) at ∙ ap (λ t. bits_from k i (s - i) ++ t)
-    (bits_from-cons k s (255 - s) ∙ ap (λ j. bit_at k s ∷ bits_from k j (255 - s)) next)
+    (bits_from-cons k s _ ∙ ap (λ j. bit_at k s ∷ bits_from k j (255 - s)) next))
 
 -- bits that are shared
 pub shared_from : (a b : List ℕ) (i n : ℕ) → i ≤ n → bits_from a 0 n ≡ bits_from b 0 n
@@ -51,9 +51,8 @@ shared_from a b i n le e =
     let all : n ≡ i + (n - i) = omega arith in
     let at : 0 + i ≡ i = omega arith in
     let split : (k : List ℕ) → bits_from k 0 n ≡ bits_from k 0 i ++ bits_from k i (n - i) = λ k. ap (bits_from k 0) all
-    ∙ bits_from-append k 0 i (n - i) ∙ ap (λ j. bits_from k 0 i ++ bits_from k j (n - i)) at in
-    same_parts (bits_from a 0 i) (bits_from a i (n - i)) (bits_from b 0 i) (bits_from b i (n - i))
-    (length-bits_from a 0 i ∙ sym (length-bits_from b 0 i)) (sym (split a) ∙ e ∙ split b)
+    ∙ bits_from-append k 0 i _ ∙ ap (λ j. bits_from k 0 i ++ bits_from k j (n - i)) at in
+    same_parts _ _ _ _ (length-bits_from a 0 i ∙ sym (length-bits_from b 0 i)) (sym (split a) ∙ e ∙ split b)
 
 pub shared_bit : (a b : List ℕ) (n s : ℕ) → s < n → bits_from a 0 n ≡ bits_from b 0 n → bit_at a s ≡ bit_at b s
 shared_bit a b n s lt e =
@@ -94,13 +93,13 @@ page_value-more H height peers o foot key depth passed eight lt is =
     let next : suc (7 - passed) ≡ 8 - passed = omega arith in
     let bit : 8 * depth + (7 - passed) + 1 ≡ 8 * depth + (8 - passed) = omega arith in
     let levels : length (bits_from key (8 * depth + (8 - passed)) passed) + height ≡ height + passed =
-    rw (length-bits_from key (8 * depth + (8 - passed)) passed) (omega arith) in
+    rw (length-bits_from key _ passed) (omega arith) in
     rw (
       first,
       drop-cons peers (7 - passed) o (omega arith),
       ← is,
       next,
-      bits_from-cons key (8 * depth + (7 - passed)) passed,
+      bits_from-cons key _ passed,
       bit,
       levels,
     ) refl

@@ -1,7 +1,7 @@
 -- Bits as numbers.
 use Rattle.std.proofs.Common.{◌≡◌, ℕ, zero, suc, ◌+◌, ◌-◌, ◌*◌, ◌/◌, ◌%◌, ◌^◌, ◌<◌, Bool, true, false, cond, not, ◌&&◌, List, [], ◌∷◌, ◌++◌, length, length-append, eqb, leb, leb-true, ◌≤◌, refl, ap, inl, inr, arith}
 use Rattle.std.proofs.lemmas.Bool.{and_parts, cases_lt, eqb-true}
-use Rattle.std.proofs.lemmas.Nat.{pow_pos, div-mul-add, pow-add}
+use Rattle.std.proofs.lemmas.Nat.{div-mul-add, pow-add}
 use Rattle.std.proofs.Math.Nat.{pow-suc, zero-mul}
 use Rattle.warg_map.specs.Bits.{bits_from}
 use Rattle.warg_map.specs.Last.{same_bits}
@@ -25,9 +25,9 @@ every_is zero test [] e n = e
 every_is zero test (b ∷ q) e n = absurd (omega arith)
 every_is (suc k) test [] e n = absurd (omega arith)
 every_is (suc k) test (false ∷ q) e n = every_is k (λ r. test (false ∷ r)) q
-    (and_parts (every k (λ r. test (false ∷ r))) (every k (λ r. test (true ∷ r))) e).0 (omega arith)
+    (and_parts (every k _) (every k _) e).0 (omega arith)
 every_is (suc k) test (true ∷ q) e n = every_is k (λ r. test (true ∷ r)) q
-    (and_parts (every k (λ r. test (false ∷ r))) (every k (λ r. test (true ∷ r))) e).1 (omega arith)
+    (and_parts (every k _) (every k _) e).1 (omega arith)
 
 -- the bits of the byte with these bits
 pub byte_bits-number : (q : List Bool) → length q ≡ 8 → byte_bits (number q) ≡ q
@@ -39,8 +39,7 @@ pub number_below : (q : List Bool) → number q < 2 ^ length q
 unfolding number
 number_below [] = omega arith
 number_below (true ∷ q) = let h = number_below q in rw (pow-suc 2 (length q)) (omega arith)
-number_below (false ∷ q) = let h = number_below q in let p = pow_pos (length q) in
-    rw (pow-suc 2 (length q)) (omega arith)
+number_below (false ∷ q) = let h = number_below q in rw (pow-suc 2 _) (omega arith)
 
 -- a test of all numbers below one
 every_below : ℕ → (ℕ → Bool) → Bool
@@ -51,7 +50,7 @@ every_below_is : (n : ℕ) (test : ℕ → Bool) (s : ℕ) → every_below n tes
 unfolding every_below
 every_below_is zero test s e lt = absurd (omega arith)
 every_below_is (suc n) test s e lt =
-    let parts = and_parts (every_below n test) (test n) e in
+    let parts = and_parts (every_below n test) _ e in
     elim (cases_lt s n) [
       | inl low ↦ every_below_is n test s parts.0 low
       | inr high ↦ (let at : s ≡ n = omega arith in rw at parts.1)
@@ -70,8 +69,7 @@ powers m n = pow-add 2 m n
 pub number-append : (a q : List Bool) → number (a ++ q) ≡ number a * 2 ^ length q + number q
 unfolding number
 number-append [] q = let z = zero-mul (2 ^ length q) in omega arith
-number-append (true ∷ a) q = rw (number-append a q, length-append a q, powers (length a) (length q))
-    (spread (2 ^ length a) (number a) (2 ^ length q) (number q))
+number-append (true ∷ a) q = rw (number-append a q, length-append a q, powers (length a) (length q)) (spread _ _ _ _)
   where
     spread : (x y p z : ℕ) → x * p + (y * p + z) ≡ (x + y) * p + z
     spread x y p z = grind arith
@@ -87,17 +85,17 @@ low_fork x p y = grind arith
 
 number-bit : (a c : List Bool) (b : Bool) → number (a ++ b ∷ c) ≡ (number a * 2 + cond b 1 0) * 2 ^ length c + number c
 unfolding number
-number-bit a c true = rw (number-append a (true ∷ c), pow-suc 2 (length c)) (fork (number a) (2 ^ length c) (number c))
+number-bit a c true = rw (number-append a _, pow-suc 2 _) (fork _ _ _)
 number-bit a c false =
     let at : number a * 2 + 0 ≡ number a * 2 = omega arith in
-    rw (number-append a (false ∷ c), pow-suc 2 (length c), at) (low_fork (number a) (2 ^ length c) (number c))
+    rw (number-append a _, pow-suc 2 _, at) (low_fork _ _ _)
 
 pub number-beside : (a c r : List Bool) (b : Bool) → length r ≡ length c
     → first_beside (number (a ++ b ∷ c)) (length c) + number r ≡ number (a ++ not b ∷ r)
 number-beside a c r b e =
     let quotient : number (a ++ b ∷ c) / 2 ^ length c ≡ number a * 2 + cond b 1 0 = rw (number-bit a c b)
-    (div-mul-add (number a * 2 + cond b 1 0) (2 ^ length c) (number c) (number_below c)) in
-    rw (quotient, number-bit a r (not b), e) (ap (λ x. x * 2 ^ length c + number r) (other b))
+    (div-mul-add _ _ _ (number_below c)) in
+    rw (quotient, number-bit a r _, e) (ap (λ x. x * 2 ^ length c + number r) (other b))
   where
     other : (b : Bool) → cond (eqb ((number a * 2 + cond b 1 0) % 2) 0) (number a * 2 + cond b 1 0 + 1)
         (number a * 2 + cond b 1 0 - 1) ≡ number a * 2 + cond (not b) 1 0

@@ -20,11 +20,11 @@ AllPairs-append {X = X} R xs ys one two cross = λ i j d lt within.
       | inr right ↦ elim (cases_lt i (length xs)) [
         | inl low ↦
             let at = get_or_append_left xs ys d i low in
-            let and = get_or-append_right xs ys (length xs) j d refl right in
+            let and = get_or-append_right xs ys _ j d refl right in
             rw (at, and) (cross i (j - length xs) d low (omega arith))
         | inr high ↦
-            let at = get_or-append_right xs ys (length xs) i d refl high in
-            let and = get_or-append_right xs ys (length xs) j d refl right in
+            let at = get_or-append_right xs ys _ i d refl high in
+            let and = get_or-append_right xs ys _ j d refl right in
             rw (at, and) (two (i - length xs) (j - length xs) d (omega arith) (omega arith))
       ]
     ]
@@ -41,7 +41,7 @@ none_among H old more Kind none = record {
 -- where a prefix goes on with bytes
 byte_behind : (front : List ℕ) (x y : ℕ) (rest other : List ℕ) → front ++ x ∷ rest ≡ (front ++ y ∷ []) ++ other → x ≡ y
 byte_behind front x y rest other e =
-    first (append_cancel_left front (x ∷ rest) (y ∷ other) (e ∙ append_assoc front (y ∷ []) other))
+    first (append_cancel_left front _ _ (e ∙ append_assoc front _ other))
   where
     first : x ∷ rest ≡ y ∷ other → x ≡ y
     first e = cc
@@ -77,7 +77,6 @@ next_among H old more front byte xs ys one two = record {
     all prefix kind changes = elim (cases_lt kind.0 byte) [
       | inl low ↦ Contains-append_left xs ys _ (one.all prefix (kind.0, kind.1, low, kind.3) changes)
       | inr high ↦
-          let lt = kind.2 in
           let same : kind.0 ≡ byte = omega arith in
           Contains-append_right xs ys _ (two.all prefix (
             kind.1,
@@ -121,9 +120,7 @@ whole_among H old more front xs below here = record {
         byte_at : (prefix : List ℕ) (b : ℕ) (rest : List ℕ) → prefix ≡ front ++ b ∷ rest → All (λ n. n < 256) prefix
             → b < 256
         byte_at prefix b rest e bytes =
-            let at : get_or prefix (length front) 0 ≡ b = ap (λ l. get_or l (length front) 0) e
-            ∙ get_or-append_right front (b ∷ rest) (length front) (length front) 0 refl (omega arith)
-            ∙ ap (λ n. get_or (b ∷ rest) n 0) (let z : length front - length front ≡ 0 = omega arith in z) in
-            let size : length prefix ≡ length front + suc (length rest) = ap length e
-            ∙ length-append front (b ∷ rest) in
-            let h = bytes (length front) 0 (omega arith) in omega arith
+            let at : get_or prefix (length front) 0 ≡ b = rw e (get_or-append_right front _ _ _ 0 refl (omega arith)
+            ∙ ap (λ n. get_or (b ∷ rest) n 0) (let z : length front - length front ≡ 0 = omega arith in z)) in
+            let size : length prefix ≡ length front + suc (length rest) = rw e (length-append front _) in
+            omega arith

@@ -24,7 +24,7 @@ last_of-get [] = refl
 last_of-get (x ∷ []) = refl
 last_of-get (x ∷ y ∷ xs) =
     let at : length (x ∷ y ∷ xs) - 1 ≡ suc (length (y ∷ xs) - 1) = omega arith in
-    ap (slice_get (x ∷ y ∷ xs)) at ∙ last_of-get (y ∷ xs) ∙ over (last_of xs) x y
+    rw at (last_of-get (y ∷ xs) ∙ over (last_of xs) x y)
   where
     over : {X : Type 0} (o : Option X) (x y : X) → option_or o (Some y) ≡ option_or (option_or o (Some y)) (Some x)
     over None x y = refl
@@ -49,14 +49,13 @@ pub last_change : (H : List ℕ → List ℕ) (p : List Bool) (n : ℕ) (es : Li
     → last_of (changes_below H n es p) ≡ later_change H p n es
 unfolding last_with last_place
 last_change H p n [] = refl
-last_change H p n (x ∷ es) = step (is_below H p x) (last_change H p (n + 1) es)
-    ∙ both (is_below H p x) (last_with (is_below H p) es) refl
+last_change H p n (x ∷ es) = step (is_below H p x) (last_change H p (n + 1) es) ∙ both _ _ refl
   where
     step : (b : Bool) → last_of (changes_below H (n + 1) es p) ≡ later_change H p (n + 1) es
         → last_of (cond b (put_by H (n + 1) x ∷ changes_below H (n + 1) es p) (changes_below H (n + 1) es p))
         ≡ option_or (later_change H p (n + 1) es) (cond b (Some (put_by H (n + 1) x)) None)
     step true h = ap (λ o. option_or o (Some (put_by H (n + 1) x))) h
-    step false h = h ∙ nothing (later_change H p (n + 1) es)
+    step false h = h ∙ nothing _
       where
         nothing : (o : Option ChangeAt) → o ≡ option_or o None
         nothing None = refl
@@ -66,12 +65,12 @@ last_change H p n (x ∷ es) = step (is_below H p x) (last_change H p (n + 1) es
         → option_or (later_change H p (n + 1) es) (cond b (Some (put_by H (n + 1) x)) None)
         ≡ option_map (put_by H (n + cond (eqb (last_place (is_below H p) es) 0) (cond b 1 0)
         (suc (last_place (is_below H p) es)))) (option_or (last_with (is_below H p) es) (cond b (Some x) None))
-    both true None e = let z = last_place-none (is_below H p) es e in rw (e, z) refl
+    both true None e = let z = last_place-none _ es e in rw (e, z) refl
     both false None e = rw (e) refl
     both b (Some y) e =
-        let some = some_version (is_below H p) es y e in
+        let some = some_version _ es y e in
         let no : eqb (last_place (is_below H p) es) 0 ≡ false = false_from_ne_true _
-        (λ t. let z = eqb-true (last_place (is_below H p) es) 0 t in omega arith) in
+        (λ t. let z = eqb-true _ 0 t in omega arith) in
         let number : n + 1 + last_place (is_below H p) es ≡ n + suc (last_place (is_below H p) es) = omega arith in
         rw (e, no, number) refl
 
@@ -91,7 +90,7 @@ all_of_key H p n key (x ∷ es) all = either (is_below H p x) (all_of_key H p (n
     either true more all =
         let here : H x.0 ≡ key = all 0 (put_by H (n + 1) x) (omega arith) in
         let same : same_bits (last_bits key 256) (key_bits H x.0) ≡ true =
-        ap (λ k. same_bits (last_bits key 256) (last_bits k 256)) here ∙ same_bits-itself (last_bits key 256) in
+        rw here (same_bits-itself (last_bits key 256)) in
         rw (same, more (λ i d lt. all (suc i) d (omega arith))) refl
     either false more all = more all
 
@@ -100,15 +99,15 @@ pub all_one_key : (H : List ℕ → List ℕ) → GivesHashes H → (p : List Bo
     es ≡ true → All (λ c. c.key ≡ H e.0) (changes_below H n es p)
 all_one_key H gives p n e [] all = All-nil (λ (c : ChangeAt). c.key ≡ H e.0)
 all_one_key H gives p n e (x ∷ es) all =
-    let parts = and_parts (not (is_below H p x) || same_bits (key_bits H e.0) (key_bits H x.0)) _ all in
+    let parts = and_parts _ _ all in
     either (is_below H p x) parts.0 (all_one_key H gives p (n + 1) e es parts.1)
   where
     either : (b : Bool) → (not b || same_bits (key_bits H e.0) (key_bits H x.0)) ≡ true
         → All (λ c. c.key ≡ H e.0) (changes_below H (n + 1) es p)
         → All (λ c. c.key ≡ H e.0) (cond b (put_by H (n + 1) x ∷ changes_below H (n + 1) es p)
         (changes_below H (n + 1) es p))
-    either true t rest = All-cons (λ (c : ChangeAt). c.key ≡ H e.0) (put_by H (n + 1) x) _
-        (sym (same_digest H e.0 x.0 (gives _) (gives _) (same_bits-true (key_bits H e.0) (key_bits H x.0) t))) rest
+    either true t rest = All-cons (λ (c : ChangeAt). c.key ≡ H e.0) (put_by H _ x) _
+        (sym (same_digest H e.0 x.0 (gives _) (gives _) (same_bits-true _ _ t))) rest
     either false t rest = rest
 
 -- a byte more

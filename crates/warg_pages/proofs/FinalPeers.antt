@@ -1,5 +1,5 @@
 -- The peers of a proof, from those of a way down.
-use Rattle.std.proofs.Common.{◌≡◌, ℕ, zero, suc, ◌+◌, ◌-◌, ◌<◌, ◌≤◌, Bool, true, false, not, cond, eqb, List, [], ◌∷◌, ◌++◌, length, take, get_or, Option, Some, None, is_some, refl, sym, ap, subst, ◌∙◌, ◌^◌, arith, inl, inr, ◌⊎◌, unwrap_or}
+use Rattle.std.proofs.Common.{◌≡◌, ℕ, zero, suc, ◌+◌, ◌-◌, ◌<◌, ◌≤◌, Bool, true, false, not, cond, eqb, List, [], ◌∷◌, ◌++◌, length, take, get_or, Option, Some, None, is_some, refl, sym, ap, ◌∙◌, ◌^◌, arith, inl, inr, ◌⊎◌, unwrap_or}
 use Rattle.std.proofs.lemmas.Bool.{cond-false, eqb-true, false_from_ne_true}
 use Rattle.std.proofs.lemmas.List.{take_more, take-append-drop, length-take, append_assoc}
 use Rattle.std.specs.Prelude.{reverse, replicate}
@@ -49,7 +49,7 @@ length-filled_from H at (o ∷ os) = ap suc (length-filled_from H (at + 1) os)
 filled_peer : (H : List ℕ → List ℕ) (k n : ℕ) (held : List Bool → Option (List ℕ)) (o : Option (List ℕ)) → n ≡ k
     → IsPeer H None k held o → IsPeer H (Some (empty_root H k)) k held (Some (unwrap_or o (empty_root H n)))
 filled_peer H k n held o e (inl none) =
-    inl (ap Some (ap (λ t. unwrap_or t (empty_root H n)) none.0 ∙ ap (empty_root H) e), none.1)
+    inl (ap Some (rw none.0 (ap (empty_root H) e)), none.1)
 filled_peer H k n held o e (inr some) = inr (ap Some (ap (λ t. unwrap_or t (empty_root H n)) some.0), some.1)
 
 filled_peers : (H : List ℕ → List ℕ) (held : List Bool → Option (List ℕ)) (bits : List Bool) (at : ℕ)
@@ -59,8 +59,8 @@ unfolding IsPeers
 filled_peers H held bits at [] n h = h
 filled_peers H held [] at (o ∷ os) n h = absurd h
 filled_peers H held (b ∷ bits) at (o ∷ os) n h = (
-  filled_peer H (length bits) (255 - at) (λ q. held (not b ∷ q)) o (omega arith) h.0,
-  filled_peers H (λ q. held (b ∷ q)) bits (at + 1) os (omega arith) h.1,
+  filled_peer H _ _ (λ q. held _) o (omega arith) h.0,
+  filled_peers H (λ q. held _) bits _ os (omega arith) h.1,
 )
 
 filled_value : (H : List ℕ → List ℕ) (x : List ℕ) (bits : List Bool) (at : ℕ) (os : List (Option (List ℕ)))
@@ -103,12 +103,12 @@ left_peers : (H : List ℕ → List ℕ) (es : List (List ℕ × List ℕ)) (key
     → AreLeft os n → IsPeers H (λ k. None) (get (map_of H es)) (last_bits key 256) os
     → IsPeers H (λ k. None) (get (map_of H es)) (last_bits key 256) (take n os)
 left_peers H es key os n h p =
-    trimmed_peers H (get (map_of H es)) (last_bits key 256) (take n os) (length os - n)
-    (λ q m. short_held H es q (λ e. m (e ∙ sym (length-last_bits key 256)))) (rw (left_is os n h) at p)
+    trimmed_peers H _ _ _ _ (λ q m. short_held H es q (λ e. m (e ∙ sym (length-last_bits key 256))))
+    (rw (left_is os n h) at p)
 
 left_value : (H : List ℕ → List ℕ) (x : List ℕ) (bits : List Bool) (os : List (Option (List ℕ))) (n : ℕ) → AreLeft os n
     → value_above H 0 (take n os) x bits ≡ value_above H 0 os x bits
-left_value H x bits os n h = sym (trimmed_value H x bits (take n os) (length os - n))
+left_value H x bits os n h = sym (trimmed_value H x bits _ _)
     ∙ ap (λ t. value_above H 0 t x bits) (sym (left_is os n h))
 
 left_count : (H : List ℕ → List ℕ) (m : SparseMap) (bits : List Bool) (os : List (Option (List ℕ)))
@@ -120,19 +120,19 @@ presence_count : (H : List ℕ → List ℕ) (m : SparseMap) (bits : List Bool) 
     → IsPeers H (λ k. None) (get m) bits os → (os ≡ []) ⊎ EndsInSome os
     → IsPeerCount 1 m bits (length (presence_peers H os))
 presence_count H m bits [] p ends = no_count H m bits 1 p
-presence_count H m bits (o ∷ os) p (inl none) = absurd (cc none)
-presence_count H m bits (o ∷ os) p (inr some) = rw (length-filled_from H 1 os) (some_count H m bits (o ∷ os) 1 p some)
+presence_count H m bits _ p (inl none) = absurd (cc none)
+presence_count H m bits (o ∷ os) p (inr some) = rw (length-filled_from H 1 os) (some_count H m bits _ 1 p some)
 
 presence_are : (H : List ℕ → List ℕ) (held : List Bool → Option (List ℕ)) (bits : List Bool)
     (os : List (Option (List ℕ))) → length bits ≡ 256 → IsPeers H (λ k. None) held bits os
     → IsPeers H (λ k. Some (empty_root H k)) held bits (presence_peers H os)
 presence_are H held bits [] n p = lone_ends H held bits n p
-presence_are H held bits (o ∷ os) n p = filled_peers H held bits 0 (o ∷ os) (omega arith) p
+presence_are H held bits _ n p = filled_peers H held bits 0 _ (omega arith) p
 
 presence_value : (H : List ℕ → List ℕ) (x : List ℕ) (bits : List Bool) (os : List (Option (List ℕ))) → length bits ≡ 256
     → value_above H 0 (presence_peers H os) x bits ≡ value_above H 0 os x bits
 presence_value H x bits [] n = lone_value H x bits n
-presence_value H x bits (o ∷ os) n = filled_value H x bits 0 (o ∷ os) (omega arith)
+presence_value H x bits _ n = filled_value H x bits 0 _ (omega arith)
 
 presence_few : (H : List ℕ → List ℕ) (os : List (Option (List ℕ))) → length os ≤ 256
     → length (presence_peers H os) ≤ 256
@@ -147,10 +147,8 @@ pub held_proof : (H : List ℕ → List ℕ) (es : List (List ℕ × List ℕ)) 
 held_proof H es key leaf os n h p held =
     let left = left_peers H es key os n h p in record {
       held = ap is_some held;
-      peers_from_top = rw (reverse-reverse (presence_peers H (take n os)))
-          (presence_are H (get (map_of H es)) (last_bits key 256) (take n os) (length-last_bits key 256) left);
-      count = rw (length-reverse (presence_peers H (take n os)))
-          (presence_count H (map_of H es) (last_bits key 256) (take n os) left h.ends);
+      peers_from_top = rw (reverse-reverse _) (presence_are H _ _ _ (length-last_bits key 256) left);
+      count = rw (length-reverse _) (presence_count H _ _ _ left h.ends);
     }
 
 pub held_leads : (H : List ℕ → List ℕ) (key leaf root : List ℕ) (os : List (Option (List ℕ))) (n : ℕ) → AreLeft os n
@@ -158,10 +156,8 @@ pub held_leads : (H : List ℕ → List ℕ) (key leaf root : List ℕ) (os : Li
     → proof_value H (reverse (presence_peers H (take n os))) leaf (last_bits key 256) ≡ root
 held_leads H key leaf root os n h few leads =
     let size : length (take n os) ≤ 256 = let all = length-take n os in omega arith in
-    reversed_value H (presence_peers H (take n os)) leaf (last_bits key 256) (length-last_bits key 256)
-    (presence_few H (take n os) size)
-    ∙ presence_value H leaf (last_bits key 256) (take n os) (length-last_bits key 256)
-    ∙ left_value H leaf (last_bits key 256) os n h ∙ leads
+    reversed_value H _ leaf _ (length-last_bits key 256) (presence_few H _ size)
+    ∙ presence_value H leaf _ _ (length-last_bits key 256) ∙ left_value H leaf _ os n h ∙ leads
 
 -- and of absence
 pub absent_proof : (H : List ℕ → List ℕ) (es : List (List ℕ × List ℕ)) (key : List ℕ) (os : List (Option (List ℕ)))
@@ -171,8 +167,8 @@ pub absent_proof : (H : List ℕ → List ℕ) (es : List (List ℕ × List ℕ)
 absent_proof H es key os n h p none =
     let left = left_peers H es key os n h p in record {
       absent = ap is_some none;
-      peers_from_top = rw (reverse-reverse (take n os)) left;
-      count = rw (length-reverse (take n os)) (left_count H (map_of H es) (last_bits key 256) (take n os) left h.ends);
+      peers_from_top = rw (reverse-reverse _) left;
+      count = rw (length-reverse _) (left_count H _ _ _ left h.ends);
     }
 
 pub absent_leads : (H : List ℕ → List ℕ) (key x root : List ℕ) (os : List (Option (List ℕ))) (n : ℕ) → AreLeft os n
@@ -180,14 +176,13 @@ pub absent_leads : (H : List ℕ → List ℕ) (key x root : List ℕ) (os : Lis
     → proof_value H (reverse (take n os)) x (last_bits key 256) ≡ root
 absent_leads H key x root os n h few leads =
     let size : length (take n os) ≤ 256 = let all = length-take n os in omega arith in
-    reversed_value H (take n os) x (last_bits key 256) (length-last_bits key 256) size
-    ∙ left_value H x (last_bits key 256) os n h ∙ leads
+    reversed_value H _ x _ (length-last_bits key 256) size ∙ left_value H x _ os n h ∙ leads
 
 -- the way from the root, where there are insertions
 pub last_of_all : (H : List ℕ → List ℕ) (e : List ℕ × List ℕ) (es : List (List ℕ × List ℕ))
     → stands_over H (e ∷ es) [] (last_with (is_below H []) (e ∷ es)) ≡ true
 unfolding last_with
-last_of_all H e es = by_last (last_with (is_below H []) es)
+last_of_all H e es = by_last _
   where
     by_last : (o : Option (List ℕ × List ℕ)) → stands_over H (e ∷ es) [] (option_or o (Some e)) ≡ true
     by_last None = refl
@@ -196,11 +191,11 @@ last_of_all H e es = by_last (last_with (is_below H []) es)
 pub version_of_all : (H : List ℕ → List ℕ) (es : List (List ℕ × List ℕ)) → version H es [] ≡ length es
 unfolding last_place
 version_of_all H [] = refl
-version_of_all H (e ∷ es) = rw (version_of_all H es) (more (length es))
+version_of_all H (e ∷ es) = rw (version_of_all H es) (more _)
   where
     more : (n : ℕ) → cond (eqb n 0) 1 (suc n) ≡ suc n
     more zero = refl
-    more (suc n) = let some : eqb (suc n) 0 ≡ false = false_from_ne_true _ (λ e. let z = eqb-true (suc n) 0 e in
+    more (suc n) = let some : eqb (suc n) 0 ≡ false = false_from_ne_true _ (λ e. let z = eqb-true _ 0 e in
         omega arith) in cond-false _ _ _ some
 
 pub no_bits : (key : List ℕ) → bits_from key 0 0 ≡ []
@@ -212,8 +207,8 @@ pub own_at_root : (H : List ℕ → List ℕ) (bytes_at : List ℕ → ℕ → O
     → IsOwnAt H bytes_at key 0 root count es
 own_at_root H bytes_at root key count es fits some own = record {
   pages = own.pages;
-  fits = (let all = own.all in omega arith);
-  is_there = ap (stands H es) (no_bits key) ∙ there es own.all;
+  fits = omega arith;
+  is_there = rw (no_bits key) (there es own.all);
   is_version = sym own.all ∙ sym (version_of_all H es) ∙ ap (version H es) (sym (no_bits key));
   is_digest = own.is_root ∙ ap (λ p. root_of_levels H 256 (below (map_of H es) p)) (sym (no_bits key));
 }
@@ -236,15 +231,14 @@ whole_own H key os more held es e own = rw e record {
   where
     at_root : IsPeers H (λ k. None) (below (map_of H es) (bits_from key 0 0)) (last_bits key 256) more
         → IsPeers H (λ k. None) (get (map_of H es)) (last_bits key 256) more
-    at_root h = let P : List Bool → Type 0 = λ p. IsPeers H (λ k. None) (below (map_of H es) p)
-        (last_bits key 256) more in subst P (no_bits key) h
+    at_root h = rw (no_bits key) at h
 
 -- where there are none
 pub nothing_held : (H : List ℕ → List ℕ) (es : List (List ℕ × List ℕ)) → length es ≡ 0 → (q : List Bool)
     → get (map_of H es) q ≡ None
 unfolding last_with
 nothing_held H [] n q = last_held H q []
-nothing_held H (e ∷ es) n q = absurd (omega arith)
+nothing_held H _ n q = absurd (omega arith)
 
 pub empty_way : (H : List ℕ → List ℕ) (root key : List ℕ) (os : List (Option (List ℕ))) → os ≡ []
     → root ≡ empty_root H 256 → IsWholeWay H root key os None
@@ -254,16 +248,15 @@ pub empty_own : (H : List ℕ → List ℕ) (bytes_at : List ℕ → ℕ → Opt
     (os : List (Option (List ℕ))) (es : List (List ℕ × List ℕ)) → count ≡ 0 → os ≡ []
     → IsOwnSource H bytes_at root count es → IsWholeWayOf H es key os None
 empty_own H bytes_at root key count os es z e own = rw e record {
-  are_peers = nothing_end H (get (map_of H es)) (last_bits key 256) (nothing_held H es (own.all ∙ z));
-  is_leaf = nothing_held H es (own.all ∙ z) (last_bits key 256);
+  are_peers = nothing_end H _ _ (nothing_held H es (own.all ∙ z));
+  is_leaf = nothing_held H es (own.all ∙ z) _;
   is_index = tt;
 }
 
 pub no_empty_way : (H : List ℕ → List ℕ) (bytes_at : List ℕ → ℕ → Option (List ℕ)) (root : List ℕ) (count : ℕ)
     (es : List (List ℕ × List ℕ)) → count ≡ 0 → ¬ (root ≡ empty_root H 256) → IsOwnSource H bytes_at root count es → ⊥
 no_empty_way H bytes_at root count es z other own =
-    other (own.is_root ∙ root-same H 256 (get (map_of H es)) (λ q. None) (nothing_held H es (own.all ∙ z))
-    ∙ root-nothing H 256)
+    other (own.is_root ∙ root-same H 256 _ _ (nothing_held H es (own.all ∙ z)) ∙ root-nothing H 256)
 
 -- a peer more is filled
 pub presence_more : (H : List ℕ → List ℕ) (os : List (Option (List ℕ))) (at : ℕ) (o : Option (List ℕ)) → at < length os
@@ -272,8 +265,7 @@ pub presence_more : (H : List ℕ → List ℕ) (os : List (Option (List ℕ))) 
     ≡ lone_peer H os ++ filled_from H 0 (take (at + 1) os)
 presence_more H os at o lt is =
     let size : 0 + length (take at os) ≡ at = let all = length-take at os in omega arith in
-    append_assoc (lone_peer H os) (filled_from H 0 (take at os)) (Some (unwrap_or o (empty_root H (255 - at))) ∷ [])
-    ∙ ap (λ t. lone_peer H os ++ t)
+    append_assoc (lone_peer H os) _ _ ∙ ap (λ t. lone_peer H os ++ t)
     (ap (λ n. filled_from H 0 (take at os) ++ Some (unwrap_or o (empty_root H (255 - n))) ∷ []) (sym size)
-    ∙ sym (filled_from-push H 0 (take at os) o)
+    ∙ sym (filled_from-push H 0 _ o)
     ∙ ap (filled_from H 0) (ap (λ x. take at os ++ x ∷ []) is ∙ sym (take_more os at o lt)))

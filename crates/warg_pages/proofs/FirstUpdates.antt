@@ -41,7 +41,6 @@ pub first_page_refused : (H : List ℕ → List ℕ) → GivesHashes H → (byte
     → ((slots : List SlotAt) → IsPage slots → bytes_at [] count ≢ Some (page_bytes slots))
     → IsOwnSource H bytes_at root count es → ⊥
 first_page_refused H gives bytes_at root count es fits some fault own =
-    let all = own.all in
     fault (page_of H es []) (own_slots H es [] gives (omega arith))
     (own_first_bytes H gives bytes_at root count es fits some own)
 
@@ -80,16 +79,16 @@ first_update H bytes_at root count page old more some fits is_first own =
         fits = omega arith;
         are_bytes = All-nil IsByte;
         are_slots = is_first old own ∙ ap (page_of H old) (sym no_prefix);
-        are_changes = ap (λ m. changes_from H m more) (sym n) ∙ sym (all_of (changes_from H (length old) more))
+        are_changes = ap (λ m. changes_from H m more) (sym n) ∙ sym (all_of _)
             ∙ ap (changes_below H (length old) more) (sym no_prefix);
       };
       changed = record {
         are_bytes = All-nil IsByte;
         short = omega arith;
-        is_there = ap (stands H (old ++ more)) no_prefix ∙ all_stand H (old ++ more) (omega arith);
-        later = (let v = ap (version H (old ++ more)) no_prefix ∙ version_of_all H (old ++ more) in omega arith);
+        is_there = ap (stands H _) no_prefix ∙ all_stand H _ (omega arith);
+        later = (let v = ap (version H _) no_prefix ∙ version_of_all H (old ++ more) in omega arith);
       };
-      is_version = (let v = ap (version H (old ++ more)) no_prefix ∙ version_of_all H (old ++ more) in omega arith);
+      is_version = (let v = ap (version H _) no_prefix ∙ version_of_all H (old ++ more) in omega arith);
       is_digest = own.is_root ∙ sym (at_prefix old no_prefix);
     }
   where
@@ -137,5 +136,5 @@ pub first_changes : (H : List ℕ → List ℕ) (count : ℕ) (more : List (List
     → AreChangesAt H count more [] (changes_from H count more)
 first_changes H count more = record {
   are_bytes = All-nil IsByte;
-  are_changes = sym (all_of (changes_from H count more)) ∙ ap (changes_below H count more) (sym no_prefix);
+  are_changes = sym (all_of _) ∙ ap (changes_below H count more) (sym no_prefix);
 }

@@ -4,7 +4,6 @@ use Rattle.std.proofs.lemmas.Bool.{cases_lt, lt-ltb, le-ltb}
 use Rattle.std.proofs.lemmas.Fmt.{decimal_injective, decimal_is_IsNumeral}
 use Rattle.std.proofs.lemmas.List.{length-take}
 use Rattle.std.proofs.lemmas.List.Elements.{All-tail, All-take}
-use Rattle.std.proofs.lemmas.Str.Parse.{digit_from_value}
 use Rattle.std.specs.Bool.{then_some}
 use Rattle.std.specs.Fmt.{decimal, digit_glyph}
 use Rattle.std.specs.List.{All, Contains, flat_map, filter_map, cons_option}
@@ -13,11 +12,11 @@ use Rattle.std.specs.Str.Parse.{AllDigits}
 use Rattle.warg_crypto.specs.Digests.{IsByte, IsDigest}
 use Rattle.warg_crypto.specs.Collisions.{GivesHashes}
 use Rattle.warg_crypto.specs.Tree.{leaf_digest}
-use Rattle.warg_map.specs.Bits.{bit_at, bits_from, last_bits, key_bits}
+use Rattle.warg_map.specs.Bits.{bit_at, bits_from}
 use Rattle.warg_map.specs.Last.{last_with}
 use Rattle.warg_map.specs.Sparse.{root_of_levels, sparse_root, map_of}
-use Rattle.warg_pages.specs.Prefixes.{bits_of_bytes, byte_bits, is_below, below, version}
-use Rattle.warg_pages.specs.Slots.{SlotAt, is_lone, slot_over, slot_of, numbers, page_of}
+use Rattle.warg_pages.specs.Prefixes.{bits_of_bytes, is_below, below, version}
+use Rattle.warg_pages.specs.Slots.{SlotAt, is_lone, slot_over, numbers, page_of}
 use Rattle.warg_pages.specs.ProvedKeys.{IsOwnSource}
 use Rattle.warg_pages.proofs.OwnVisits as visits
 use Rattle.warg_pages.specs.PageBytes.{slot_bytes, lone_bytes, page_bytes}
@@ -79,7 +78,7 @@ one_glyph d e same = elim (cases_lt d 10) [
 no_x : (v : ℕ) (rest : List ℕ) → v < 2 ^ 64 → decimal v ≡ 120 ∷ rest → ⊥
 no_x v rest small e =
     let digits : AllDigits 10 (120 ∷ rest) = rw e at (decimal_is_IsNumeral v small).0.1 in
-    let in_range = digit_from_value 120 digits.0 in omega arith
+    omega arith
 
 -- The path of a page fixes its prefix and its version: here without "map/".
 pub one_path_below : (p q : List ℕ) (v w : ℕ) → All IsByte p → All IsByte q → v < 2 ^ 64 → w < 2 ^ 64
@@ -91,7 +90,7 @@ one_path_below (x ∷ p) (y ∷ q) v w all other v_fits w_fits e =
     let parts = same_parts (byte_path x) (flat_map byte_path p ++ decimal v) (byte_path y)
     (flat_map byte_path q ++ decimal w) refl e in
     let high : digit_glyph false (x / 16) ≡ digit_glyph false (y / 16) = let path = parts.0 in cc in
-    let low : digit_glyph false (x % 16) ≡ digit_glyph false (y % 16) = let path = parts.0 in cc in
+    let low : digit_glyph false (x % 16) ≡ digit_glyph false (y % 16) = cc in
     let first : x ≡ y = omega (arith, one_glyph (x / 16) (y / 16) high, one_glyph (x % 16) (y % 16) low) in
     let rest = one_path_below p q v w (All-tail IsByte x p all) (All-tail IsByte y q other) v_fits w_fits parts.1 in
     ((λ i. first i ∷ rest.0 i), rest.1)
@@ -131,37 +130,36 @@ short_slots f first (suc n) short = one (f first) (filter_map f (numbers (first 
   where
     one : (o : Option SlotAt) (slots : List SlotAt) → IsShort o → length (page_bytes slots) ≤ 106 * n
         → length (page_bytes (cons_option o slots)) ≤ 106 * suc n
-    one None slots h rest = omega (arith, rest)
+    one None slots h rest = omega arith
     one (Some x) slots h rest = omega (arith, rest, h, length-append (slot_bytes x) (page_bytes slots))
 
 pub page_is_short : (H : List ℕ → List ℕ) (insertions : List (List ℕ × List ℕ)) (prefix : List Bool) → GivesHashes H
     → length (page_bytes (page_of H insertions prefix)) ≤ 27136
 unfolding page_of
-page_is_short H insertions prefix gives = short_slots (slot_of H insertions prefix) 0 256
-    (λ s. short_slot H gives insertions (prefix ++ byte_bits s) s _)
+page_is_short H insertions prefix gives = short_slots _ 0 256 (λ s. short_slot H gives insertions _ s _)
 
 -- A version is no greater than the number of insertions.
 pub version_within : (H : List ℕ → List ℕ) (insertions : List (List ℕ × List ℕ)) (prefix : List Bool)
     → version H insertions prefix ≤ length insertions
-version_within H insertions prefix = own.version_within (is_below H prefix) insertions
+version_within H insertions prefix = own.version_within _ insertions
 
 -- Where a page stands, a key digest of an insertion begins with its prefix.
 last_is_there : {X : Type 0} (p : X → Bool) (xs : List X) (e : X) → last_with p xs ≡ Some e → Contains xs e
 unfolding last_with
-last_is_there p [] e h = absurd (cc)
-last_is_there {X = X} p (x ∷ xs) e h = either (last_with p xs) (p x) (last_is_there p xs e) h
+last_is_there p [] e h = absurd cc
+last_is_there {X = X} p (x ∷ xs) e h = either _ (p x) (last_is_there p xs e) h
   where
     either : (o : Option X) (b : Bool) → (o ≡ Some e → Contains xs e) → option_or o (cond b (Some x) None) ≡ Some e
         → Contains (x ∷ xs) e
     either None true below h = let same : x ≡ e = cc in (0, omega arith, same)
-    either None false below h = absurd (cc)
+    either None false below h = absurd cc
     either (Some y) b below h = let there = below h in (suc there.0, omega arith, there.2)
 
 pub page_has_insertion : (H : List ℕ → List ℕ) (insertions : List (List ℕ × List ℕ)) (prefix : List ℕ) → GivesHashes H
     → All IsByte prefix → length prefix < 32 → stands H insertions (bits_of_bytes prefix) ≡ true
     → (e : List ℕ × List ℕ) × Contains insertions e × (prefix ≡ take (length prefix) (H e.0))
 page_has_insertion H insertions prefix gives are_bytes short is_there =
-    by_last (last_with (is_below H p) insertions) refl is_there
+    by_last _ refl is_there
   where
     p : List Bool
     p = bits_of_bytes prefix
@@ -170,20 +168,18 @@ page_has_insertion H insertions prefix gives are_bytes short is_there =
     begins e under =
         let depth = length prefix in
         let is = gives e.0 in
-        let rest = begins-rest p (key_bits H e.0) under in
-        let bits = (same_parts p rest.0 (bits_from (H e.0) 0 (8 * depth)) (last_bits (H e.0) (256 - 8 * depth))
-        (length-bits prefix ∙ sym (length-bits_from (H e.0) 0 (8 * depth)))
-        (sym rest.1 ∙ key_at (H e.0) (8 * depth) (omega arith))).0 in
+        let rest = begins-rest p _ under in
+        let bits = (same_parts p rest.0 _ _ (length-bits prefix ∙ sym (length-bits_from _ 0 _))
+        (sym rest.1 ∙ key_at _ _ (omega arith))).0 in
         let taken : length (take depth (H e.0)) ≡ depth = omega (arith, length-take depth (H e.0), is.has_32) in
-        sym (same_bytes (take depth (H e.0)) prefix (All-take IsByte depth (H e.0) is.are_bytes) are_bytes taken
-        (bits_of_taken (H e.0) depth (omega (arith, is.has_32)) ∙ sym bits))
+        sym (same_bytes _ prefix (All-take IsByte depth (H e.0) is.are_bytes) are_bytes taken
+        (bits_of_taken _ depth (omega arith) ∙ sym bits))
 
     by_last : (last : Option (List ℕ × List ℕ)) → last_with (is_below H p) insertions ≡ last
         → stands_over H insertions p last ≡ true
         → (e : List ℕ × List ℕ) × Contains insertions e × (prefix ≡ take (length prefix) (H e.0))
-    by_last None l h = absurd (cc)
-    by_last (Some e) l h =
-        (e, last_is_there (is_below H p) insertions e l, begins e (last_passes (is_below H p) insertions e l))
+    by_last None l h = absurd cc
+    by_last (Some e) l h = (e, last_is_there _ insertions e l, begins e (last_passes _ insertions e l))
 
 -- A page whose version is an old one is as it was before the later insertions.
 pub unchanged_page : (H : List ℕ → List ℕ) (old more : List (List ℕ × List ℕ)) (prefix : List Bool)

@@ -13,7 +13,7 @@ use Rattle.warg_map.specs.Sparse.{root_of_levels, map_of}
 use Rattle.warg_pages.specs.Prefixes.{byte_bits, below}
 use Rattle.warg_pages.specs.Slots.{SlotAt, IsSlot, IsPage, page_of}
 use Rattle.warg_pages.specs.Pages.{digest_at, root_over, slot_height, page_digest}
-use Rattle.warg_pages.specs.GivenPages.{HaveSameDigests, AreInputsAt, input_over}
+use Rattle.warg_pages.specs.GivenPages.{HaveSameDigests, AreInputsAt}
 use Rattle.warg_pages.proofs.ByteNumbers.{number-byte_bits}
 use Rattle.warg_pages.proofs.PageRoots.{page_slot, page_root, root-same}
 use Rattle.warg_pages.proofs.KeyPrefixes.{length-bits_from}
@@ -23,7 +23,7 @@ use Rattle.warg_pages.proofs.OwnPages.{root_is_digest}
 size_empty : (H : List ℕ → List ℕ) → HasSize H → (k : ℕ) → length (empty_root H k) ≡ 32
 unfolding empty_root
 size_empty H size zero = size _
-size_empty H size (suc k) = size _
+size_empty H size _ = size _
 
 size_over : (H : List ℕ → List ℕ) → HasSize H → (f : ℕ → List ℕ) (first k : ℕ) → length (f first) ≡ 32
     → length (root_over H f first k) ≡ 32
@@ -54,7 +54,7 @@ SameOver f g first k = (s : ℕ) → first ≤ s → s < first + 2 ^ k → f s �
 
 halves : (f g : ℕ → List ℕ) (first k : ℕ) → SameOver f g first k → SameOver f g (first + 2 ^ k) k
     → SameOver f g first (suc k)
-halves f g first k l r = λ s ge lt. let double = pow-suc 2 k in
+halves f g first k l r = λ s ge lt.
     elim (cases_lt s (first + 2 ^ k)) [ inl low ↦ l s ge low | inr high ↦ r s high (omega arith) ]
 
 abbrev Sized : (ℕ → List ℕ) → Type 0
@@ -76,10 +76,9 @@ same_over H size depth xs ys first (suc k) place from le lf lg e =
     let some = pow_pos k in
     let f = digest_at H (slot_height depth) xs in
     let g = digest_at H (slot_height depth) ys in
-    elim (same_or_not (input_over H depth xs first k) (input_over H depth ys first k)) [
+    elim (same_or_not _ _) [
       | inl same ↦ (
-          let parts = branch_parts (root_over H f first k) (root_over H f (first + 2 ^ k) k) (root_over H g first k)
-          (root_over H g (first + 2 ^ k) k) (size_over H size f first k (lf first (omega arith))
+          let parts = branch_parts _ _ _ _ (size_over H size f first k (lf first (omega arith))
           ∙ sym (size_over H size g first k (lg first (omega arith)))) same in
           both (halves f g first k)
           (same_over H size depth xs ys first k (2 * place) (omega arith) (omega arith) lf lg parts.0)
@@ -109,16 +108,13 @@ given_page H es p depth slots gives lt n page e =
     let size = sizes gives in
     both (λ same (u : Unit {0}) s low. same s (omega arith) low)
     (same_over H size depth slots (page_of H es p) 0 8 0 (omega arith) (omega arith)
-    (λ s low. size_at H size (slot_height depth) slots s page.are_slots) own (e
-    ∙ sym (page_root H es p depth lt n)))
-    (inl tt)
+    (λ s low. size_at H size _ slots s page.are_slots) own (e ∙ sym (page_root H es p depth lt n))) (inl tt)
   where
     own : Sized (digest_at H (slot_height depth) (page_of H es p))
     own s low =
         let at : digest_at H (slot_height depth) (page_of H es p) s ≡ root_of_levels H (slot_height depth)
         (λ r. below (map_of H es) p (byte_bits s ++ r)) = rw (number-byte_bits s low) at
-        (page_slot H es p (byte_bits s) depth lt n (length-bits_from (s ∷ []) 0 8)) in
-        let same = root-same H (slot_height depth) (λ r. below (map_of H es) p (byte_bits s ++ r))
-        (below (map_of H es) (p ++ byte_bits s))
-        (λ r. ap (get (map_of H es)) (sym (append_assoc p (byte_bits s) r))) in
-        ap length (at ∙ same) ∙ (root_is_digest H gives es (p ++ byte_bits s) (slot_height depth)).has_32
+        (page_slot H es p (byte_bits s) depth lt n (length-bits_from _ 0 8)) in
+        let same = root-same H _ (λ r. below _ p _) (below _ _) (λ r. ap (get (map_of H es)) (sym (append_assoc p _ r)))
+        in
+        ap length (at ∙ same) ∙ (root_is_digest H gives es _ _).has_32

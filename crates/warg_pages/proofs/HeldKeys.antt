@@ -24,12 +24,12 @@ one_there : (b : Bool) (y x : SlotAt) (xs : List SlotAt) (s : ℕ) → eqb y.byt
     → Contains (y ∷ xs) x × (x.byte ≡ s)
 one_there true y x xs s is rest e =
     let same : y ≡ x = cc in
-    (rw same (first_among x xs), ap (λ (z : SlotAt). z.byte) (sym same) ∙ eqb-true y.byte s is)
+    (rw same (first_among x xs), rw (← same) (eqb-true y.byte s is))
 one_there false y x xs s is rest e = let there = rest e in (later_among y xs x there.0, there.1)
 
 slot_there : (xs : List SlotAt) (s : ℕ) (x : SlotAt) → slot_at xs s ≡ Some x → Contains xs x × (x.byte ≡ s)
-slot_there [] s x e = absurd (cc)
-slot_there (y ∷ xs) s x e = one_there (eqb y.byte s) y x xs s refl (slot_there xs s x) e
+slot_there [] s x e = absurd cc
+slot_there (y ∷ xs) s x e = one_there _ y x xs s refl (slot_there xs s x) e
 
 slot_found : (xs : List SlotAt) (x : SlotAt) → Ascends xs → Contains xs x → slot_at xs x.byte ≡ Some x
 slot_found [] x ascend h = absurd (let lt = h.1 in omega arith)
@@ -53,14 +53,12 @@ put_in false y ys x h (inr later) = later
 kept_in : (xs : List SlotAt) (x : SlotAt) → is_some x.lone ≡ true → Contains xs x
     → Contains (with_lone xs) x
 kept_in [] x some h = h
-kept_in (y ∷ xs) x some h = put_in (is_some y.lone) y (with_lone xs) x
-    (λ same. ap (λ (z : SlotAt). is_some z.lone) same ∙ some)
+kept_in (y ∷ xs) x some h = put_in _ y (with_lone xs) x (λ same. rw same some)
     (elim (among y xs x h) [ inl same ↦ inl same | inr later ↦ inr (kept_in xs x some later) ])
 
 split_slots : (pages first rest : List ChangedPageAt) → pages ≡ first ++ rest
     → lone_slots pages ≡ lone_slots first ++ lone_slots rest
-split_slots pages first rest e = ap lone_slots e
-    ∙ flat_map-append (λ (p : ChangedPageAt). with_lone p.page) first rest
+split_slots pages first rest e = rw e (flat_map-append (λ (p : ChangedPageAt). with_lone p.page) first rest)
 
 -- what is below the slots of a page at a prefix
 module _ (H : List ℕ → List ℕ) (AreFrom : List ℕ → ℕ → List ℕ → List ChangedPageAt → Type 0) (prefix : List ℕ) where
@@ -112,7 +110,7 @@ module _ (H : List ℕ → List ℕ) (AreFrom : List ℕ → ℕ → List ℕ �
   owner_of : (slots : List SlotAt) (pages : List ChangedPageAt) → AreOfSlots (IsLoneBelow H) AreFrom prefix slots pages
       → (y : SlotAt) → Contains (slots ++ lone_slots pages) y → IsOwned slots y
   unfolding AreOfSlots
-  owner_of [] pages h y c = absurd (let none : Contains (lone_slots []) y = rw h at c in let lt = none.1 in omega arith)
+  owner_of [] pages h y c = absurd (let none : Contains (lone_slots []) y = rw h at c in omega arith)
   owner_of (x ∷ slots) pages h y c =
       let split = split_slots pages h.0 h.1 h.2 in
       elim (among x (slots ++ lone_slots pages) y c) [
@@ -165,12 +163,11 @@ record IsStep (key : List ℕ) (depth : ℕ) : Type 0 where
 
 step : (key : List ℕ) (depth : ℕ) → IsDigest key → depth < 32 → IsStep key depth
 step key depth is lt =
-    let has = is.has_32 in
     let all : length (take depth key) ≡ depth = omega (arith, length-take depth key) in
     let more = take_more key depth 0 (omega arith) in
     record {
       size = omega arith;
-      begins = ap (λ n. take (n + 1) key) all ∙ more;
+      begins = rw all more;
       longer = sym more;
       levels = omega arith;
       fewer = omega arith;
@@ -232,11 +229,10 @@ module _ {H : List ℕ → List ℕ} {bytes_at : List ℕ → ℕ → Option (Li
       let h = from_here in
       let owned = owner_of H Below prefix h.0 h.1 h.6 y (in_page h.0 (lone_slots h.1) y (rw h.2 at c)) in
       let is_slot = All-contains IsSlot h.0 owned.owner h.3.are_slots owned.is_slot in
-      let held = slot_held H Below prefix owned.owner owned.owner.lone owned.first refl is_slot
-      (longer_held H (IsAllowed bytes_at tells_all) (31 - depth) prefix at.size
-      (pages_held H (IsAllowed bytes_at tells_all) (31 - depth)) owned.owner.byte) owned.are_of in
+      let held = slot_held H Below prefix owned.owner _ owned.first refl is_slot (longer_held H _ _ prefix at.size
+      (pages_held H _ _) owned.owner.byte) owned.are_of in
       let begin = held.begin y (key, leaf) owned.within is in
-      let bytes = append_cancel_left prefix (owned.owner.byte ∷ []) (get_or key depth 0 ∷ [])
+      let bytes = append_cancel_left prefix (owned.owner.byte ∷ []) _
       (sym (rw (length-append prefix (owned.owner.byte ∷ [])) at begin.1) ∙ at.begins) in
       let byte : owned.owner.byte ≡ get_or key depth 0 = cc in
       record {
@@ -251,7 +247,7 @@ module _ {H : List ℕ → List ℕ} {bytes_at : List ℕ → ℕ → Option (Li
   -- nothing is held where there is no slot
   pub missing_slot : slot_at page (get_or key depth 0) ≡ None → IsHeldIn all key None
   missing_slot none = λ w leaf held.
-      let at = on_way held.slot leaf held.there held.is_lone in
+      let at = on_way _ leaf held.there held.is_lone in
       let found = at.found in
       cc
 
@@ -261,16 +257,16 @@ module _ {H : List ℕ → List ℕ} {bytes_at : List ℕ → ℕ → Option (Li
       → MatchOption held (l.0 ≢ key) (λ h. (l.0 ≡ key) × (h ≡ (x.version, l.1))) → IsHeldIn all key held
   unfolding AreFromWhere
   alone_slot x l None found lone apart = λ w leaf held.
-      let at = on_way held.slot leaf held.there held.is_lone in
+      let at = on_way _ leaf held.there held.is_lone in
       let way = at.found in
       let same : at.owner ≡ x = cc in
-      let alone = same_slot H Below (take depth key) at.owner x (Some l) at.first same lone at.are_of in
+      let alone = same_slot H Below _ at.owner x _ at.first same lone at.are_of in
       let within : Contains (at.owner ∷ lone_slots []) held.slot = rw alone.0 at at.within in
-      let one : at.owner ≡ held.slot = only_one at.owner held.slot within in
+      let one : at.owner ≡ held.slot = only_one at.owner _ within in
       let is = held.is_lone in
       let key_is : l ≡ (key, leaf) = cc in
       apart (ap (λ p. p.0) key_is)
-  alone_slot x l (Some v) found lone same =
+  alone_slot x l _ found lone same =
       let h = from_here in
       let there = slot_there h.0 _ x (ap (λ p. slot_at p (get_or key depth 0)) (same_page h.0 h.3 h.4) ∙ found) in
       rw same.1 record {
@@ -299,12 +295,11 @@ module _ {H : List ℕ → List ℕ} {bytes_at : List ℕ → ℕ → Option (Li
   unfolding AreFromWhere
   next_from x found lone =
       let h = from_here in
-      let there = slot_there h.0 _ x (ap (λ p. slot_at p (get_or key depth 0)) (same_page h.0 h.3 h.4) ∙ found) in
-      let part = part_of H Below (take depth key) h.0 h.1 h.6 x there.0 in
+      let there = slot_there h.0 _ x (rw (same_page h.0 h.3 h.4) found) in
+      let part = part_of H Below _ h.0 h.1 h.6 x there.0 in
       record {
         first = part.first;
-        from = goes_on x part.first there.1
-            (same_slot H Below (take depth key) x x None part.first refl lone part.are_of);
+        from = goes_on x part.first there.1 (same_slot H Below _ x x None part.first refl lone part.are_of);
         among = λ y c. rw h.2 (Contains-append_right (with_lone h.0) (lone_slots h.1) y
             (part.among y c));
       }
@@ -320,14 +315,14 @@ module _ {H : List ℕ → List ℕ} {bytes_at : List ℕ → ℕ → Option (Li
       → IsFrom H bytes_at tells_all key (depth + 1) x.version digest first → IsHeldIn first key held)
       → IsHeldIn all key held
   slot_below x None found lone below = λ w leaf held.
-      let at = on_way held.slot leaf held.there held.is_lone in
+      let at = on_way _ leaf held.there held.is_lone in
       let way = at.found in
       let same : at.owner ≡ x = cc in
       let from = goes_on x at.first (slot_there page _ x found).1
-      (same_slot H Below (take depth key) at.owner x None at.first same lone at.are_of) in
+      (same_slot H Below _ at.owner x None at.first same lone at.are_of) in
       let is = held.is_lone in
-      elim (among at.owner (lone_slots at.first) held.slot at.within) [
-        | inl one ↦ (cc)
+      elim (among at.owner _ _ at.within) [
+        | inl one ↦ cc
         | inr later ↦ below x.digest at.first from w leaf
             record { slot = held.slot; there = later; is_version = held.is_version; is_lone = held.is_lone }
       ]
@@ -336,7 +331,7 @@ module _ {H : List ℕ → List ℕ} {bytes_at : List ℕ → ℕ → Option (Li
       let held = below x.digest part.first part.from in
       record {
         slot = held.slot;
-        there = part.among held.slot held.there;
+        there = part.among _ held.there;
         is_version = held.is_version;
         is_lone = held.is_lone;
       }

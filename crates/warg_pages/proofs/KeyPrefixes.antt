@@ -40,7 +40,7 @@ bits_from-same a b i j (suc n) h = rw (first, bits_from-same a b (i + 1) (j + 1)
 
 -- the bits of one byte
 pub byte_at_depth : (bytes : List ℕ) (depth : ℕ) → bits_from bytes (8 * depth) 8 ≡ byte_bits (slice_index bytes depth)
-byte_at_depth bytes depth = bits_from-same bytes (slice_index bytes depth ∷ []) (8 * depth) 0 8 same
+byte_at_depth bytes depth = bits_from-same bytes _ _ 0 8 same
   where
     same : (m : ℕ) → m < 8 → bit_at bytes (8 * depth + m) ≡ bit_at (slice_index bytes depth ∷ []) (0 + m)
     same m lt =
@@ -58,6 +58,5 @@ key_split H key depth lt =
     let all : 256 ≡ 8 * depth + (8 + slot_height depth) = omega arith in
     let low : 256 - slot_height depth ≡ 8 * depth + 8 = omega arith in
     let at : 0 + 8 * depth ≡ 8 * depth = omega arith in
-    ap (bits_from (H key) 0) all ∙ bits_from-append (H key) 0 (8 * depth) (8 + slot_height depth)
-    ∙ ap (λ t. prefix_of H key depth ++ t)
-    (rw (at, low, ← byte_at_depth (H key) depth) (bits_from-append (H key) (8 * depth) 8 (slot_height depth)))
+    ap (bits_from (H key) 0) all ∙ bits_from-append _ 0 _ _ ∙ ap (λ t. prefix_of H key depth ++ t)
+    (rw (at, low, ← byte_at_depth (H key) depth) (bits_from-append _ _ 8 _))

@@ -28,7 +28,7 @@ pub parted_value : (H : List ℕ → List ℕ) (leaf y : List ℕ) (p r o : List
 unfolding value_above
 parted_value H leaf y [] r o b n e =
     let height : length r + 0 ≡ length o + 0 = omega arith in
-    rw (value_above-empty H 0 r, e, height) (fork H b (value_above H 0 [] leaf o) (empty_root H (length o + 0)))
+    rw (value_above-empty H 0 r, e, height) (fork H b _ _)
 parted_value H leaf y (c ∷ p) r o b n e =
     let height : length (p ++ b ∷ r) + 0 ≡ length (p ++ not b ∷ o) + 0 =
     rw (length-append p (b ∷ r), length-append p (not b ∷ o)) (omega arith) in
@@ -53,18 +53,17 @@ unfolding IsPeers
 parted_peers H held leaf y [] r o b n e h = (
   inr (
     ap Some (e ∙ ap (λ t. value_above H 0 [] (unwrap_or t (empty_root H 0)) o) (sym h.this)
-        ∙ sym (alone_root H (λ q. held (not b ∷ q)) o (λ q m. h.others (not b ∷ q) (λ s. m (tails (not b) s))))
+        ∙ sym (alone_root H (λ q. held (not b ∷ q)) o (λ q m. h.others _ (λ s. m (tails _ s))))
         ∙ ap (λ k. root_of_levels H k (λ q. held (not b ∷ q))) (sym n)),
     (o, ap is_some h.this),
   ),
-  λ q m. h.others (b ∷ q) (heads_back b),
+  λ q m. h.others _ (heads_back b),
 )
 parted_peers H held leaf y (c ∷ p) r o b n e h = (
-  inl (refl, λ q. h.others (not c ∷ q) (heads c)),
-  parted_peers H (λ q. held (c ∷ q)) leaf y p r o b n e record {
+  inl (refl, λ q. h.others _ (heads c)),
+  parted_peers H (λ q. held _) leaf y p r o b n e record {
     this = h.this;
-    others = λ q m. h.others (c ∷ q)
-        (λ s. m (tails c s));
+    others = λ q m. h.others _ (λ s. m (tails c s));
   },
 )
 
@@ -89,9 +88,8 @@ rest_is : (key other : List ℕ) (depth : ℕ) {rest : List Bool} → depth < 32
     → last_bits other 256 ≡ bits_from key 0 (8 * depth + 8) ++ rest → last_bits key (slot_height depth) ≡ rest
 rest_is key other depth {rest} lt same begins =
     let height : 256 - (8 * depth + 8) ≡ slot_height depth = omega arith in
-    append_cancel_left (bits_from key 0 (8 * depth + 8)) (last_bits key (slot_height depth)) rest
-    (ap (λ n. bits_from key 0 (8 * depth + 8) ++ last_bits key n) (sym height)
-    ∙ sym (key_at key (8 * depth + 8) (omega arith)) ∙ same ∙ begins)
+    append_cancel_left _ _ rest (ap (λ n. bits_from key 0 (8 * depth + 8) ++ last_bits key n) (sym height)
+    ∙ sym (key_at key _ (omega arith)) ∙ same ∙ begins)
 
 -- the end at the key itself
 pub held_end : (H : List ℕ → List ℕ) (key : List ℕ) (depth index : ℕ) (slot : SlotAt) (lone : List ℕ × List ℕ)
@@ -113,10 +111,9 @@ pub held_no_end : (H : List ℕ → List ℕ) (key : List ℕ) (depth : ℕ) (sl
     → IsNoLoneKey H key depth slot lone
 held_no_end H key depth slot lone lt same other f stands some =
     let rest : last_bits key (slot_height depth) ≡ stands.rest = rest_is key lone.0 depth lt same stands.begins in
-    let size : length stands.rest ≡ slot_height depth = ap length (sym rest)
-    ∙ length-last_bits key (slot_height depth) in
-    other (ap (value_above H 0 [] lone.1) rest ∙ sym (alone_value H f lone.1 stands.rest stands.alone)
-    ∙ ap (λ k. root_of_levels H k f) size ∙ sym stands.is_root)
+    let size : length stands.rest ≡ slot_height depth = rw (← rest) (length-last_bits key _) in
+    other (rw rest (sym (alone_value H f lone.1 stands.rest stands.alone)
+    ∙ ap (λ k. root_of_levels H k f) size ∙ sym stands.is_root))
 
 -- a lone key that parts from the digest
 pub record Parting (key other : List ℕ) (depth shared : ℕ) : Type 0 where
@@ -136,23 +133,22 @@ module _ {key other : List ℕ} {depth shared : ℕ} (h : Parting key other dept
       let parts = h.parts in
       let below = h.below in
       let height : slot_height depth ≡ 256 - (8 * depth + 8) = omega arith in
-      ap (last_bits k) height ∙ last_at k (8 * depth + 8) shared below parts
+      rw height (last_at k _ shared below parts)
 
   other_parts : last_bits other (slot_height depth) ≡ front ++ not (bit_at key shared) ∷ last_bits other (255 - shared)
   other_parts =
-      let same = (shared_from key other (8 * depth + 8) shared h.below h.same).1 in
-      let bit = other_bit_is (bit_at key shared) (bit_at other shared) h.apart in
+      let same = (shared_from key other _ shared h.below h.same).1 in
+      let bit = other_bit_is _ _ h.apart in
       below_slot other ∙ (λ i. sym same i ++ bit i ∷ last_bits other (255 - shared))
 
   other_rest : {rest : List Bool} → last_bits other 256 ≡ bits_from key 0 (8 * depth + 8) ++ rest
       → rest ≡ last_bits other (slot_height depth)
   other_rest {rest} begins =
-      let parts = h.parts in
       let below = h.below in
       let height : 256 - (8 * depth + 8) ≡ slot_height depth = omega arith in
-      let first = (shared_from key other (8 * depth + 8) shared below h.same).0 in
-      append_cancel_left (bits_from key 0 (8 * depth + 8)) rest (last_bits other (slot_height depth))
-      (sym begins ∙ key_at other (8 * depth + 8) (omega arith) ∙ (λ i. sym first i ++ last_bits other (height i)))
+      let first = (shared_from key other _ shared below h.same).0 in
+      append_cancel_left _ rest _
+      (sym begins ∙ key_at other _ (omega arith) ∙ (λ i. sym first i ++ last_bits other (height i)))
 
 -- as many as they are
 length-replicate : (n : ℕ) → length (replicate {A = Option (List ℕ)} n None) ≡ n
@@ -168,28 +164,24 @@ pub parted_end : (H : List ℕ → List ℕ) (key : List ℕ) (depth shared : �
     → lone_root H lone.0 lone.1 (slot_height depth) ≡ slot.digest
     → EndsAt H key depth slot lone (parting_peers (shared - (8 * depth + 8)) tree) None
 parted_end H key depth shared slot lone tree h is root =
-    let below = h.below in
-    let parts = h.parts in record {
+    record {
       few = rw (
-        length-append (replicate (shared - (8 * depth + 8)) None) (Some tree ∷ []),
-        length-replicate (shared - (8 * depth + 8)),
+        length-append _ _,
+        length-replicate _,
       ) (omega arith);
-      leads = ap (value_above H 0 (parting_peers (shared - (8 * depth + 8)) tree) (empty_root H 0))
-          (below_slot h key)
-          ∙ ap (λ n. value_above H 0 (parting_peers n tree) (empty_root H 0)
+      leads = rw (below_slot h key) (ap (λ n. value_above H 0 (parting_peers n tree) (empty_root H 0)
           (front h ++ bit_at key shared ∷ last_bits key (255 - shared))) (sym size)
-          ∙ parted_value H lone.1 tree (front h) (last_bits key (255 - shared)) (last_bits lone.0 (255 - shared))
-          (bit_at key shared) sizes is
-          ∙ ap (value_above H 0 [] lone.1) (sym (other_parts h)) ∙ root;
+          ∙ parted_value H lone.1 tree (front h) _ _ _ sizes is
+          ∙ ap (value_above H 0 [] lone.1) (sym (other_parts h)) ∙ root);
       own = own;
       index = tt;
     }
   where
     size : length (front h) ≡ shared - (8 * depth + 8)
-    size = length-bits_from key (8 * depth + 8) (shared - (8 * depth + 8))
+    size = length-bits_from key _ _
 
     sizes : length (last_bits key (255 - shared)) ≡ length (last_bits lone.0 (255 - shared))
-    sizes = length-last_bits key (255 - shared) ∙ sym (length-last_bits lone.0 (255 - shared))
+    sizes = length-last_bits key _ ∙ sym (length-last_bits lone.0 _)
 
     own : (f : List Bool → Option (List ℕ)) → StandsAlone H (bits_from key 0 (8 * depth + 8)) lone
         (slot_height depth) slot.digest f
@@ -197,11 +189,9 @@ parted_end H key depth shared slot lone tree h is root =
         × (f (last_bits key (slot_height depth)) ≡ None)
     own f stands =
         let alone = rw (other_rest h stands.begins ∙ other_parts h) at stands.alone in
-        let peers = parted_peers H f lone.1 tree (front h) (last_bits key (255 - shared))
-        (last_bits lone.0 (255 - shared)) (bit_at key shared) sizes is alone in (
+        let peers = parted_peers H f lone.1 tree (front h) _ _ _ sizes is alone in (
           rw (below_slot h key) (rw size at peers),
-          rw (below_slot h key)
-              (alone.others _ (λ e. heads_back (bit_at key shared) (append_cancel_left (front h) _ _ e))),
+          rw (below_slot h key) (alone.others _ (λ e. heads_back _ (append_cancel_left (front h) _ _ e))),
         )
 
 pub parted_no_end : (H : List ℕ → List ℕ) (key : List ℕ) (depth shared : ℕ) (slot : SlotAt) (lone : List ℕ × List ℕ)
@@ -209,20 +199,18 @@ pub parted_no_end : (H : List ℕ → List ℕ) (key : List ℕ) (depth shared :
     → IsNoLoneKey H key depth slot lone
 parted_no_end H key depth shared slot lone h other f stands some =
     let rest = other_rest h stands.begins in
-    let size : length stands.rest ≡ slot_height depth = ap length rest ∙ length-last_bits lone.0 (slot_height depth) in
-    other (ap (value_above H 0 [] lone.1) (sym rest) ∙ sym (alone_value H f lone.1 stands.rest stands.alone)
-    ∙ ap (λ k. root_of_levels H k f) size ∙ sym stands.is_root)
+    let size : length stands.rest ≡ slot_height depth = rw rest (length-last_bits lone.0 _) in
+    other (rw (← rest) (sym (alone_value H f lone.1 stands.rest stands.alone)
+    ∙ ap (λ k. root_of_levels H k f) size ∙ sym stands.is_root))
 
 -- a lone key that doesn't begin with its slot's prefix
 pub other_prefix : (H : List ℕ → List ℕ) (key : List ℕ) (depth shared : ℕ) (slot : SlotAt) (lone : List ℕ × List ℕ)
     → depth < 32 → shared < 8 * depth + 8 → ¬ (bit_at key shared ≡ bit_at lone.0 shared)
     → IsNoLoneKey H key depth slot lone
 other_prefix H key depth shared slot lone lt less apart f stands some =
-    let first = same_parts (bits_from lone.0 0 (8 * depth + 8)) (last_bits lone.0 (256 - (8 * depth + 8)))
-    (bits_from key 0 (8 * depth + 8)) stands.rest (length-bits_from lone.0 0 (8 * depth + 8)
-    ∙ sym (length-bits_from key 0 (8 * depth + 8))) (sym (key_at lone.0 (8 * depth + 8) (omega arith))
-    ∙ stands.begins) in
-    apart (sym (shared_bit lone.0 key (8 * depth + 8) shared less first.0))
+    let first = same_parts _ _ _ stands.rest (length-bits_from lone.0 0 _
+    ∙ sym (length-bits_from key 0 _)) (sym (key_at lone.0 _ (omega arith)) ∙ stands.begins) in
+    apart (sym (shared_bit lone.0 key _ shared less first.0))
 
 pub replicate-more : (n : ℕ) → replicate {A = Option (List ℕ)} n None ++ None ∷ [] ≡ replicate (n + 1) None
 replicate-more n = let all : n + 1 ≡ suc n = omega arith in snoc n ∙ ap (λ m. replicate m None) (sym all)

@@ -40,14 +40,13 @@ lone_alone H lone prefix s is lt begins =
     held q = held_by (lone ∷ []) (p ++ q)
 
     size : length rest ≡ slot_height depth
-    size = length-bits_from lone.0 (256 - slot_height depth) (slot_height depth)
+    size = length-bits_from lone.0 _ _
 
     whole : p ++ rest ≡ last_bits lone.0 256
     whole =
-        let all = is.has_32 in
         let left : 256 - 8 * (depth + 1) ≡ slot_height depth = omega arith in
         (λ i. (ap bits_of_bytes (sym begins) ∙ bits_of_taken lone.0 (depth + 1) (omega arith)) i
-        ++ last_bits lone.0 (sym left i)) ∙ sym (key_at lone.0 (8 * (depth + 1)) (omega arith))
+        ++ last_bits lone.0 (sym left i)) ∙ sym (key_at lone.0 _ (omega arith))
 
     here : held rest ≡ Some lone.1
     here = ap (λ bits. held_by (lone ∷ []) bits) whole
@@ -56,4 +55,4 @@ lone_alone H lone prefix s is lt begins =
 
     others : (q : List Bool) → ¬ (q ≡ rest) → held q ≡ None
     others q apart = ap (λ b. option_map (λ (l : List ℕ × List ℕ). l.1) (cond b (Some lone) None)) (false_from_ne_true _
-        (λ same. apart (append_cancel_left p q rest (same_bits-true (p ++ q) (last_bits lone.0 256) same ∙ sym whole))))
+        (λ same. apart (append_cancel_left p q rest (same_bits-true _ _ same ∙ sym whole))))

@@ -6,7 +6,7 @@ use Rattle.std.specs.List.{AllPairs, Contains}
 pub among : {X : Type 0} (x : X) (xs : List X) (y : X) → Contains (x ∷ xs) y → (x ≡ y) ⊎ Contains xs y
 among x xs y h = elim (Contains-append_cases (x ∷ []) xs y h) [
   | inl one ↦ elim (Contains-push_cases [] x y one) [
-    | inl none ↦ absurd (let lt = none.1 in omega arith)
+    | inl none ↦ absurd (omega arith)
     | inr same ↦ inl same
   ]
   | inr later ↦ inr later
@@ -19,12 +19,12 @@ pub later_among : {X : Type 0} (x : X) (xs : List X) (y : X) → Contains xs y �
 later_among x xs y h = Contains-append_right (x ∷ []) xs y h
 
 pub only_one : {X : Type 0} (x y : X) → Contains (x ∷ []) y → x ≡ y
-only_one x y h = elim (among x [] y h) [ inl same ↦ same | inr none ↦ absurd (let lt = none.1 in omega arith) ]
+only_one x y h = elim (among x [] y h) [ inl same ↦ same | inr none ↦ absurd (omega arith) ]
 
 -- around an element
 pub around : {X : Type 0} (xs : List X) (x : X) → Contains xs x
     → (before : List X) × (after : List X) × (xs ≡ before ++ x ∷ after)
-around [] x h = absurd (let lt = h.1 in omega arith)
+around [] x h = absurd (omega arith)
 around (y ∷ xs) x h = elim (among y xs x h) [
   | inl same ↦ ([], xs, ap (λ z. z ∷ xs) same)
   | inr later ↦ (let rest = around xs x later in (y ∷ rest.0, rest.1, ap (λ zs. y ∷ zs) rest.2))
@@ -56,7 +56,7 @@ pub all_among : {X : Type 0} (xs ys : List X) → AllPairs (λ x y. x ≢ y) xs
 all_among [] ys distinct within le y h = absurd (let lt = h.1 in omega arith)
 all_among {X = X} (x ∷ xs) ys distinct within le y h =
     let split = around ys x (within x (first_among x xs)) in
-    let size = ap length split.2 ∙ length-append split.0 (x ∷ split.1) in
+    let size = ap length split.2 ∙ length-append split.0 _ in
     let less = length-append split.0 split.1 in
     let rest = all_among xs (split.0 ++ split.1)
     (λ i j d lt low. distinct (suc i) (suc j) d (omega arith) (omega arith))

@@ -26,22 +26,20 @@ pub quiet : {X : Type 0} (H : List ℕ → List ℕ) (p : List Bool) (F : List (
 unfolding last_with
 quiet H p F one es [] none = ap F (append-nil es)
 quiet H p F one es (x ∷ more) none =
-    let parts = later_none (last_with (is_below H p) more) (is_below H p x) x none in
-    ap F (sym (append_assoc es (x ∷ []) more)) ∙ quiet H p F one (es ++ x ∷ []) more parts.0 ∙ one es x parts.1
+    let parts = later_none _ _ x none in
+    ap F (sym (append_assoc es _ more)) ∙ quiet H p F one _ more parts.0 ∙ one es x parts.1
 
 pub quiet_slot : (H : List ℕ → List ℕ) (old more : List (List ℕ × List ℕ)) (p : List Bool) (s : ℕ)
     → last_with (is_below H (p ++ byte_bits s)) more ≡ None → slot_of H (old ++ more) p s ≡ slot_of H old p s
-quiet_slot H old more p s none = quiet H (p ++ byte_bits s) (λ l. slot_of H l p s)
-    (λ es e f. slot_of-other H es e p s f) old more none
+quiet_slot H old more p s none = quiet H _ _ (λ es e f. slot_of-other H es e p s f) old more none
 
 stands-other : (H : List ℕ → List ℕ) (p : List Bool) (es : List (List ℕ × List ℕ)) (e : List ℕ × List ℕ)
     → is_below H p e ≡ false → stands H (es ++ e ∷ []) p ≡ stands H es p
-stands-other H p es e f = ap (stands_over H (es ++ e ∷ []) p) (last_with-more (is_below H p) es e ∙ cond-false _ _ _ f)
-    ∙ over (last_with (is_below H p) es)
+stands-other H p es e f = ap (stands_over H (es ++ e ∷ []) p) (last_with-more _ es e ∙ cond-false _ _ _ f) ∙ over _
   where
     over : (last : Option (List ℕ × List ℕ)) → stands_over H (es ++ e ∷ []) p last ≡ stands_over H es p last
     over None = refl
-    over (Some x) = ap (λ b. eqb (length p) 0 || not b) (list_all-more (is_alike H p x) es e (rw f refl))
+    over (Some x) = ap (λ b. eqb (length p) 0 || not b) (list_all-more _ es e (rw f refl))
 
 module _ (H : List ℕ → List ℕ) (old more : List (List ℕ × List ℕ)) (p : List Bool)
     (none : last_with (is_below H p) more ≡ None) where
@@ -82,7 +80,7 @@ last_place-later p [] ys e h = omega arith
 last_place-later p (x ∷ xs) ys e h =
     let some = some_version p ys e h in
     let rest : eqb (length xs + last_place p ys) 0 ≡ false = false_from_ne_true _
-    (λ t. let z = eqb-true (length xs + last_place p ys) 0 t in omega arith) in
+    (λ t. let z = eqb-true _ 0 t in omega arith) in
     rw (last_place-later p xs ys e h, rest) (omega arith)
 
 -- of no element, the place is none
@@ -90,7 +88,7 @@ pub last_place-none : {X : Type 0} (p : X → Bool) (xs : List X) → last_with 
 unfolding last_place last_with
 last_place-none p [] h = refl
 last_place-none p (x ∷ xs) h =
-    let parts = later_none (last_with p xs) (p x) x h in
+    let parts = later_none _ (p x) x h in
     rw (last_place-none p xs parts.0, parts.1) refl
 
 -- a longer prefix has no insertions below it where a shorter one has none
@@ -99,8 +97,8 @@ pub none_longer : (H : List ℕ → List ℕ) (p q : List Bool) (es : List (List
 unfolding last_with
 none_longer H p q [] h = refl
 none_longer H p q (x ∷ es) h =
-    let parts = later_none (last_with (is_below H p) es) (is_below H p x) x h in
-    rw (none_longer H p q es parts.0, longer p q (key_bits H x.0) parts.1) refl
+    let parts = later_none _ _ x h in
+    rw (none_longer H p q es parts.0, longer p q _ parts.1) refl
 
 -- tests that agree where another holds of all
 module _ {X : Type 0} (p q r : X → Bool) (h : (x : X) → r x ≡ true → p x ≡ q x) where
@@ -108,36 +106,36 @@ module _ {X : Type 0} (p q r : X → Bool) (h : (x : X) → r x ≡ true → p x
   unfolding last_with
   last_same [] all = refl
   last_same (x ∷ xs) all =
-      let parts = and_parts (r x) (list_all r xs) all in
+      let parts = and_parts (r x) _ all in
       rw (last_same xs parts.1, h x parts.0) refl
 
   pub place_same : (xs : List X) → list_all r xs ≡ true → last_place p xs ≡ last_place q xs
   unfolding last_place
   place_same [] all = refl
   place_same (x ∷ xs) all =
-      let parts = and_parts (r x) (list_all r xs) all in
+      let parts = and_parts (r x) _ all in
       rw (place_same xs parts.1, h x parts.0) refl
 
 pub all_weaker : {X : Type 0} (r q : X → Bool) → ((x : X) → r x ≡ true → q x ≡ true) → (xs : List X)
     → list_all r xs ≡ true → list_all q xs ≡ true
 all_weaker r q h [] all = refl
 all_weaker r q h (x ∷ xs) all =
-    let parts = and_parts (r x) (list_all r xs) all in
+    let parts = and_parts (r x) _ all in
     rw (h x parts.0, all_weaker r q h xs parts.1) refl
 
 -- what holds of all holds of the last
 pub all_last : {X : Type 0} (r p : X → Bool) (xs : List X) (e : X) → list_all r xs ≡ true → last_with p xs ≡ Some e
     → r e ≡ true
 unfolding last_with
-all_last r p [] e all h = absurd (cc)
+all_last r p [] e all h = absurd cc
 all_last {X = X} r p (x ∷ xs) e all h =
-    let parts = and_parts (r x) (list_all r xs) all in
-    either (last_with p xs) (p x) parts.0 (all_last r p xs e parts.1) h
+    let parts = and_parts (r x) _ all in
+    either _ (p x) parts.0 (all_last r p xs e parts.1) h
   where
     either : (o : Option X) (b : Bool) → r x ≡ true → (o ≡ Some e → r e ≡ true) → option_or o (cond b (Some x) None)
         ≡ Some e → r e ≡ true
     either None true t f h = let same : x ≡ e = cc in rw (← same) t
-    either None false t f h = absurd (cc)
+    either None false t f h = absurd cc
     either (Some y) b t f h = f h
 
 -- what holds where nothing is below
@@ -147,19 +145,19 @@ pub all_none : (H : List ℕ → List ℕ) (p : List Bool) (k : List Bool) (es :
 unfolding last_with
 all_none H p k [] h = refl
 all_none H p k (x ∷ es) h =
-    let parts = later_none (last_with (is_below H p) es) (is_below H p x) x h in
+    let parts = later_none _ _ x h in
     rw (parts.1, all_none H p k es parts.0) refl
 
 -- where a lone key stands below a prefix, it does below a longer one
 agree_longer : (H : List ℕ → List ℕ) (p q : List Bool) (e x : List ℕ × List ℕ) → is_below H (p ++ q) e ≡ true
     → is_alike H p e x ≡ true → is_below H p x ≡ is_below H (p ++ q) x
-agree_longer H p q e x under t = either (is_below H p x) refl
+agree_longer H p q e x under t = either _ refl
   where
     either : (b : Bool) → is_below H p x ≡ b → is_below H p x ≡ is_below H (p ++ q) x
-    either false f = f ∙ sym (longer p q (key_bits H x.0) f)
+    either false f = f ∙ sym (longer p q _ f)
     either true y =
         let same : same_bits (key_bits H e.0) (key_bits H x.0) ≡ true = rw y at t in
-        y ∙ sym (ap (begins (p ++ q)) (sym (same_bits-true (key_bits H e.0) (key_bits H x.0) same)) ∙ under)
+        y ∙ sym (ap (begins (p ++ q)) (sym (same_bits-true _ _ same)) ∙ under)
 
 pub record LoneLonger (H : List ℕ → List ℕ) (es : List (List ℕ × List ℕ)) (p q : List Bool)
     (e : List ℕ × List ℕ) : Type 0 where
@@ -171,31 +169,28 @@ pub lone_longer : (H : List ℕ → List ℕ) (es : List (List ℕ × List ℕ))
     → last_with (is_below H p) es ≡ Some e → is_lone H es p e ≡ true → is_below H (p ++ q) e ≡ true
     → LoneLonger H es p q e
 lone_longer H es p q e last lone under = record {
-  is_last = sym (last_same (is_below H p) (is_below H (p ++ q)) (is_alike H p e)
-      (λ f t. agree_longer H p q e f under t) es lone) ∙ last;
-  alone = all_weaker (is_alike H p e) (is_alike H (p ++ q) e)
+  is_last = sym (last_same _ _ _ (λ f t. agree_longer H p q e f under t) es lone) ∙ last;
+  alone = all_weaker _ _
       (λ f t. ap (λ b. not b || same_bits (key_bits H e.0) (key_bits H f.0)) (sym (agree_longer H p q e f under t)) ∙ t)
       es lone;
-  is_version = sym (place_same (is_below H p) (is_below H (p ++ q)) (is_alike H p e)
-      (λ f t. agree_longer H p q e f under t) es lone);
+  is_version = sym (place_same _ _ _ (λ f t. agree_longer H p q e f under t) es lone);
 }
 
 -- elsewhere below the shorter prefix nothing stands
 pub lone_elsewhere : (H : List ℕ → List ℕ) (es : List (List ℕ × List ℕ)) (p q : List Bool) (e : List ℕ × List ℕ)
     → is_lone H es p e ≡ true → is_below H (p ++ q) e ≡ false → last_with (is_below H (p ++ q)) es ≡ None
-lone_elsewhere H es p q e lone off = by_last (last_with (is_below H (p ++ q)) es) refl
+lone_elsewhere H es p q e lone off = by_last _ refl
   where
     by_last : (o : Option (List ℕ × List ℕ)) → last_with (is_below H (p ++ q)) es ≡ o → o ≡ None
     by_last None h = refl
     by_last (Some x) h =
-        let here = last_passes (is_below H (p ++ q)) es x h in
-        let up : is_below H p x ≡ true = shorter (is_below H p x) refl here in
-        let all = all_last (is_alike H p e) (is_below H (p ++ q)) es x lone h in
+        let here = last_passes _ es x h in
+        let up : is_below H p x ≡ true = shorter _ refl here in
+        let all = all_last _ _ es x lone h in
         let same : same_bits (key_bits H e.0) (key_bits H x.0) ≡ true = rw up at all in
-        let there : is_below H (p ++ q) e ≡ true = ap (begins (p ++ q))
-        (same_bits-true (key_bits H e.0) (key_bits H x.0) same) ∙ here in
+        let there : is_below H (p ++ q) e ≡ true = ap (begins (p ++ q)) (same_bits-true _ _ same) ∙ here in
         absurd (let no : true ≡ false = sym there ∙ off in cc)
       where
         shorter : (b : Bool) → is_below H p x ≡ b → is_below H (p ++ q) x ≡ true → b ≡ true
         shorter true y h = refl
-        shorter false f h = absurd (let no : true ≡ false = sym h ∙ longer p q (key_bits H x.0) f in cc)
+        shorter false f h = absurd (let no : true ≡ false = sym h ∙ longer p q _ f in cc)

@@ -6,13 +6,12 @@ use Rattle.std.specs.Option.{option_or, option_map}
 use Rattle.std.specs.List.{filter_map, cons_option, list_all}
 use Rattle.warg_crypto.specs.Tree.{leaf_digest}
 use Rattle.warg_crypto.specs.Digests.{IsDigest}
-use Rattle.warg_map.specs.Bits.{last_bits, key_bits}
+use Rattle.warg_map.specs.Bits.{key_bits}
 use Rattle.warg_map.specs.Last.{last_with, same_bits}
 use Rattle.warg_map.specs.Sparse.{map_of}
 use Rattle.warg_map.proofs.ForCallers.{same_bits-true, last_held}
 use Rattle.warg_pages.specs.Prefixes.{byte_bits, begins, is_below, below, last_place, version}
 use Rattle.warg_pages.specs.Slots.{SlotAt, is_lone, slot_over, slot_of, numbers, page_of}
-use Rattle.warg_pages.specs.Pages.{slot_height}
 use Rattle.warg_pages.specs.PagePeers.{prefix_of}
 use Rattle.warg_pages.specs.PageInsertions.{with_slot, last_slot}
 use Rattle.warg_pages.proofs.ByteNumbers.{number, number-byte_bits}
@@ -24,7 +23,7 @@ pub last_with-more : {X : Type 0} (p : X → Bool) (xs : List X) (x : X) → las
     ≡ cond (p x) (Some x) (last_with p xs)
 unfolding last_with
 last_with-more p [] x = refl
-last_with-more p (y ∷ xs) x = rw (last_with-more p xs x) (join (p x) (last_with p xs) (cond (p y) (Some y) None) x)
+last_with-more p (y ∷ xs) x = rw (last_with-more p xs x) (join (p x) _ _ x)
   where
     join : {X : Type 0} (b : Bool) (o r : Option X) (x : X) → option_or (cond b (Some x) o) r
         ≡ cond b (Some x) (option_or o r)
@@ -35,11 +34,10 @@ pub last_place-more : {X : Type 0} (p : X → Bool) (xs : List X) (x : X) → la
     ≡ cond (p x) (length (xs ++ x ∷ [])) (last_place p xs)
 unfolding last_place
 last_place-more p [] x = refl
-last_place-more p (y ∷ xs) x = rw (last_place-more p xs x)
-    (join (p x) (length (xs ++ x ∷ [])) (last_place p xs) (cond (p y) 1 0) some)
+last_place-more p (y ∷ xs) x = rw (last_place-more p xs x) (join (p x) _ _ _ some)
   where
     some : eqb (length (xs ++ x ∷ [])) 0 ≡ false
-    some = rw (length-append xs (x ∷ [])) (grind arith)
+    some = rw (length-append xs _) (grind arith)
 
     join : (b : Bool) (n m r : ℕ) → eqb n 0 ≡ false → cond (eqb (cond b n m) 0) r (suc (cond b n m))
         ≡ cond b (suc n) (cond (eqb m 0) r (suc m))
@@ -54,22 +52,21 @@ list_all-more p (y ∷ xs) x e = rw (list_all-more p xs x e) refl
 -- below a prefix of other bits nothing changes
 other_bits : (p q k : List Bool) → begins p k ≡ false → same_bits (p ++ q) k ≡ false
 other_bits p q k f = false_from_ne_true _
-    (λ s. let e : begins p (p ++ q) ≡ false = ap (begins p) (same_bits-true (p ++ q) k s) ∙ f in
+    (λ s. let e : begins p (p ++ q) ≡ false = ap (begins p) (same_bits-true _ k s) ∙ f in
     let t = begins-append p q in cc)
 
 below-other : (H : List ℕ → List ℕ) (es : List (List ℕ × List ℕ)) (e : List ℕ × List ℕ) (p q : List Bool)
     → is_below H p e ≡ false → below (map_of H (es ++ e ∷ [])) p q ≡ below (map_of H es) p q
 below-other H es e p q f =
-    last_held H (p ++ q) (es ++ e ∷ []) ∙ ap (option_map (λ (x : List ℕ × List ℕ). leaf_digest H x.1))
-    (last_with-more (λ x. same_bits (p ++ q) (key_bits H x.0)) es e
-    ∙ cond-false _ _ _ (other_bits p q (key_bits H e.0) f)) ∙ sym (last_held H (p ++ q) es)
+    last_held H _ _ ∙ ap (option_map (λ (x : List ℕ × List ℕ). leaf_digest H x.1)) (last_with-more _ es e
+    ∙ cond-false _ _ _ (other_bits p q _ f)) ∙ sym (last_held H _ es)
 
 slot_over-other : (H : List ℕ → List ℕ) (es : List (List ℕ × List ℕ)) (e : List ℕ × List ℕ) (p : List Bool) (s : ℕ)
     (last : Option (List ℕ × List ℕ)) → is_below H p e ≡ false → slot_over H (es ++ e ∷ []) p s last
     ≡ slot_over H es p s last
 slot_over-other H es e p s None f = refl
 slot_over-other H es e p s (Some x) f =
-    let v : version H (es ++ e ∷ []) p ≡ version H es p = last_place-more (is_below H p) es e ∙ cond-false _ _ _ f in
+    let v : version H (es ++ e ∷ []) p ≡ version H es p = last_place-more _ es e ∙ cond-false _ _ _ f in
     let d = root-same H (256 - length p) (below (map_of H (es ++ e ∷ [])) p) (below (map_of H es) p)
     (λ q. below-other H es e p q f) in
     let l : is_lone H (es ++ e ∷ []) p x ≡ is_lone H es p x =
@@ -79,8 +76,8 @@ slot_over-other H es e p s (Some x) f =
 pub slot_of-other : (H : List ℕ → List ℕ) (es : List (List ℕ × List ℕ)) (e : List ℕ × List ℕ) (p : List Bool) (s : ℕ)
     → is_below H (p ++ byte_bits s) e ≡ false → slot_of H (es ++ e ∷ []) p s ≡ slot_of H es p s
 slot_of-other H es e p s f =
-    ap (slot_over H (es ++ e ∷ []) (p ++ byte_bits s) s) (last_with-more (is_below H (p ++ byte_bits s)) es e
-    ∙ cond-false _ _ _ f) ∙ slot_over-other H es e (p ++ byte_bits s) s _ f
+    rw (last_with-more (is_below H (p ++ byte_bits s)) es e
+    ∙ cond-false _ _ _ f) (slot_over-other H es e (p ++ byte_bits s) s _ f)
 
 slot_of-same : (H : List ℕ → List ℕ) (es : List (List ℕ × List ℕ)) (e : List ℕ × List ℕ) (p : List Bool) (s : ℕ)
     → is_below H (p ++ byte_bits s) e ≡ true → slot_of H (es ++ e ∷ []) p s
@@ -88,8 +85,8 @@ slot_of-same : (H : List ℕ → List ℕ) (es : List (List ℕ × List ℕ)) (e
 slot_of-same H es e p s t =
     let v : version H (es ++ e ∷ []) (p ++ byte_bits s) ≡ length (es ++ e ∷ []) =
     last_place-more (is_below H (p ++ byte_bits s)) es e ∙ cond-true _ _ _ t in
-    ap (slot_over H (es ++ e ∷ []) (p ++ byte_bits s) s) (last_with-more (is_below H (p ++ byte_bits s)) es e
-    ∙ cond-true _ _ _ t) ∙ rw v refl
+    rw (last_with-more (is_below H (p ++ byte_bits s)) es e
+    ∙ cond-true _ _ _ t) (rw v refl)
 
 -- of a page's bytes one begins with a key's bits
 pub begins-front : (p a b : List Bool) → begins (p ++ a) (p ++ b) ≡ begins a b
@@ -102,8 +99,8 @@ begins-same [] [] c n e = refl
 begins-same [] (y ∷ b) c n e = absurd (omega arith)
 begins-same (x ∷ a) [] c n e = absurd (omega arith)
 begins-same (true ∷ a) (true ∷ b) c n e = ap (λ t. true ∷ t) (begins-same a b c (omega arith) e)
-begins-same (true ∷ a) (false ∷ b) c n e = absurd (cc)
-begins-same (false ∷ a) (true ∷ b) c n e = absurd (cc)
+begins-same (true ∷ a) (false ∷ b) c n e = absurd cc
+begins-same (false ∷ a) (true ∷ b) c n e = absurd cc
 begins-same (false ∷ a) (false ∷ b) c n e = ap (λ t. false ∷ t) (begins-same a b c (omega arith) e)
 
 pub own_byte : (p rest : List Bool) (s : ℕ) → begins (p ++ byte_bits s) (p ++ (byte_bits s ++ rest)) ≡ true
@@ -111,13 +108,11 @@ own_byte p rest s = begins-front p (byte_bits s) (byte_bits s ++ rest) ∙ begin
 
 pub other_byte : (p rest : List Bool) (s t : ℕ) → s < 256 → t < 256 → ¬ (t ≡ s)
     → begins (p ++ byte_bits t) (p ++ (byte_bits s ++ rest)) ≡ false
-other_byte p rest s t low lt n = begins-front p (byte_bits t) (byte_bits s ++ rest)
-    ∙ false_from_ne_true _ (λ e. n (same e))
+other_byte p rest s t low lt n = begins-front p _ _ ∙ false_from_ne_true _ (λ e. n (same e))
   where
     same : begins (byte_bits t) (byte_bits s ++ rest) ≡ true → t ≡ s
-    same e = sym (number-byte_bits t lt)
-        ∙ ap number (begins-same (byte_bits t) (byte_bits s) rest (length-bits_from (t ∷ []) 0 8
-        ∙ sym (length-bits_from (s ∷ []) 0 8)) e) ∙ number-byte_bits s low
+    same e = sym (number-byte_bits t lt) ∙ ap number (begins-same _ _ rest (length-bits_from _ 0 8
+        ∙ sym (length-bits_from _ 0 8)) e) ∙ number-byte_bits s low
 
 -- slots of functions that differ at one number
 abbrev pub Alike : (ℕ → Option SlotAt) → (ℕ → Option SlotAt) → ℕ → Type 0
@@ -169,7 +164,7 @@ with_one f g x first (suc n) i h at ge lt le = elim (cases_lt first x.byte) [
   ) (passed x first (f first) _ (i first) low)
   | inr high ↦ (
       let same : first ≡ x.byte = omega arith in
-      let new : g first ≡ Some x = ap g same ∙ at in
+      let new : g first ≡ Some x = rw same at in
       rw (new, behind f g x.byte (first + 1) n h (omega arith) (omega arith))
       (replaced x first (f first) _ (i first) (sym same) (in_front f x (first + 1) n i (omega arith))))
 ]
@@ -180,11 +175,9 @@ pub one_more : (H : List ℕ → List ℕ) (es : List (List ℕ × List ℕ)) (e
     → page_of H (es ++ e ∷ []) p ≡ with_slot (last_slot H (es ++ e ∷ []) (p ++ byte_bits s) s e) (page_of H es p)
 unfolding page_of
 one_more H es e p rest s lt path =
-    with_one (slot_of H es p) (slot_of H (es ++ e ∷ []) p) (last_slot H (es ++ e ∷ []) (p ++ byte_bits s) s e) 0 256
-    (λ t. slot_byte H es (p ++ byte_bits t) t _)
-    (λ t low n. slot_of-other H es e p t (ap (begins (p ++ byte_bits t)) path ∙ other_byte p rest s t lt low n))
-    (slot_of-same H es e p s (ap (begins (p ++ byte_bits s)) path ∙ own_byte p rest s)) (omega arith) (omega arith)
-    (omega arith)
+    with_one _ _ _ 0 256 (λ t. slot_byte H es _ t _)
+    (λ t low n. slot_of-other H es e p t (rw path (other_byte p rest s t lt low n)))
+    (slot_of-same H es e p s (rw path (own_byte p rest s))) (omega arith) (omega arith) (omega arith)
 
 pub page_on_way : (H : List ℕ → List ℕ) (es : List (List ℕ × List ℕ)) (e : List ℕ × List ℕ) (depth : ℕ)
     → IsDigest (H e.0) → depth < 32
@@ -192,13 +185,11 @@ pub page_on_way : (H : List ℕ → List ℕ) (es : List (List ℕ × List ℕ))
     ≡ with_slot (last_slot H (es ++ e ∷ []) (prefix_of H e.0 depth ++ byte_bits (slice_index (H e.0) depth))
     (slice_index (H e.0) depth) e) (page_of H es (prefix_of H e.0 depth))
 page_on_way H es e depth is lt =
-    let size = is.has_32 in
-    one_more H es e (prefix_of H e.0 depth) (last_bits (H e.0) (slot_height depth)) (slice_index (H e.0) depth)
-    (is.are_bytes depth 0 (omega arith)) (key_split H e.0 depth lt)
+    one_more H es e _ _ _ (is.are_bytes depth 0 (omega arith)) (key_split H e.0 depth lt)
 
 -- every other page
 pub longer : (p q k : List Bool) → begins p k ≡ false → begins (p ++ q) k ≡ false
-longer [] q k f = absurd (cc)
+longer [] q k f = absurd cc
 longer (true ∷ p) q [] f = refl
 longer (false ∷ p) q [] f = refl
 longer (true ∷ p) q (true ∷ k) f = longer p q k f
@@ -215,5 +206,4 @@ same_slots f g first (suc n) h = rw (h first, same_slots f g (first + 1) n h) re
 pub page_off_way : (H : List ℕ → List ℕ) (es : List (List ℕ × List ℕ)) (e : List ℕ × List ℕ) (p : List Bool)
     → begins p (key_bits H e.0) ≡ false → page_of H (es ++ e ∷ []) p ≡ page_of H es p
 unfolding page_of
-page_off_way H es e p f = same_slots (slot_of H es p) (slot_of H (es ++ e ∷ []) p) 0 256
-    (λ t. slot_of-other H es e p t (longer p (byte_bits t) (key_bits H e.0) f))
+page_off_way H es e p f = same_slots _ _ 0 256 (λ t. slot_of-other H es e p t (longer p _ _ f))

@@ -1,5 +1,5 @@
 -- What stands below a slot of insertions.
-use Rattle.std.proofs.Common.{◌≡◌, ◌≢◌, ℕ, zero, suc, ◌+◌, ◌-◌, ◌*◌, ◌<◌, Bool, true, false, List, [], ◌∷◌, ◌++◌, length, take, Option, Some, None, refl, sym, ap, subst, ◌∙◌, arith, length-append, eq-eqb}
+use Rattle.std.proofs.Common.{◌≡◌, ◌≢◌, ℕ, zero, suc, ◌+◌, ◌*◌, ◌<◌, Bool, true, false, List, [], ◌∷◌, ◌++◌, length, take, Option, Some, None, refl, sym, ap, subst, ◌∙◌, arith, length-append, eq-eqb}
 use Rattle.std.proofs.lemmas.Bool.{ne_eqb}
 use Rattle.std.proofs.lemmas.List.{length-take}
 use Rattle.std.proofs.lemmas.List.Elements.{All-take}
@@ -8,7 +8,6 @@ use Rattle.std.specs.List.{All, filter_map}
 use Rattle.warg_crypto.specs.Digests.{IsByte}
 use Rattle.warg_crypto.specs.Collisions.{GivesHashes}
 use Rattle.warg_crypto.specs.Tree.{leaf_digest}
-use Rattle.warg_map.specs.Bits.{bits_from, last_bits, key_bits}
 use Rattle.warg_map.specs.Last.{last_with}
 use Rattle.warg_pages.specs.Prefixes.{byte_bits, is_below, bits_of_bytes, version}
 use Rattle.warg_pages.specs.Slots.{SlotAt, IsPage, is_lone, slot_over, slot_of, numbers, page_of}
@@ -37,9 +36,9 @@ pub nothing_below : (H : List ℕ → List ℕ) (es : List (List ℕ × List ℕ
     (last : Option (List ℕ × List ℕ)) → last_with (is_below H p) es ≡ last → None ≡ slot_over H es p s last
     → page_of H es p ≡ []
 unfolding page_of
-nothing_below H es p s None l e = no_slots (slot_of H es p) 0 256
-    (λ t. ap (slot_over H es (p ++ byte_bits t) t) (none_longer H p (byte_bits t) es l))
-nothing_below H es p s (Some x) l e = absurd (cc)
+nothing_below H es p s None l e = no_slots _ 0 256
+    (λ t. ap (slot_over H es (p ++ byte_bits t) t) (none_longer H p _ es l))
+nothing_below H es p s _ l e = absurd cc
 
 -- one slot at a byte
 one_slot : (f : ℕ → Option SlotAt) (x : SlotAt) → x.byte < 256 → f x.byte ≡ Some x
@@ -55,33 +54,32 @@ pub one_below : (H : List ℕ → List ℕ) → GivesHashes H → (es : List (Li
     → page_of H es p ≡ lone_slot H depth (slice_index (H e.0) depth) (version H es p) (H e.0, leaf_digest H e.1) ∷ []
 unfolding page_of
 one_below H gives es p depth e size lt last lone =
-    one_slot (slot_of H es p) (lone_slot H depth (slice_index (H e.0) depth) (version H es p)
-    (H e.0, leaf_digest H e.1)) fits here other
+    one_slot _ (lone_slot H depth _ (version H es p) (H e.0, leaf_digest H e.1)) fits here other
   where
     fits : slice_index (H e.0) depth < 256
     fits = let is = gives (e.0) in let all = is.has_32 in is.are_bytes depth 0 (omega arith)
 
     under : is_below H p e ≡ true
-    under = last_passes (is_below H p) es e last
+    under = last_passes _ es e last
 
     sizes : (t : ℕ) → length (p ++ byte_bits t) ≡ 8 * depth + 8
-    sizes t = length-append p (byte_bits t) ∙ (let n = length-bits_from (t ∷ []) 0 8 in omega arith)
+    sizes t = length-append p _ ∙ (let n = length-bits_from (t ∷ []) 0 8 in omega arith)
 
     here : slot_of H es p (slice_index (H e.0) depth)
         ≡ Some (lone_slot H depth (slice_index (H e.0) depth) (version H es p) (H e.0, leaf_digest H e.1))
     here =
         let s : ℕ = slice_index (H e.0) depth in
-        let there : is_below H (p ++ byte_bits s) e ≡ true = begins-more (H e.0) p depth s (gives _) size lt fits
+        let there : is_below H (p ++ byte_bits s) e ≡ true = begins-more _ p depth s (gives _) size lt fits
         ∙ rw under (eq-eqb s s refl) in
-        let long = lone_longer H es p (byte_bits s) e last lone there in
-        lone_slot_is H es (p ++ byte_bits s) depth s e (sizes s) lt long.is_last long.alone
+        let long = lone_longer H es p _ e last lone there in
+        lone_slot_is H es _ depth s e (sizes s) lt long.is_last long.alone
         ∙ ap (λ v. Some (lone_slot H depth s v (H e.0, leaf_digest H e.1))) long.is_version
 
     other : (t : ℕ) → t < 256 → ¬ (t ≡ slice_index (H e.0) depth) → slot_of H es p t ≡ None
     other t low apart =
-        let off : is_below H (p ++ byte_bits t) e ≡ false = begins-more (H e.0) p depth t (gives _) size lt low
-        ∙ rw under (ne_eqb (slice_index (H e.0) depth) t (λ same. apart (sym same))) in
-        ap (slot_over H es (p ++ byte_bits t) t) (lone_elsewhere H es p (byte_bits t) e lone off)
+        let off : is_below H (p ++ byte_bits t) e ≡ false = begins-more _ p depth t (gives _) size lt low
+        ∙ rw under (ne_eqb _ t (λ same. apart (sym same))) in
+        ap (slot_over H es (p ++ byte_bits t) t) (lone_elsewhere H es p _ e lone off)
 
 -- what an own slot with a lone key says of it
 pub record OwnLoneBelow (H : List ℕ → List ℕ) (es : List (List ℕ × List ℕ)) (prefix : List ℕ) (x : SlotAt)
@@ -93,7 +91,7 @@ own_over : (H : List ℕ → List ℕ) → GivesHashes H → (es : List (List �
     (last : Option (List ℕ × List ℕ)) (x : SlotAt) (lone : List ℕ × List ℕ) → All IsByte prefix → length prefix < 32
     → last_with (is_below H (bits_of_bytes prefix)) es ≡ last → Some x ≡ slot_over H es (bits_of_bytes prefix) s last
     → x.lone ≡ Some lone → OwnLoneBelow H es prefix x lone
-own_over H gives es prefix s None x lone bytes short l e is = absurd (cc)
+own_over H gives es prefix s None x lone bytes short l e is = absurd cc
 own_over H gives es prefix s (Some f) x lone bytes short l e is =
     let p : List Bool = bits_of_bytes prefix in
     let size : length p ≡ 8 * length prefix = length-bits prefix in
@@ -101,18 +99,17 @@ own_over H gives es prefix s (Some f) x lone bytes short l e is =
     let found = lone_of (is_lone H es p f) (H f.0, leaf_digest H f.1) lone (sym (ap (λ (y : SlotAt). y.lone) same)
     ∙ is) in
     let under = last_passes (is_below H p) es f l in
-    let rest = begins-rest p (key_bits H f.0) under in
-    let bits = (same_parts p rest.0 (bits_from (H f.0) 0 (8 * length prefix))
-    (last_bits (H f.0) (256 - 8 * length prefix)) (size ∙ sym (length-bits_from (H f.0) 0 (8 * length prefix)))
-    (sym rest.1 ∙ key_at (H f.0) (8 * length prefix) (omega arith))).0 in
+    let rest = begins-rest p _ under in
+    let bits = (same_parts p rest.0 _ _ (size ∙ sym (length-bits_from _ 0 _))
+    (sym rest.1 ∙ key_at _ _ (omega arith))).0 in
     let is_digest = gives f.0 in
     let has = is_digest.has_32 in
     let taken : length (take (length prefix) (H f.0)) ≡ length prefix = let all = length-take (length prefix) (H f.0) in
     omega arith in
-    let begins : take (length prefix) (H f.0) ≡ prefix = same_bytes (take (length prefix) (H f.0)) prefix
+    let begins : take (length prefix) (H f.0) ≡ prefix = same_bytes _ prefix
     (All-take IsByte (length prefix) (H f.0) is_digest.are_bytes) bytes taken
-    (bits_of_taken (H f.0) (length prefix) (omega arith) ∙ sym bits) in
-    let page = one_below H gives es p (length prefix) f size short l found.0 in
+    (bits_of_taken _ _ (omega arith) ∙ sym bits) in
+    let page = one_below H gives es p _ f size short l found.0 in
     let version_is : version H es p ≡ x.version = sym (ap (λ (y : SlotAt). y.version) same) in
     let P : List ℕ × List ℕ → Type 0 = λ l. OwnLoneBelow H es prefix x l in
     subst P found.1 record {
@@ -132,15 +129,15 @@ module _ {H : List ℕ → List ℕ} (gives : GivesHashes H) {bytes_at : List �
   own_bytes_below : x.lone ≡ None → bytes_at prefix x.version ≡ Some (page_bytes (page_of H es (bits_of_bytes prefix)))
   own_bytes_below none =
       let slot = own_slot_over H es (bits_of_bytes prefix) own.byte _ x refl (sym own.is_slot) in
-      ap (bytes_at prefix) slot.version ∙ own.pages prefix own.are_bytes short (slot.page none)
+      rw slot.version (own.pages prefix own.are_bytes short (slot.page none))
 
   pub own_page_below : {page : List SlotAt} → IsPage page
       → IfSome (bytes_at prefix x.version) (λ known. known ≡ page_bytes page) → x.lone ≡ None
       → page ≡ page_of H es (bits_of_bytes prefix)
-  own_page_below {page} is at none = one_page page (page_of H es (bits_of_bytes prefix)) is
-      (own_slots H es (bits_of_bytes prefix) gives own.fits) (sym (rw (own_bytes_below none) at at))
+  own_page_below {page} is at none = one_page page _ is (own_slots H es _ gives own.fits)
+      (sym (rw (own_bytes_below none) at at))
 
   pub own_page_refused : ((slots : List SlotAt) → IsPage slots → bytes_at prefix x.version ≢ Some (page_bytes slots))
       → x.lone ≡ None → ⊥
   own_page_refused fault none = fault (page_of H es (bits_of_bytes prefix))
-      (own_slots H es (bits_of_bytes prefix) gives own.fits) (own_bytes_below none)
+      (own_slots H es _ gives own.fits) (own_bytes_below none)

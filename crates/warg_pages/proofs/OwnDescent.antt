@@ -1,5 +1,5 @@
 -- The way down through the pages of insertions.
-use Rattle.std.proofs.Common.{◌≡◌, ℕ, zero, suc, ◌+◌, ◌-◌, ◌*◌, ◌/◌, ◌<◌, ◌≤◌, Bool, true, false, not, ◌||◌, cond, eqb, List, [], ◌∷◌, ◌++◌, length, take, get_or, Option, Some, None, refl, sym, subst, ap, ◌∙◌, arith, inl, inr, append_assoc, eq-eqb}
+use Rattle.std.proofs.Common.{◌≡◌, ℕ, zero, suc, ◌+◌, ◌-◌, ◌*◌, ◌/◌, ◌<◌, ◌≤◌, Bool, true, false, not, ◌||◌, cond, eqb, List, [], ◌∷◌, ◌++◌, length, take, get_or, Option, Some, None, refl, sym, ap, ◌∙◌, arith, inl, inr, append_assoc, eq-eqb}
 use Rattle.std.proofs.lemmas.Bool.{cond-true, cond-false, cases_lt, false_from_ne_true, eqb-true}
 use Rattle.std.proofs.lemmas.List.{get_or-take, length-take}
 use Rattle.std.specs.Bool.{then_some}
@@ -12,7 +12,7 @@ use Rattle.warg_map.specs.Sparse.{root_of_levels, map_of}
 use Rattle.warg_pages.specs.Prefixes.{bits_of_bytes, byte_bits, is_below, below, version}
 use Rattle.warg_pages.specs.Slots.{SlotAt, is_lone, slot_over, slot_of, numbers, page_of}
 use Rattle.warg_pages.specs.Pages.{digest_at, slot_height, slot_at}
-use Rattle.warg_pages.specs.OwnPages.{stands, stands_over}
+use Rattle.warg_pages.specs.OwnPages.{stands}
 use Rattle.warg_pages.specs.Private.Descents.{peers_below}
 use Rattle.warg_pages.proofs.PageRoots.{HasByte, digest_of, slot_byte}
 use Rattle.warg_pages.proofs.HeldHalves.{half_peer}
@@ -28,15 +28,13 @@ unfolding peers_below
 own_peers_below H es p before [] depth s lt n byte e = tt
 own_peers_below H es p before (b ∷ after) depth s lt n byte e = (
   half_peer H es p before after b depth s lt n byte e,
-  over same (own_peers_below H es p (before ++ b ∷ []) after depth s lt n byte
-      (e ∙ sym (append_assoc before (b ∷ []) after))),
+  over same (own_peers_below H es p (before ++ b ∷ []) after depth s lt n byte (e ∙ sym (append_assoc before _ after))),
 )
   where
     over : {f g : List Bool → Option (List ℕ)} → f ≡ g → PeersAbove H (slot_height depth) f after
         (peers_below H depth (page_of H es p) s (length after)) → PeersAbove H (slot_height depth) g after
         (peers_below H depth (page_of H es p) s (length after))
-    over e h = let P : (List Bool → Option (List ℕ)) → Type 0 = λ f. PeersAbove H (slot_height depth) f after
-        (peers_below H depth (page_of H es p) s (length after)) in subst P e h
+    over e h = rw e at h
 
     same : ◌≡◌ {A = List Bool → Option (List ℕ)} (λ q. get (map_of H es) (p ++ ((before ++ b ∷ []) ++ q)))
         (λ q. get (map_of H es) (p ++ (before ++ b ∷ q)))
@@ -78,14 +76,13 @@ slot_at-number f first (suc n) s i ge lt = elim (cases_lt first s) [
 pub own_slot_at : (H : List ℕ → List ℕ) (es : List (List ℕ × List ℕ)) (p : List Bool) (s : ℕ) → s < 256
     → slot_at (page_of H es p) s ≡ slot_of H es p s
 unfolding page_of
-own_slot_at H es p s lt = slot_at-number (slot_of H es p) 0 256 s (λ t. slot_byte H es (p ++ byte_bits t) t _)
-    (omega arith) (omega arith)
+own_slot_at H es p s lt = slot_at-number _ 0 256 s (λ t. slot_byte H es _ t _) (omega arith) (omega arith)
 
 pub digest_at-slot : (H : List ℕ → List ℕ) (height : ℕ) (xs : List SlotAt) (s : ℕ) → digest_at H height xs s
     ≡ digest_of H height (slot_at xs s)
 unfolding digest_at
 digest_at-slot H height [] s = refl
-digest_at-slot H height (x ∷ xs) s = either (eqb x.byte s) (digest_at-slot H height xs s)
+digest_at-slot H height (x ∷ xs) s = either _ (digest_at-slot H height xs s)
   where
     either : (b : Bool) → digest_at H height xs s ≡ digest_of H height (slot_at xs s)
         → cond b x.digest (digest_at H height xs s) ≡ digest_of H height (cond b (Some x) (slot_at xs s))
@@ -101,11 +98,11 @@ pub record OwnSlot (H : List ℕ → List ℕ) (es : List (List ℕ × List ℕ)
 pub own_slot_over : (H : List ℕ → List ℕ) (es : List (List ℕ × List ℕ)) (p : List Bool) (s : ℕ)
     (last : Option (List ℕ × List ℕ)) (x : SlotAt) → last_with (is_below H p) es ≡ last → slot_over H es p s last
     ≡ Some x → OwnSlot H es p x
-own_slot_over H es p s None x l e = absurd (cc)
+own_slot_over H es p s None x l e = absurd cc
 own_slot_over H es p s (Some f) x l e = record {
   version = sym (ap (λ (y : SlotAt). y.version) same);
   digest = sym (ap (λ (y : SlotAt). y.digest) same);
-  page = λ none. ap (stands_over H es p) l ∙ several (is_lone H es p f) (ap (λ (y : SlotAt). y.lone) same ∙ none);
+  page = λ none. rw l (several (is_lone H es p f) (ap (λ (y : SlotAt). y.lone) same ∙ none));
 }
   where
     same : record {
@@ -123,8 +120,8 @@ own_slot_over H es p s (Some f) x l e = record {
 
     several : (b : Bool) → then_some {T = List ℕ × List ℕ} b (H f.0, leaf_digest H f.1) ≡ None
         → (eqb (length p) 0 || not b) ≡ true
-    several true none = absurd (cc)
-    several false none = or_true (eqb (length p) 0)
+    several true none = absurd cc
+    several false none = or_true _
       where
         or_true : (c : Bool) → (c || true) ≡ true
         or_true true = refl
@@ -132,20 +129,20 @@ own_slot_over H es p s (Some f) x l e = record {
 
 pub own_slot_is : (H : List ℕ → List ℕ) (es : List (List ℕ × List ℕ)) (p : List Bool) (s : ℕ) (x : SlotAt)
     → slot_of H es p s ≡ Some x → OwnSlot H es (p ++ byte_bits s) x
-own_slot_is H es p s x e = own_slot_over H es (p ++ byte_bits s) s _ x refl e
+own_slot_is H es p s x e = own_slot_over H es _ s _ x refl e
 
 -- the bits of the first bytes
 pub bits_of_taken : (k : List ℕ) (depth : ℕ) → depth ≤ length k → bits_of_bytes (take depth k)
     ≡ bits_from k 0 (8 * depth)
 bits_of_taken k depth le =
     let size : length (take depth k) ≡ depth = let all = length-take depth k in omega arith in
-    ap (λ n. bits_from (take depth k) 0 (8 * n)) size ∙ bits_from-same (take depth k) k 0 0 (8 * depth) same
+    rw size (bits_from-same _ k 0 0 _ same)
   where
     same : (m : ℕ) → m < 8 * depth → bit_at (take depth k) (0 + m) ≡ bit_at k (0 + m)
     same m lt =
         let at : 0 + m ≡ m = omega arith in
         let low : m / 8 < depth = omega arith in
-        rw (at, get_or-take depth k (m / 8) 0 low) refl
+        rw (at, get_or-take depth k _ 0 low) refl
 
 -- a byte more
 pub prefix_more : (k : List ℕ) (depth : ℕ) → bits_from k 0 (8 * (depth + 1)) ≡ bits_from k 0 (8 * depth) ++ byte_bits
@@ -153,5 +150,5 @@ pub prefix_more : (k : List ℕ) (depth : ℕ) → bits_from k 0 (8 * (depth + 1
 prefix_more k depth =
     let all : 8 * (depth + 1) ≡ 8 * depth + 8 = omega arith in
     let at : 0 + 8 * depth ≡ 8 * depth = omega arith in
-    ap (bits_from k 0) all ∙ bits_from-append k 0 (8 * depth) 8 ∙ ap (λ t. bits_from k 0 (8 * depth) ++ t)
-    (ap (λ i. bits_from k i 8) at ∙ byte_at_depth k depth)
+    rw all (bits_from-append k 0 _ 8 ∙ ap (λ t. bits_from k 0 (8 * depth) ++ t)
+    (ap (λ i. bits_from k i 8) at ∙ byte_at_depth k depth))

@@ -1,20 +1,18 @@
 -- The slots of insertions are those of a page.
-use Rattle.std.proofs.Common.{◌≡◌, ℕ, zero, suc, ◌+◌, ◌-◌, ◌^◌, ◌<◌, ◌≤◌, Bool, true, false, cond, eqb, List, [], ◌∷◌, ◌++◌, length, get_or, Option, Some, None, arith, sym, ap}
+use Rattle.std.proofs.Common.{◌≡◌, ℕ, zero, suc, ◌+◌, ◌^◌, ◌<◌, ◌≤◌, Bool, true, false, cond, List, [], ◌∷◌, length, get_or, Option, Some, None, arith, sym, ap}
 use Rattle.std.specs.Prelude.{unwrap_or}
 use Rattle.std.specs.Bool.{then_some}
 use Rattle.std.specs.Option.{option_map}
 use Rattle.std.proofs.lemmas.List.Elements.{All-nil, All-cons, All-weaker}
 use Rattle.std.specs.List.{All, filter_map, cons_option}
-use Rattle.warg_pages.specs.Prefixes.{byte_bits}
 use Rattle.warg_crypto.specs.Digests.{IsDigest}
 use Rattle.warg_crypto.specs.Collisions.{GivesHashes}
 use Rattle.warg_crypto.specs.EmptyTrees.{empty_root}
 use Rattle.warg_crypto.specs.Tree.{leaf_digest}
-use Rattle.warg_map.specs.Last.{last_under}
 use Rattle.warg_map.specs.Sparse.{root_of_levels, map_of}
 use Rattle.warg_map.proofs.ForCallers.{last_held}
 use Rattle.warg_pages.specs.Prefixes.{below, is_below, last_place}
-use Rattle.warg_pages.specs.Slots.{SlotAt, IsSlot, IsPage, Ascends, is_lone, slot_over, slot_of, numbers, page_of}
+use Rattle.warg_pages.specs.Slots.{SlotAt, IsSlot, IsPage, Ascends, is_lone, slot_over, numbers, page_of}
 use Rattle.warg_pages.proofs.PageRoots.{HasByte, slot_byte}
 
 from_first : (f : ℕ → Option SlotAt) (first n : ℕ) → ((t : ℕ) → HasByte t (f t))
@@ -56,7 +54,7 @@ ascends f first (suc n) i = cons (f first) (i first) (ascends f (first + 1) n i)
 pub version_within : {X : Type 0} (p : X → Bool) (xs : List X) → last_place p xs ≤ length xs
 unfolding last_place
 version_within p [] = omega arith
-version_within p (x ∷ xs) = either (eqb (last_place p xs) 0) (p x) (version_within p xs)
+version_within p (x ∷ xs) = either _ (p x) (version_within p xs)
   where
     either : (b c : Bool) → last_place p xs ≤ length xs → cond b (cond c 1 0) (suc (last_place p xs)) ≤ suc (length xs)
     either true true le = omega arith
@@ -79,9 +77,9 @@ levels_are_digests H gives (suc k) held h = gives _
 pub root_is_digest : (H : List ℕ → List ℕ) → GivesHashes H → (es : List (List ℕ × List ℕ)) (p : List Bool) (k : ℕ)
     → IsDigest (root_of_levels H k (below (map_of H es) p))
 root_is_digest H gives es p k =
-    levels_are_digests H gives k (below (map_of H es) p)
-    (subst_digest (sym (ap (λ (o : Option (List ℕ)). unwrap_or o (empty_root H 0)) (last_held H (p ++ []) es)))
-    (leaf_is_digest H gives (last_under H (p ++ []) es)))
+    levels_are_digests H gives k (below _ p)
+    (subst_digest (sym (ap (λ (o : Option (List ℕ)). unwrap_or o (empty_root H 0)) (last_held H _ es)))
+    (leaf_is_digest H gives _))
   where
     subst_digest : {a b : List ℕ} → a ≡ b → IsDigest a → IsDigest b
     subst_digest e h = rw (← e) h
@@ -89,7 +87,7 @@ root_is_digest H gives es p k =
 -- a slot of insertions is one
 lone_is : (H : List ℕ → List ℕ) → GivesHashes H → (b : Bool) (e : List ℕ × List ℕ) (l : List ℕ × List ℕ)
     → then_some b (H e.0, leaf_digest H e.1) ≡ Some l → IsDigest l.0 × IsDigest l.1
-lone_is H gives false e l is = absurd (cc)
+lone_is H gives false e l is = absurd cc
 lone_is H gives true e l is =
     let key : H e.0 ≡ l.0 = ap (λ (x : List ℕ × List ℕ). x.0) (same is) in
     let leaf : leaf_digest H e.1 ≡ l.1 = ap (λ (x : List ℕ × List ℕ). x.1) (same is) in
@@ -108,7 +106,7 @@ own_slot H gives es p s None fits lt = tt
 own_slot H gives es p s (Some e) fits lt = record {
   is_byte = lt;
   fits = (let le = version_within (is_below H p) es in omega arith);
-  digest = root_is_digest H gives es p (256 - length p);
+  digest = root_is_digest H gives es p _;
   lone = lone_is H gives (is_lone H es p e) e;
 }
 
@@ -116,7 +114,7 @@ all_slots : (f : ℕ → Option SlotAt) (first n : ℕ) → first + n ≤ 256 �
     → All IsSlot (filter_map f (numbers first n))
 unfolding numbers
 all_slots f first zero le is = All-nil IsSlot
-all_slots f first (suc n) le is = cons (f first) (is first (omega arith)) (all_slots f (first + 1) n (omega arith) is)
+all_slots f first (suc n) le is = cons _ (is first (omega arith)) (all_slots f (first + 1) n (omega arith) is)
   where
     cons : (o : Option SlotAt) → IsSlotIf o → All IsSlot (filter_map f (numbers (first + 1) n))
         → All IsSlot (cons_option o (filter_map f (numbers (first + 1) n)))
@@ -128,7 +126,6 @@ pub own_slots : (H : List ℕ → List ℕ) (es : List (List ℕ × List ℕ)) (
     → IsPage (page_of H es p)
 unfolding page_of
 own_slots H es p gives fits = record {
-  ascend = ascends (slot_of H es p) 0 256 (λ t. slot_byte H es (p ++ byte_bits t) t _);
-  are_slots = all_slots (slot_of H es p) 0 256 (omega arith)
-      (λ t lt. own_slot H gives es (p ++ byte_bits t) t _ fits lt);
+  ascend = ascends _ 0 256 (λ t. slot_byte H es _ t _);
+  are_slots = all_slots _ 0 256 (omega arith) (λ t lt. own_slot H gives es _ t _ fits lt);
 }

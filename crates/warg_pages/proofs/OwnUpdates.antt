@@ -41,20 +41,19 @@ pub changes_next : (H : List ℕ → List ℕ) → GivesHashes H → (prefix : L
     → changes ≡ changes_below H n more (bits_of_bytes prefix) → filter (goes_to (length prefix) byte) changes
     ≡ changes_below H n more (bits_of_bytes (prefix ++ byte ∷ []))
 changes_next H gives prefix changes byte n more short lt are =
-    ap (filter (goes_to (length prefix) byte)) are
-    ∙ sym (filtered_again (λ (c : ChangeAt). begins (bits_of_bytes prefix) (last_bits c.key 256))
+    rw are (sym (filtered_again (λ (c : ChangeAt). begins (bits_of_bytes prefix) (last_bits c.key 256))
     (goes_to (length prefix) byte) (λ (c : ChangeAt). begins (bits_of_bytes prefix ++ byte_bits byte)
     (last_bits c.key 256)) (changes_from H n more)
     (λ i d within. begins-more _ (bits_of_bytes prefix) (length prefix) byte (key_digests H gives n more i d within)
     (length-bits prefix) short lt))
-    ∙ ap (changes_below H n more) (sym (bits-more prefix byte))
+    ∙ ap (changes_below H n more) (sym (bits-more prefix byte)))
 
 -- the bits of a prefix with a byte more
 abbrev bits_with : List ℕ → ℕ → List Bool
 bits_with prefix byte = bits_of_bytes (prefix ++ byte ∷ [])
 
 sizes : (prefix : List ℕ) (byte : ℕ) → length (bits_with prefix byte) ≡ 8 * length prefix + 8
-sizes prefix byte = length-bits (prefix ++ byte ∷ []) ∙ (let n = length-append prefix (byte ∷ []) in omega arith)
+sizes prefix byte = length-bits _ ∙ (let n = length-append prefix (byte ∷ []) in omega arith)
 
 slot_of-with : (H : List ℕ → List ℕ) (es : List (List ℕ × List ℕ)) (prefix : List ℕ) (byte : ℕ)
     → slot_over H es (bits_with prefix byte) byte (last_with (is_below H (bits_with prefix byte)) es)
@@ -70,22 +69,22 @@ pub record LastThere (H : List ℕ → List ℕ) (n : ℕ) (q : List Bool) (more
 
 last_there : (H : List ℕ → List ℕ) (n : ℕ) (q : List Bool) (more : List (List ℕ × List ℕ)) (c : ChangeAt)
     → last_of (changes_below H n more q) ≡ Some c → LastThere H n q more c
-last_there H n q more c e = by_last (last_with (is_below H q) more) refl (sym (last_change H q n more) ∙ e)
+last_there H n q more c e = by_last _ refl (sym (last_change H q n more) ∙ e)
   where
     by_last : (o : Option (List ℕ × List ℕ)) → last_with (is_below H q) more ≡ o
         → option_map (put_by H (n + last_place (is_below H q) more)) (last_with (is_below H q) more) ≡ Some c
         → LastThere H n q more c
-    by_last None l h = absurd (let none : None ≡ Some c = rw l at h in cc)
+    by_last None l h = absurd cc
     by_last (Some f) l h = record { last = f; is_last = l; is_change = some_same (sym (rw l at h)) }
 
 none_there : (H : List ℕ → List ℕ) (n : ℕ) (q : List Bool) (more : List (List ℕ × List ℕ))
     → last_of (changes_below H n more q) ≡ None → last_with (is_below H q) more ≡ None
-none_there H n q more e = by_last (last_with (is_below H q) more) (sym (last_change H q n more) ∙ e)
+none_there H n q more e = by_last _ (sym (last_change H q n more) ∙ e)
   where
     by_last : (o : Option (List ℕ × List ℕ)) → option_map (put_by H (n + last_place (is_below H q) more)) o ≡ None
         → o ≡ None
     by_last None h = refl
-    by_last (Some f) h = absurd (cc)
+    by_last (Some f) h = absurd cc
 
 named_digest : (H : List ℕ → List ℕ) (old : List (List ℕ × List ℕ)) (prefix : List ℕ) (byte : ℕ) (slot : Option SlotAt)
     → slot ≡ slot_over H old (bits_with prefix byte) byte
@@ -98,9 +97,9 @@ named_digest H old prefix byte slot is =
     let height : 256 - length q ≡ slot_height (length prefix) = omega arith in
     let all : slot_height (length prefix) ≡ 256 - 8 * length (prefix ++ byte ∷ []) = let n = length-append prefix
     (byte ∷ []) in omega arith in
-    ap (slot_digest H (length prefix)) is ∙ as_digest (slot_over H old q byte (last_with (is_below H q) old))
+    rw is (as_digest (slot_over H old q byte (last_with (is_below H q) old))
     ∙ same_slot_digest H (slot_height (length prefix)) old q byte (last_with (is_below H q) old) refl height
-    ∙ ap (λ n. root_of_levels H n (below (map_of H old) q)) all
+    ∙ ap (λ n. root_of_levels H n (below (map_of H old) q)) all)
   where
     as_digest : (o : Option SlotAt) → slot_digest H (length prefix) o ≡ digest_of H (slot_height (length prefix)) o
     as_digest None = refl
@@ -132,7 +131,7 @@ module _ {H : List ℕ → List ℕ} (gives : GivesHashes H) {bytes_at : List �
 
   -- the slot before
   slot_before : slot_at slots byte ≡ slot_of H old (bits_of_bytes prefix) byte
-  slot_before = ap (λ xs. slot_at xs byte) own.are_slots ∙ own_slot_at H old (bits_of_bytes prefix) byte lt
+  slot_before = rw own.are_slots (own_slot_at H old (bits_of_bytes prefix) byte lt)
 
   slot_is : slot_at slots byte
       ≡ slot_over H old (bits_with prefix byte) byte (last_with (is_below H (bits_with prefix byte)) old)
@@ -169,7 +168,7 @@ module _ {H : List ℕ → List ℕ} (gives : GivesHashes H) {bytes_at : List �
           let later = changes.later in omega arith
 
   last_here : (c : ChangeAt) → last_of here ≡ Some c → LastThere H (length old) (bits_with prefix byte) more c
-  last_here c last = last_there H (length old) (bits_with prefix byte) more c (ap last_of (sym are_here) ∙ last)
+  last_here c last = last_there H (length old) (bits_with prefix byte) more c (rw (← are_here) last)
 
   -- where a key stays alone, its slot is that of the last change
   pub slot_alone : (c : ChangeAt) → last_of here ≡ Some c → StaysAlone c.key (slot_at slots byte) here
@@ -253,8 +252,8 @@ pub digest_before : {H : List ℕ → List ℕ} {bytes_at : List ℕ → ℕ →
     → IsOwnUpdate H bytes_at prefix number named slots changes old more → length prefix < 32
     → page_digest H (length prefix) slots ≡ named
 digest_before {H} {prefix = prefix} {old = old} own short =
-    ap (page_digest H (length prefix)) own.own.are_slots ∙ page_root H old (bits_of_bytes prefix) (length prefix) short
-    (length-bits prefix) ∙ sym own.is_digest
+    rw own.own.are_slots (page_root H old _ _ short (length-bits prefix)
+    ∙ sym own.is_digest)
 
 -- the slot of a page that changed
 pub slot_of_page : {H : List ℕ → List ℕ} {bytes_at : List ℕ → ℕ → Option (List ℕ)} {number : ℕ}
@@ -272,8 +271,7 @@ slot_of_page {H} {number = number} {digest = digest} {old = old} {more = more} p
     ∙ ap (λ n. root_of_levels H (256 - n) (below (map_of H (old ++ more)) q)) (sym all) in
     record {
       is_slot = (λ i. Some record { byte = byte; version = own.is_version i; digest = root i; lone = None })
-          ∙ sym (page_slot_is H (old ++ more) q byte (last_with (is_below H q) (old ++ more))
-          (omega arith) own.changed.is_there) ∙ slot_of-with H (old ++ more) prefix byte;
+          ∙ sym (page_slot_is H _ q byte _ (omega arith) own.changed.is_there) ∙ slot_of-with H _ prefix byte;
       changed = updated.changed;
     }
 
@@ -288,15 +286,15 @@ numbers-more first (suc n) =
 
 pub slots-more : (f : ℕ → Option SlotAt) (n : ℕ) → filter_map f (numbers 0 (n + 1))
     ≡ filter_map f (numbers 0 n) ++ cons_option (f n) []
-slots-more f n = let at : 0 + n ≡ n = omega arith in ap (filter_map f) (numbers-more 0 n)
-    ∙ filter_map-append f (numbers 0 n) ((0 + n) ∷ []) ∙ ap (λ m. filter_map f (numbers 0 n) ++ cons_option (f m) []) at
+slots-more f n = let at : 0 + n ≡ n = omega arith in rw (numbers-more 0 n)
+    (filter_map-append f _ _ ∙ ap (λ m. filter_map f (numbers 0 n) ++ cons_option (f m) []) at)
 
 pub slots_below : (xs : List SlotAt) (o : Option SlotAt) (n : ℕ) → All (λ x. x.byte < n) xs → IfSome o (λ x. x.byte ≡ n)
     → All (λ x. x.byte < n + 1) (xs ++ cons_option o [])
 slots_below xs None n all is = All-append (λ (x : SlotAt). x.byte < n + 1) xs [] (λ i d lt. let h = all i d lt in
     omega arith) (All-nil (λ (x : SlotAt). x.byte < n + 1))
 slots_below xs (Some x) n all is = All-append (λ (x : SlotAt). x.byte < n + 1) xs (x ∷ [])
-    (λ i d lt. let h = all i d lt in omega arith) (All-cons (λ (x : SlotAt). x.byte < n + 1) x [] (omega arith)
+    (λ i d lt. omega arith) (All-cons (λ (x : SlotAt). x.byte < n + 1) x [] (omega arith)
     (All-nil (λ (x : SlotAt). x.byte < n + 1)))
 
 -- all of them
@@ -314,17 +312,15 @@ page_updated {H} {prefix = prefix} {number = number} {fresh = fresh} {old = old}
     let page : fresh ≡ page_of H (old ++ more) (bits_of_bytes prefix) = are in
     let named : record { prefix = prefix; version = number; page = fresh } ≡ page_at H (old ++ more) prefix =
     λ i. record { prefix = prefix; version = own.is_version i; page = page i } in
-    let P : ChangedPageAt → Type 0 = λ c. AreChangedAmong H old more (GoesOn prefix) (pages ++ c ∷ []) in
     record {
-      is_root = ap (page_digest H (length prefix)) page ∙ page_root H (old ++ more) (bits_of_bytes prefix)
-          (length prefix) short (length-bits prefix);
-      changed = subst P (sym named) (whole_among H old more prefix pages among own.changed);
+      is_root = rw page (page_root H _ _ _ short (length-bits prefix));
+      changed = rw named (whole_among H old more prefix pages among own.changed);
     }
 
 -- the slot of a byte has it
 pub slot_at-byte : (xs : List SlotAt) (s : ℕ) → IfSome (slot_at xs s) (λ x. x.byte ≡ s)
 slot_at-byte [] s = tt
-slot_at-byte (x ∷ xs) s = either (eqb x.byte s) refl (slot_at-byte xs s)
+slot_at-byte (x ∷ xs) s = either _ refl (slot_at-byte xs s)
   where
     either : (b : Bool) → eqb x.byte s ≡ b → IfSome (slot_at xs s) (λ y. y.byte ≡ s)
         → IfSome (cond b (Some x) (slot_at xs s)) (λ y. y.byte ≡ s)

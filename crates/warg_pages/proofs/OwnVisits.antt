@@ -42,15 +42,14 @@ module _ (IsLone : List ℕ → SlotAt → List ℕ × List ℕ → Type 0)
   of_byte : (s : ℕ) (x : SlotAt) (slots : List SlotAt) (pages : List ChangedPageAt) → slot_at slots s ≡ Some x
       → AreOfSlots IsLone From prefix slots pages → AreAmong x pages
   unfolding AreOfSlots
-  of_byte s x [] pages e all = absurd (cc)
-  of_byte s x (y ∷ ys) pages e all = by_test (eqb y.byte s) refl (λ h. of_byte s x ys all.1 h all.4)
+  of_byte s x [] pages e all = absurd cc
+  of_byte s x (y ∷ ys) pages e all = by_test _ refl (λ h. of_byte s x ys all.1 h all.4)
     where
       by_test : (b : Bool) → eqb y.byte s ≡ b → (slot_at ys s ≡ Some x → AreAmong x all.1)
           → AreAmong x pages
       by_test true t rest =
           let same : y ≡ x = some_same (rw t at e) in
-          let P : SlotAt → Type 0 = λ z. AreOfSlot IsLone From prefix z z.lone all.0 in
-          record { before = []; these = all.0; after = all.1; parts = all.2; of_slot = subst P same all.3 }
+          record { before = []; these = all.0; after = all.1; parts = all.2; of_slot = rw same at all.3 }
       by_test false t rest =
           let found = rest (rw t at e) in record {
             before = all.0 ++ found.before;
@@ -68,13 +67,11 @@ module _ (IsLone : List ℕ → SlotAt → List ℕ × List ℕ → Type 0)
       → AreOfSlots IsLone From prefix slots pages → (p : ChangedPageAt) → Contains pages p → P p
   unfolding AreOfSlots
   of_slots P [] pages each all p there =
-      let Q : List ChangedPageAt → Type 0 = λ ps. Contains ps p in
-      let lt = (subst Q all there).1 in absurd (omega arith)
+      let lt = (rw all at there).1 in absurd (omega arith)
   of_slots P (x ∷ xs) pages each all p there =
-      let Q : List ChangedPageAt → Type 0 = λ ps. Contains ps p in
       ⊎_elim (λ first. each x all.0 (first_among x xs) all.3 p first)
       (λ rest. of_slots P xs all.1 (λ y these in_rest. each y these (later_among x xs y in_rest)) all.4 p rest)
-      (Contains-append_cases all.0 all.1 p (subst Q all.2 there))
+      (Contains-append_cases all.0 all.1 p (rw all.2 at there))
 
 -- the slot of a byte, on the way to a page further on
 record IsSlotAbove (H : List ℕ → List ℕ) (es : List (List ℕ × List ℕ)) (prefix : List ℕ) (s : ℕ) : Type 0 where
@@ -85,7 +82,7 @@ record IsSlotAbove (H : List ℕ → List ℕ) (es : List (List ℕ × List ℕ)
 
 slot_above : (H : List ℕ → List ℕ) (es : List (List ℕ × List ℕ)) (prefix : List ℕ) (s : ℕ) (rest : List ℕ)
     → stands H es (bits_of_bytes (prefix ++ s ∷ rest)) ≡ true → IsSlotAbove H es prefix s
-slot_above H es prefix s rest there = by_last (last_with (is_below H p) es) refl
+slot_above H es prefix s rest there = by_last _ refl
   where
     p : List Bool
     p = bits_of_bytes prefix ++ byte_bits s
@@ -94,7 +91,7 @@ slot_above H es prefix s rest there = by_last (last_with (is_below H p) es) refl
     r = bits_of_bytes rest
 
     bits : bits_of_bytes (prefix ++ s ∷ rest) ≡ p ++ r
-    bits = ap bits_of_bytes (sym (append_assoc prefix (s ∷ []) rest)) ∙ bits-append (prefix ++ s ∷ []) rest
+    bits = ap bits_of_bytes (sym (append_assoc prefix _ rest)) ∙ bits-append _ rest
         ∙ ap (λ q. q ++ r) (bits-more prefix s)
 
     is_there : stands H es (p ++ r) ≡ true
@@ -152,19 +149,18 @@ module _ (H : List ℕ → List ℕ) (gives : GivesHashes H) (IsLone : List ℕ 
       λ i. record { prefix = prefix; version = own.is_version i; page = page i } in
       let P : List ChangedPageAt → Type 0 = λ ps. Contains ps (page_at H es prefix) in
       let Q : List ℕ → Type 0 = λ q. Contains pages (page_at H es q) in
-      subst Q (sym (append-nil prefix)) (subst P (sym from.2) (0, omega arith, same))
+      rw (append-nil prefix) (subst P (sym from.2) (0, omega arith, same))
   own_among (suc n) prefix digest number pages (s ∷ rest) from own are_bytes short there =
       let lt : length prefix < 32 = (let k = length-append prefix (s ∷ rest) in omega arith) in
       let page = own_page gives own lt from.3 from.4.allowed in
-      let byte : s < 256 = subst IsByte (get_or-append_seam prefix s rest 0)
+      let byte : s < 256 = rw (get_or-append_seam prefix s rest 0) at
       (are_bytes (length prefix) 0 (let k = length-append prefix (s ∷ rest) in omega arith)) in
       let above = slot_above H es prefix s rest there in
       let x = above.slot in
       let at : slot_at from.0 s ≡ Some x = ap (λ xs. slot_at xs s) page ∙ own_slot_at H es (bits_of_bytes prefix) s byte
       ∙ above.is_slot in
       let found = of_byte IsLone (From n) prefix s x from.0 from.1 at from.6 in
-      let P : Option (List ℕ × List ℕ) → Type 0 = λ o. AreOfSlot IsLone (From n) prefix x o found.these in
-      let below_slot = subst P above.no_lone found.of_slot in
+      let below_slot = rw above.no_lone at found.of_slot in
       let own_slot : IsOwnSlot H f prefix x es = record {
         pages = own.pages;
         fits = own.fits;
@@ -175,15 +171,13 @@ module _ (H : List ℕ → List ℕ) (gives : GivesHashes H) (IsLone : List ℕ 
       let longer = prefix ++ x.byte ∷ [] in
       let whole : longer ++ rest ≡ prefix ++ s ∷ rest = append_assoc prefix (x.byte ∷ []) rest
       ∙ ap (λ b. prefix ++ b ∷ rest) above.is_byte in
-      let Bytes : List ℕ → Type 0 = λ q. All IsByte q in
       let there_below = own_among n longer x.digest x.version found.these rest below_slot
-      (own_below own_slot refl above.no_lone) (subst Bytes (sym whole) are_bytes)
+      (own_below own_slot refl above.no_lone) (rw whole are_bytes)
       (let k = ap length whole in omega arith) (ap (λ q. stands H es (bits_of_bytes q)) whole ∙ there) in
       let target : ChangedPageAt = page_at H es (prefix ++ s ∷ rest) in
       let Q : List ℕ → Type 0 = λ q. Contains found.these (page_at H es q) in
-      let R : List ChangedPageAt → Type 0 = λ ps. Contains ps target in
       let first : ChangedPageAt = record { prefix = prefix; version = number; page = from.0 } in
-      subst R (sym (from.2 ∙ ap (λ ps. first ∷ ps) found.parts))
+      rw (from.2 ∙ ap (λ ps. first ∷ ps) found.parts)
       (Contains-append_right (first ∷ []) (found.before ++ (found.these ++ found.after)) target
       (Contains-append_right found.before (found.these ++ found.after) target
       (Contains-append_left found.these found.after target (subst Q whole there_below))))
@@ -230,11 +224,11 @@ own_visit H IsLone f T root zero es pages prefix gives fits own all are_bytes sh
   where
     none : (es : List (List ℕ × List ℕ)) → length es ≡ 0 → stands H es (bits_of_bytes prefix) ≡ true
         → Contains pages (page_at H es prefix)
-    none [] e is = absurd (let no : true ≡ false = sym is in cc)
+    none [] e is = absurd cc
     none (x ∷ es) e is = absurd (omega arith)
 own_visit H IsLone f T root (suc n) es pages prefix gives fits own all are_bytes short there =
-    own_among H gives IsLone f T es 32 [] root (suc n) pages prefix all
-    (own_root H f root (suc n) es fits (λ z. omega arith) own) are_bytes short there
+    own_among H gives IsLone f T es 32 [] root _ pages prefix all (own_root H f root _ es fits (λ z. omega arith) own)
+    are_bytes short there
 
 pub visit_own : (H : List ℕ → List ℕ) (IsLone : List ℕ → SlotAt → List ℕ × List ℕ → Type 0)
     (bytes_at : List ℕ → ℕ → Option (List ℕ)) (tells_all : Type 0) (root : List ℕ)
@@ -245,5 +239,5 @@ visit_own H IsLone f T root zero es pages gives fits own all p there =
     let Q : List ChangedPageAt → Type 0 = λ ps. Contains ps p in
     let lt = (subst Q all.0 there).1 in absurd (omega arith)
 visit_own H IsLone f T root (suc n) es pages gives fits own all p there =
-    own_from H gives IsLone f T es 32 [] root (suc n) pages refl all
-    (own_root H f root (suc n) es fits (λ z. omega arith) own) p there
+    own_from H gives IsLone f T es 32 [] root _ pages refl all (own_root H f root _ es fits (λ z. omega arith) own) p
+    there

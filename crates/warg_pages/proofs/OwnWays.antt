@@ -48,8 +48,8 @@ rest_at k depth lt =
     let from : 256 - (256 - 8 * depth) ≡ 8 * depth = omega arith in
     let all : 256 - 8 * depth ≡ 8 + slot_height depth = omega arith in
     let next : 8 * depth + 8 ≡ 256 - slot_height depth = omega arith in
-    ap (λ i. bits_from k i (256 - 8 * depth)) from ∙ ap (bits_from k (8 * depth)) all ∙ bits_from-append k (8 * depth) 8
-    (slot_height depth) ∙ ap (λ i. bits_from k (8 * depth) 8 ++ bits_from k i (slot_height depth)) next
+    rw from (ap (bits_from k (8 * depth)) all ∙ bits_from-append k _ 8 _
+    ∙ ap (λ i. bits_from k (8 * depth) 8 ++ bits_from k i (slot_height depth)) next)
 
 pub eight_peers : (H : List ℕ → List ℕ) (depth : ℕ) (slots : List SlotAt) (s n : ℕ)
     → length (peers_below H depth slots s n) ≡ n
@@ -59,7 +59,7 @@ eight_peers H depth slots s (suc n) = ap suc (eight_peers H depth slots s n)
 
 pub nothing_value : (H : List ℕ → List ℕ) (k : List ℕ) (height : ℕ)
     → value_above H 0 [] (empty_root H 0) (last_bits k height) ≡ empty_root H height
-nothing_value H k height = value_above-empty H 0 (last_bits k height)
+nothing_value H k height = value_above-empty H 0 _
     ∙ ap (empty_root H) (let n : length (last_bits k height) + 0 ≡ height = rw (length-last_bits k height)
     (omega arith) in n)
 
@@ -74,11 +74,9 @@ module _ (H : List ℕ → List ℕ) (k digest : List ℕ) (depth : ℕ) (page :
       let height : length (last_bits k (slot_height depth)) + 0 ≡ slot_height depth =
       rw (length-last_bits k (slot_height depth)) (omega arith) in
       let sizes : length (page_peers H depth page k) ≡ length (bits_from k (8 * depth) 8) = eight_peers H depth page
-      (get_or k depth 0) 8 ∙ sym (length-bits_from k (8 * depth) 8) in
-      ap (value_above H 0 (page_peers H depth page k ++ more) y) (rest_at k depth lt)
-      ∙ value_above-append H 0 (page_peers H depth page k) more y (bits_from k (8 * depth) 8)
-      (last_bits k (slot_height depth)) sizes
-      ∙ (λ i. value_above H (height i) (page_peers H depth page k) (foot i) (bits_from k (8 * depth) 8)) ∙ leads
+      _ 8 ∙ sym (length-bits_from k _ 8) in
+      rw (rest_at k depth lt) (value_above-append H 0 (page_peers H depth page k) more y _ _ sizes
+      ∙ (λ i. value_above H (height i) (page_peers H depth page k) (foot i) (bits_from k (8 * depth) 8)) ∙ leads)
 
   few_below : (more : List (Option (List ℕ))) → length more ≤ slot_height depth
       → length (page_peers H depth page k ++ more) ≤ 256 - 8 * depth
@@ -91,14 +89,13 @@ module _ (H : List ℕ → List ℕ) (k digest : List ℕ) (depth : ℕ) (page :
   -- the digest of a slot, or of none
   foot_of : {o : Option SlotAt} → slot_at page (get_or k depth 0) ≡ o
       → digest_at H (slot_height depth) page (get_or k depth 0) ≡ digest_of H (slot_height depth) o
-  foot_of there = digest_at-slot H (slot_height depth) page (get_or k depth 0)
-      ∙ ap (digest_of H (slot_height depth)) there
+  foot_of there = digest_at-slot H _ page _ ∙ ap (digest_of H _) there
 
   -- a slot that isn't there
   pub missing_way : slot_at page (get_or k depth 0) ≡ None → IsWayDown H k depth digest (page_peers H depth page k) None
   missing_way none = rw (← append-nil (page_peers H depth page k)) record {
     few = few_below [] (omega arith);
-    leads = below_page (empty_root H 0) [] (nothing_value H k (slot_height depth) ∙ sym (foot_of none));
+    leads = below_page _ [] (nothing_value H k _ ∙ sym (foot_of none));
   }
 
   -- the way ends at a lone key
@@ -138,8 +135,7 @@ own_foot H es p depth s lt n byte =
 own_above : (H : List ℕ → List ℕ) (es : List (List ℕ × List ℕ)) (p : List Bool) (depth s : ℕ) → depth < 32
     → length p ≡ 8 * depth → s < 256
     → PeersAbove H (slot_height depth) (below (map_of H es) p) (byte_bits s) (peers_below H depth (page_of H es p) s 8)
-own_above H es p depth s lt n byte = rw (length-bits_from (s ∷ []) 0 8) at
-    (own_peers_below H es p [] (byte_bits s) depth s lt n byte refl)
+own_above H es p depth s lt n byte = rw (length-bits_from _ 0 8) at (own_peers_below H es p [] _ depth s lt n byte refl)
 
 shifted : (H : List ℕ → List ℕ) (es : List (List ℕ × List ℕ)) (p b : List Bool)
     → ◌≡◌ {A = List Bool → Option (List ℕ)} (below (map_of H es) (p ++ b)) (λ q. below (map_of H es) p (b ++ q))
@@ -153,15 +149,13 @@ own_value H es k depth lt is =
     let s : ℕ = get_or k depth 0 in
     let p : List Bool = bits_from k 0 (8 * depth) in
     let byte : s < 256 = is.are_bytes depth 0 (omega arith) in
-    let n : length p ≡ 8 * depth = length-bits_from k 0 (8 * depth) in
-    let height : length (byte_bits s) + slot_height depth ≡ 256 - 8 * depth = rw (length-bits_from (s ∷ []) 0 8)
-    (omega arith) in
+    let n : length p ≡ 8 * depth = length-bits_from k 0 _ in
+    let height : length (byte_bits s) + slot_height depth ≡ 256 - 8 * depth = rw (length-bits_from _ 0 8) (omega arith)
+    in
     (λ i. value_above H (slot_height depth) (page_peers H depth (page_of H es p) k)
-    ((own_foot H es p depth s lt n byte ∙ ap (root_of_levels H (slot_height depth)) (shifted H es p (byte_bits s)))
-    i) (byte_at_depth k depth i))
-    ∙ sym (root_above H (slot_height depth) (below (map_of H es) p) (byte_bits s)
-    (page_peers H depth (page_of H es p) k) (own_above H es p depth s lt n byte))
-    ∙ ap (λ h. root_of_levels H h (below (map_of H es) p)) height
+    ((own_foot H es p depth s lt n byte ∙ ap (root_of_levels H (slot_height depth)) (shifted H es p _))
+    i) (byte_at_depth k depth i)) ∙ sym (root_above H _ (below _ p) _ (page_peers H depth _ k)
+    (own_above H es p depth s lt n byte)) ∙ ap (λ h. root_of_levels H h (below (map_of H es) p)) height
 
 -- the peers of an own page, and those below it
 own_append : (H : List ℕ → List ℕ) (es : List (List ℕ × List ℕ)) (k : List ℕ) (depth : ℕ)
@@ -170,17 +164,15 @@ own_append : (H : List ℕ → List ℕ) (es : List (List ℕ × List ℕ)) (k :
     → IsPeers H (λ h. None) (below (map_of H es) (bits_above k depth)) (last_bits k (256 - 8 * depth))
     (page_peers H depth (page_of H es (bits_above k depth)) k ++ more)
 own_append H es k depth more lt is rest =
-    let size = is.has_32 in
     let s : ℕ = get_or k depth 0 in
     let p : List Bool = bits_above k depth in
     let byte : s < 256 = is.are_bytes depth 0 (omega arith) in
-    let above = own_above H es p depth s lt (length-bits_from k 0 (8 * depth)) byte in
+    let above = own_above H es p depth s lt (length-bits_from k 0 _) byte in
     let P : (List Bool → Option (List ℕ)) → Type 0 = λ f.
     IsPeers H (λ h. None) f (last_bits k (slot_height depth)) more in
     rw (rest_at k depth lt, byte_at_depth k depth)
-    (IsPeers-append H (below (map_of H es) p) (byte_bits s) (last_bits k (slot_height depth))
-    (page_peers H depth (page_of H es p) k) more (rw (length-last_bits k (slot_height depth)) above)
-    (subst P (shifted H es p (byte_bits s)) rest))
+    (IsPeers-append H (below _ p) (byte_bits s) (last_bits k (slot_height depth)) (page_peers H depth _ k) more
+    (rw (length-last_bits k _) above) (subst P (shifted H es p _) rest))
 
 -- what stands at the whole digest
 own_whole : (H : List ℕ → List ℕ) (es : List (List ℕ × List ℕ)) (k : List ℕ) (depth : ℕ) → depth < 32
@@ -193,19 +185,19 @@ own_whole H es k depth lt = ap (get (map_of H es)) (key_at k (8 * depth) (omega 
 -- the height below a byte
 height_through : (k : List ℕ) (depth : ℕ) → 256 - length (bits_through k depth) ≡ slot_height depth
 height_through k depth = rw (
-  length-append (bits_above k depth) (byte_bits (get_or k depth 0)),
-  length-bits_from k 0 (8 * depth),
-  length-bits_from (get_or k depth 0 ∷ []) 0 8,
+  length-append _ _,
+  length-bits_from k 0 _,
+  length-bits_from _ 0 8,
 ) (omega arith)
 
 -- own slots of insertions, by cases on the last one
 pub begins-whole : (a b : List Bool) → length a ≡ length b → begins a b ≡ same_bits a b
 begins-whole a b n = elim (cases_Bool (begins a b)) [
-  | inl t ↦ (let same : a ≡ b = begins-same a b [] n (ap (begins a) (append-nil b) ∙ t) in
-      t ∙ sym (ap (same_bits a) (sym same) ∙ same_bits-itself a))
+  | inl t ↦ (let same : a ≡ b = begins-same a b [] n (rw (append-nil b) t) in
+      t ∙ sym (rw (← same) (same_bits-itself a)))
   | inr f ↦ elim (cases_Bool (same_bits a b)) [
-    | inl t ↦ (let same = same_bits-true a b t in let yes : begins a b ≡ true = ap (begins a)
-        (sym same ∙ sym (append-nil a)) ∙ begins-append a [] in absurd (cc))
+    | inl t ↦ (let same = same_bits-true a b t in let yes : begins a b ≡ true = rw (sym same ∙ sym (append-nil a))
+        (begins-append a []) in absurd cc)
     | inr g ↦ f ∙ sym g
   ]
 ]
@@ -216,27 +208,26 @@ pub version_lone : (H : List ℕ → List ℕ) (p : List Bool) (e : List ℕ × 
 unfolding last_place
 version_lone H p e [] t h = refl
 version_lone H p e (x ∷ es) t h =
-    let parts = and_parts (not (is_below H p x) || same_bits (key_bits H e.0) (key_bits H x.0)) (is_lone H es p e) h in
+    let parts = and_parts _ (is_lone H es p e) h in
     let here : is_below H p x ≡ same_bits (key_bits H e.0) (key_bits H x.0) =
     sym (agree (is_below H p x) (same_bits (key_bits H e.0) (key_bits H x.0)) parts.0
-    (λ s. ap (begins p) (sym (same_bits-true (key_bits H e.0) (key_bits H x.0) s)) ∙ t)) in
+    (λ s. rw (← same_bits-true (key_bits H e.0) (key_bits H x.0) s) t)) in
     let whole : is_below H p x ≡ begins (key_bits H e.0) (key_bits H x.0) = here
-    ∙ sym (begins-whole (key_bits H e.0) (key_bits H x.0) (all_bits H e.0 ∙ sym (all_bits H x.0))) in
+    ∙ sym (begins-whole _ _ (all_bits H e.0 ∙ sym (all_bits H x.0))) in
     rw (version_lone H p e es t parts.1, whole) refl
 
 -- some insertion is below
 pub some_version : {X : Type 0} (p : X → Bool) (xs : List X) (e : X) → last_with p xs ≡ Some e → 0 < last_place p xs
 unfolding last_place last_with
-some_version p [] e h = absurd (cc)
-some_version {X = X} p (x ∷ xs) e h = either (last_with p xs) (p x) (eqb (last_place p xs) 0) refl
-    (some_version p xs e) h
+some_version p [] e h = absurd cc
+some_version {X = X} p (x ∷ xs) e h = either _ (p x) _ refl (some_version p xs e) h
   where
     either : (o : Option X) (b z : Bool) → eqb (last_place p xs) 0 ≡ z → (o ≡ Some e → 0 < last_place p xs)
         → option_or o (cond b (Some x) None) ≡ Some e → 0 < cond z (cond b 1 0) (suc (last_place p xs))
     either o b false t f h = omega arith
     either None true true t f h = omega arith
-    either None false true t f h = absurd (cc)
-    either (Some y) b true t f h = absurd (let lt = f h in let none = eqb-true (last_place p xs) 0 t in omega arith)
+    either None false true t f h = absurd cc
+    either (Some y) b true t f h = absurd (let lt = f h in let none = eqb-true _ 0 t in omega arith)
 
 -- an own slot with a lone key
 pub record OwnLone (H : List ℕ → List ℕ) (es : List (List ℕ × List ℕ)) (p : List Bool) (x : SlotAt)
@@ -248,7 +239,7 @@ pub record OwnLone (H : List ℕ → List ℕ) (es : List (List ℕ × List ℕ)
 pub own_lone_over : (H : List ℕ → List ℕ) (es : List (List ℕ × List ℕ)) (p : List Bool) (s : ℕ)
     (last : Option (List ℕ × List ℕ)) (x : SlotAt) (lone : List ℕ × List ℕ) → last_with (is_below H p) es ≡ last
     → slot_over H es p s last ≡ Some x → x.lone ≡ Some lone → OwnLone H es p x lone
-own_lone_over H es p s None x lone l h is = absurd (cc)
+own_lone_over H es p s None x lone l h is = absurd cc
 own_lone_over H es p s (Some e) x lone l h is =
     let slot : SlotAt = record {
       byte = s;
@@ -260,12 +251,12 @@ own_lone_over H es p s (Some e) x lone l h is =
     } in
     let same : slot ≡ x = some_same h in
     let found = lone_of (is_lone H es p e) (H e.0, leaf_digest H e.1) lone (ap (λ (y : SlotAt). y.lone) same ∙ is) in
-    let under = last_passes (is_below H p) es e l in
-    let rest = begins-rest p (key_bits H e.0) under in
+    let under = last_passes _ es e l in
+    let rest = begins-rest p _ under in
     let key : H e.0 ≡ lone.0 = ap (λ (v : List ℕ × List ℕ). v.0) found.1 in
     let bits : last_bits lone.0 256 ≡ p ++ rest.0 = ap (λ d. last_bits d 256) (sym key) ∙ rest.1 in
     let held : (q : List Bool) → below (map_of H es) p q ≡ cond (same_bits (p ++ q) (last_bits lone.0 256))
-    (Some lone.1) None = lone_over H es p s (Some e) x lone.0 lone.1 l h is in
+    (Some lone.1) None = lone_over H es p s _ x lone.0 lone.1 l h is in
     record {
       alone = record {
         rest = rest.0;
@@ -274,14 +265,13 @@ own_lone_over H es p s (Some e) x lone l h is =
           this = held rest.0 ∙ ap (λ b. cond b (Some lone.1) None) (ap (same_bits (p ++ rest.0)) bits
               ∙ same_bits-itself (p ++ rest.0));
           others = λ q n. held q ∙ ap (λ b. cond b (Some lone.1) None)
-              (false_from_ne_true _ (λ t. n (append_cancel_left p q rest.0
-              (same_bits-true (p ++ q) (last_bits lone.0 256) t ∙ bits))));
+              (false_from_ne_true _ (λ t. n (append_cancel_left p q rest.0 (same_bits-true _ _ t ∙ bits))));
         };
         is_root = sym (ap (λ (y : SlotAt). y.digest) same);
       };
       whole = sym (ap (λ (y : SlotAt). y.version) same) ∙ version_lone H p e es under found.0
           ∙ ap (λ d. version H es (last_bits d 256)) key;
-      some = at_version (ap (λ (y : SlotAt). y.version) same) (some_version (is_below H p) es e l);
+      some = at_version (ap (λ (y : SlotAt). y.version) same) (some_version _ es e l);
     }
   where
     at_version : {m n : ℕ} → m ≡ n → 0 < m → 0 < n
@@ -301,7 +291,7 @@ own_stands H es k depth slot lone own = record {
 }
   where
     more : bits_from k 0 (8 * depth + 8) ≡ bits_through k depth
-    more = let all : 8 * depth + 8 ≡ 8 * (depth + 1) = omega arith in ap (bits_from k 0) all ∙ prefix_more k depth
+    more = let all : 8 * depth + 8 ≡ 8 * (depth + 1) = omega arith in rw all (prefix_more k depth)
 
 -- what a source of own pages has on a key digest's way
 module _ {H : List ℕ → List ℕ} (gives : GivesHashes H) {bytes_at : List ℕ → ℕ → Option (List ℕ)} {k digest : List ℕ}
@@ -309,17 +299,15 @@ module _ {H : List ℕ → List ℕ} (gives : GivesHashes H) {bytes_at : List �
     (lt : depth < 32) (is : IsDigest k) where
   pub own_bytes : bytes_at (take depth k) number ≡ Some (page_bytes (page_of H es (bits_above k depth)))
   own_bytes =
-      let size = is.has_32 in
       let bits : bits_of_bytes (take depth k) ≡ bits_above k depth = bits_of_taken k depth (omega arith) in
       let short : length (take depth k) < 32 = let all = length-take depth k in omega arith in
-      ap (bytes_at (take depth k)) (own.is_version ∙ ap (version H es) (sym bits))
-      ∙ own.pages (take depth k) (All-take IsByte depth k is.are_bytes) short (ap (stands H es) bits ∙ own.is_there)
-      ∙ ap (λ p. Some (page_bytes (page_of H es p))) bits
+      rw (own.is_version ∙ ap (version H es) (sym bits))
+      (own.pages (take depth k) (All-take IsByte depth k is.are_bytes) short (ap (stands H es) bits ∙ own.is_there)
+      ∙ ap (λ p. Some (page_bytes (page_of H es p))) bits)
 
   pub own_page_there : ((slots : List SlotAt) → IsPage slots → bytes_at (take depth k) number ≢ Some (page_bytes slots))
       → ⊥
-  own_page_there none = none (page_of H es (bits_above k depth)) (own_slots H es (bits_above k depth) gives own.fits)
-      own_bytes
+  own_page_there none = none _ (own_slots H es _ gives own.fits) own_bytes
 
 -- and so of a page that it gives there
 module _ {H : List ℕ → List ℕ} (gives : GivesHashes H) {bytes_at : List ℕ → ℕ → Option (List ℕ)} {k digest : List ℕ}
@@ -331,8 +319,8 @@ module _ {H : List ℕ → List ℕ} (gives : GivesHashes H) {bytes_at : List �
       (own_slots H es (bits_above k depth) gives own.fits) (sym (rw (own_bytes gives own lt is) at at))
 
   pub own_page_value : page_value H depth page k ≢ digest → ⊥
-  own_page_value other = other (ap (λ xs. page_value H depth xs k) own_page_is ∙ own_value H es k depth lt is
-      ∙ sym own.is_digest)
+  own_page_value other = other (rw own_page_is (own_value H es k depth lt is
+      ∙ sym own.is_digest))
 
   -- the slot of the byte there
   slot_there : {o : Option SlotAt} → slot_at page (get_or k depth 0) ≡ o
@@ -405,7 +393,7 @@ module _ {H : List ℕ → List ℕ} (gives : GivesHashes H) {bytes_at : List �
       record {
         pages = own.pages;
         fits = own.fits;
-        is_there = ap (stands H es) more ∙ own_is.page no_lone;
+        is_there = rw more (own_is.page no_lone);
         is_version = own_is.version ∙ ap (version H es) (sym more);
         is_digest = own_is.digest ∙ (λ i. root_of_levels H (height i) (below (map_of H es) (sym more i)));
       }
@@ -434,28 +422,24 @@ all_one H p e [] n t = refl
 all_one H p e (x ∷ es) n t = rw (one (is_below H p x) refl, all_one H p e es n t) refl
   where
     whole : (f : List ℕ × List ℕ) → is_below H p f ≡ true → p ≡ key_bits H f.0
-    whole f under = begins-same p (key_bits H f.0) [] (n ∙ sym (all_bits H f.0))
-        (ap (begins p) (append-nil (key_bits H f.0)) ∙ under)
+    whole f under = begins-same p _ [] (n ∙ sym (all_bits H f.0)) (rw (append-nil (key_bits H f.0)) under)
 
     one : (b : Bool) → is_below H p x ≡ b → (not (is_below H p x) || same_bits (key_bits H e.0) (key_bits H x.0)) ≡ true
-    one true u = rw u (ap (same_bits (key_bits H e.0)) (sym (whole x u) ∙ whole e t)
-        ∙ same_bits-itself (key_bits H e.0))
+    one true u = rw u (rw (sym (whole x u) ∙ whole e t) (same_bits-itself (key_bits H e.0)))
     one false u = rw u refl
 
 pub no_way : (H : List ℕ → List ℕ) (bytes_at : List ℕ → ℕ → Option (List ℕ)) (k digest : List ℕ) (depth number : ℕ)
     (es : List (List ℕ × List ℕ)) → depth ≡ 32 → IsOwnAt H bytes_at k depth digest number es → ⊥
-no_way H bytes_at k digest depth number es e own = by_last (last_with (is_below H (bits_from k 0 (8 * depth))) es) refl
-    own.is_there
+no_way H bytes_at k digest depth number es e own = by_last _ refl own.is_there
   where
     size : length (bits_from k 0 (8 * depth)) ≡ 256
-    size = length-bits_from k 0 (8 * depth) ∙ (let n : 8 * depth ≡ 256 = omega arith in n)
+    size = length-bits_from k 0 _ ∙ (let n : 8 * depth ≡ 256 = omega arith in n)
 
     by_last : (last : Option (List ℕ × List ℕ)) → last_with (is_below H (bits_from k 0 (8 * depth))) es ≡ last
         → stands_over H es (bits_from k 0 (8 * depth)) last ≡ true → ⊥
     by_last None l h = cc
     by_last (Some f) l h =
-        let lone = all_one H (bits_from k 0 (8 * depth)) f es size
-        (last_passes (is_below H (bits_from k 0 (8 * depth))) es f l) in
+        let lone = all_one H _ f es size (last_passes _ es f l) in
         let no : (eqb (length (bits_from k 0 (8 * depth))) 0 || not (is_lone H es (bits_from k 0 (8 * depth)) f))
         ≡ false = rw (size, lone) refl in
-        let both : false ≡ true = sym no ∙ h in cc
+        cc

@@ -14,8 +14,8 @@ use Rattle.warg_pages.specs.PageBytes.{kind_of, lone_bytes, slot_bytes, page_byt
 -- parts of one length, and what is behind them
 pub same_parts : {X : Type 0} (a b c d : List X) → length a ≡ length c → a ++ b ≡ c ++ d → (a ≡ c) × (b ≡ d)
 same_parts a b c d len e = (
-  sym (take_at a b (length a) refl) ∙ ap (take (length a)) e ∙ take_at c d (length a) (sym len),
-  sym (drop_at a b (length a) refl) ∙ ap (drop (length a)) e ∙ drop_at c d (length a) (sym len),
+  sym (take_at a b _ refl) ∙ ap (take (length a)) e ∙ take_at c d _ (sym len),
+  sym (drop_at a b _ refl) ∙ ap (drop (length a)) e ∙ drop_at c d _ (sym len),
 )
 
 pub eight : (n : ℕ) → length (to_be_bytes w64 n) ≡ 8
@@ -30,7 +30,7 @@ same_lone (Some l) None xs ys hl hm k e = absurd (omega arith)
 same_lone (Some l) (Some m) xs ys hl hm k e =
     let one = hl l refl in
     let two = hm m refl in
-    let keys = same_parts l.0 (l.1 ++ xs) m.0 (m.1 ++ ys) (one.0.has_32 ∙ sym two.0.has_32)
+    let keys = same_parts l.0 _ m.0 _ (one.0.has_32 ∙ sym two.0.has_32)
     (sym (append_assoc l.0 l.1 xs) ∙ e ∙ append_assoc m.0 m.1 ys) in
     let leaves = same_parts l.1 xs m.1 ys (one.1.has_32 ∙ sym two.1.has_32) keys.1 in
     (ap Some (λ i. (keys.0 i, leaves.0 i)), leaves.1)
@@ -86,13 +86,12 @@ one_page xs ys hx hy e =
 -- a slot more is read
 pub page_bytes-push : (xs : List SlotAt) (x : SlotAt) → page_bytes (xs ++ x ∷ []) ≡ page_bytes xs ++ slot_bytes x
 page_bytes-push [] x = append-nil (slot_bytes x)
-page_bytes-push (y ∷ xs) x = ap (λ t. slot_bytes y ++ t) (page_bytes-push xs x)
-    ∙ sym (append_assoc (slot_bytes y) (page_bytes xs) (slot_bytes x))
+page_bytes-push (y ∷ xs) x = rw (page_bytes-push xs x)
+    (sym (append_assoc (slot_bytes y) (page_bytes xs) (slot_bytes x)))
 
 pub read_more : (bytes : List ℕ) (xs : List SlotAt) (x : SlotAt) (rest behind : List ℕ) → bytes ≡ page_bytes xs ++ rest
     → rest ≡ slot_bytes x ++ behind → bytes ≡ page_bytes (xs ++ x ∷ []) ++ behind
-read_more bytes xs x rest behind read first = rw (read, first, page_bytes-push xs x)
-    (sym (append_assoc (page_bytes xs) (slot_bytes x) behind))
+read_more bytes xs x rest behind read first = rw (read, first, page_bytes-push xs x) (sym (append_assoc _ _ behind))
 
 pub IsPage-push : (xs : List SlotAt) (x : SlotAt) → IsPage xs → IsSlot x → All (λ y. y.byte < x.byte) xs
     → IsPage (xs ++ x ∷ [])
@@ -160,7 +159,7 @@ falls_back bytes xs ys x rest behind hx hy is read first back same =
 
 -- something is left
 pub some_left : (rest : List ℕ) → eqb (length rest) 0 ≡ false → 0 < length rest
-some_left rest is = let other : length rest ≢ 0 = eqb-false (length rest) 0 is in omega arith
+some_left rest is = let other : length rest ≢ 0 = eqb-false _ 0 is in omega arith
 
 -- bytes before a digest
 byte_in_part : (n m : ℕ) (bytes : List ℕ) → ((i : ℕ) → get_or bytes i 0 < 256) → (i : ℕ)
@@ -169,7 +168,7 @@ byte_in_part n m bytes h i = elim (cases_lt i (length (take n (drop m bytes)))) 
   | inl inside ↦ (
       let short : i < n = let all = length-take n (drop m bytes) in omega arith in
       rw (get_or-take n (drop m bytes) i 0 short, get_or-drop m bytes i 0) (h (m + i)))
-  | inr past ↦ rw (get_or_past (take n (drop m bytes)) i 0 past) (lit< tt)
+  | inr past ↦ rw (get_or_past _ i 0 past) (lit< tt)
 ]
 
 pub taken_digest : (bytes : List ℕ) → ((i : ℕ) → get_or bytes i 0 < 256) → 32 ≤ length bytes → IsDigest (take 32 bytes)
@@ -194,8 +193,8 @@ pub whole_slot : (bytes version rest digest behind : List ℕ) (n : ℕ) (lone :
 whole_slot bytes version rest digest behind n lone last h two long ve re ne fits is at lis kind le =
     let x : SlotAt = record { byte = get_or bytes 0 0; version = n; digest = digest; lone = lone } in
     let eight : length (take 8 (drop 2 bytes)) ≡ 8 = let all = length-take 8 (drop 2 bytes) in omega arith in
-    let number : to_be_bytes w64 n ≡ take 8 (drop 2 bytes) = be_bytes_8 (take 8 (drop 2 bytes)) n eight
-    (byte_in_part 8 2 bytes h) (ne ∙ ap (from_be_bytes w64) ve) in
+    let number : to_be_bytes w64 n ≡ take 8 (drop 2 bytes) = be_bytes_8 _ n eight (byte_in_part 8 2 bytes h)
+    (ne ∙ ap (from_be_bytes w64) ve) in
     let tail : drop 2 bytes ≡ to_be_bytes w64 n ++ (digest ++ (lone_bytes lone ++ behind)) =
     sym (take-append-drop 8 (drop 2 bytes)) ∙ ap (λ t. t ++ drop 8 (drop 2 bytes)) (sym number)
     ∙ ap (λ t. to_be_bytes w64 n ++ t) (sym re ∙ at ∙ ap (λ t. digest ++ t) le) in (

@@ -10,8 +10,8 @@ use Rattle.warg_map.specs.Bits.{key_bits}
 use Rattle.warg_map.specs.Last.{last_with, same_bits, last_under}
 use Rattle.warg_map.specs.Sparse.{root_of_levels, sparse_root, map_of}
 use Rattle.warg_map.proofs.ForCallers.{same_bits-true, last_held}
-use Rattle.warg_pages.specs.Prefixes.{byte_bits, begins, is_below, below}
-use Rattle.warg_pages.specs.Slots.{SlotAt, slot_over, slot_of, numbers, page_of}
+use Rattle.warg_pages.specs.Prefixes.{begins, is_below, below}
+use Rattle.warg_pages.specs.Slots.{SlotAt, slot_over, numbers, page_of}
 use Rattle.warg_pages.specs.Pages.{digest_at, root_over, slot_height, page_digest}
 use Rattle.warg_pages.proofs.ByteNumbers.{number, number_below, byte_bits-number}
 
@@ -90,20 +90,20 @@ begins-append (false ∷ p) q = begins-append p q
 -- where no insertion is below a prefix, nothing is held there
 pub later_none : {X : Type 0} (later : Option X) (b : Bool) (x : X) → option_or later (cond b (Some x) None) ≡ None
     → (later ≡ None) × (b ≡ false)
-later_none None true x e = absurd (cc)
+later_none None true x e = absurd cc
 later_none None false x e = (refl, refl)
-later_none (Some y) b x e = absurd (cc)
+later_none (Some y) b x e = absurd cc
 
 pub none_under : (H : List ℕ → List ℕ) (p q : List Bool) (es : List (List ℕ × List ℕ)) → last_with (is_below H p) es
     ≡ None → last_under H (p ++ q) es ≡ None
 unfolding last_with
 none_under H p q [] e = refl
 none_under H p q (x ∷ es) e =
-    let parts = later_none (last_with (is_below H p) es) (is_below H p x) x e in
+    let parts = later_none _ _ x e in
     rw (none_under H p q es parts.0) (cond-false _ _ _ (false_from_ne_true _ (other parts.1)))
   where
     other : is_below H p x ≡ false → same_bits (p ++ q) (key_bits H x.0) ≡ true → ⊥
-    other f s = let e : begins p (p ++ q) ≡ false = ap (begins p) (same_bits-true (p ++ q) (key_bits H x.0) s) ∙ f in
+    other f s = let e : begins p (p ++ q) ≡ false = ap (begins p) (same_bits-true _ _ s) ∙ f in
         let t = begins-append p q in cc
 
 pub root-nothing : (H : List ℕ → List ℕ) (k : ℕ) → root_of_levels H k (λ q. None) ≡ empty_root H k
@@ -118,8 +118,7 @@ root-same H k m n h = λ i. root_of_levels H k (λ q. h q i)
 nothing_below : (H : List ℕ → List ℕ) (k : ℕ) (p : List Bool) (es : List (List ℕ × List ℕ))
     → last_with (is_below H p) es ≡ None → root_of_levels H k (below (map_of H es) p) ≡ empty_root H k
 nothing_below H k p es e =
-    root-same H k (below (map_of H es) p) (λ q. None)
-    (λ q. last_held H (p ++ q) es ∙ ap (option_map (λ (x : List ℕ × List ℕ). leaf_digest H x.1))
+    root-same H k (below _ p) _ (λ q. last_held H _ es ∙ ap (option_map (λ (x : List ℕ × List ℕ). leaf_digest H x.1))
     (none_under H p q es e)) ∙ root-nothing H k
 
 -- a slot has the root below it
@@ -143,10 +142,9 @@ unfolding page_of
 page_slot H es p q depth lt n m =
     let within : number q < 256 = rw m at (number_below q) in
     let height : 256 - length (p ++ q) ≡ slot_height depth = rw (length-append p q, n, m) (omega arith) in
-    at_number H (slot_height depth) 0 256 (number q) (slot_of H es p) (λ t. slot_byte H es (p ++ byte_bits t) t _)
-    (omega arith) (omega arith)
-    ∙ rw (byte_bits-number q m) (slot_digest H (slot_height depth) es (p ++ q) (number q) _ refl height)
-    ∙ root-same H (slot_height depth) _ _ (λ r. ap (get (map_of H es)) (append_assoc p q r))
+    at_number H _ 0 256 _ _ (λ t. slot_byte H es _ t _) (omega arith) (omega arith)
+    ∙ rw (byte_bits-number q m) (slot_digest H _ es _ _ _ refl height)
+    ∙ root-same H _ _ _ (λ r. ap (get (map_of H es)) (append_assoc p q r))
 
 -- the law
 pub page_root : (H : List ℕ → List ℕ) (es : List (List ℕ × List ℕ)) (p : List Bool) (depth : ℕ) → depth < 32

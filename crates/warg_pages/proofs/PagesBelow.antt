@@ -20,5 +20,4 @@ page_below H es p depth s x lt n h =
 pub page_at_bytes : (H : List ℕ → List ℕ) (es : List (List ℕ × List ℕ)) (bytes : List ℕ) → length bytes < 32
     → page_digest H (length bytes) (page_of H es (bits_of_bytes bytes)) ≡ root_of_levels H (256 - 8 * length bytes)
     (below (map_of H es) (bits_of_bytes bytes))
-page_at_bytes H es bytes lt = page_root H es (bits_of_bytes bytes) (length bytes) lt
-    (length-bits_from bytes 0 (8 * length bytes))
+page_at_bytes H es bytes lt = page_root H es _ _ lt (length-bits_from bytes 0 _)

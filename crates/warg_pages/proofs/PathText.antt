@@ -5,10 +5,10 @@ use Rattle.std.specs.List.{flat_map}
 
 flat_map-push : (f : ℕ → List ℕ) (xs : List ℕ) (x : ℕ) → flat_map f (xs ++ x ∷ []) ≡ flat_map f xs ++ f x
 flat_map-push f [] x = append-nil (f x)
-flat_map-push f (y ∷ xs) x = ap (λ t. f y ++ t) (flat_map-push f xs x) ∙ sym (append_assoc (f y) (flat_map f xs) (f x))
+flat_map-push f (y ∷ xs) x = rw (flat_map-push f xs x) (sym (append_assoc (f y) _ (f x)))
 
 -- a byte more
 pub path_more : (f : ℕ → List ℕ) (first : List ℕ) (xs : List ℕ) (i : ℕ) → i < length xs
     → (first ++ flat_map f (take i xs)) ++ f (get_or xs i 0) ≡ first ++ flat_map f (take (i + 1) xs)
-path_more f first xs i lt = append_assoc first (flat_map f (take i xs)) (f (get_or xs i 0))
-    ∙ ap (λ t. first ++ t) (sym (ap (flat_map f) (take_more xs i 0 lt) ∙ flat_map-push f (take i xs) (get_or xs i 0)))
+path_more f first xs i lt = append_assoc first _ _
+    ∙ ap (λ t. first ++ t) (sym (rw (take_more xs i 0 lt) (flat_map-push f _ _)))

@@ -17,8 +17,7 @@ pub count_above : (H : List ℕ → List ℕ) (held : List Bool → Option (List
     (os : List (Option (List ℕ))) → IsPeers H (λ k. None) held bits os → (q : List Bool) → is_some (held q) ≡ true
     → ¬ (q ≡ bits) → shared bits q < length os
 unfolding IsPeers
-count_above H held bits [] h q some n =
-    absurd (let none = h q n in let no : is_some (held q) ≡ false = ap is_some none in cc)
+count_above H held bits [] h q some n = absurd (let none = h q n in cc)
 count_above H held [] (o ∷ os) h q some n = absurd h
 count_above H held (b ∷ bits) (o ∷ os) h [] some n = omega arith
 count_above H held (true ∷ bits) (o ∷ os) h (true ∷ q) some n = let less =
@@ -26,7 +25,7 @@ count_above H held (true ∷ bits) (o ∷ os) h (true ∷ q) some n = let less =
 count_above H held (true ∷ bits) (o ∷ os) h (false ∷ q) some n = omega arith
 count_above H held (false ∷ bits) (o ∷ os) h (true ∷ q) some n = omega arith
 count_above H held (false ∷ bits) (o ∷ os) h (false ∷ q) some n = let less =
-    count_above H (λ r. held (false ∷ r)) bits os h.1 q some (λ e. n (ap (λ t. false ∷ t) e)) in omega arith
+    count_above H (λ r. held _) bits os h.1 q some (λ e. n (ap (λ t. false ∷ t) e)) in omega arith
 
 -- the last peer is that of a key
 abbrev Reached : (List Bool → Option (List ℕ)) → List Bool → ℕ → Type 0
@@ -34,7 +33,7 @@ Reached held bits n = (q : List Bool) × (is_some (held q) ≡ true) × ¬ (q �
 
 other_half : (H : List ℕ → List ℕ) (k : ℕ) (held : List Bool → Option (List ℕ)) (y : List ℕ)
     → IsPeer H None k held (Some y) → (q : List Bool) × (is_some (held q) ≡ true)
-other_half H k held y (inl none) = let e = none.0 in absurd (cc)
+other_half H k held y (inl none) = absurd cc
 other_half H k held y (inr some) = (some.1.0, some.1.1)
 
 further : (held : List Bool → Option (List ℕ)) (b : Bool) (bits : List Bool) (n : ℕ)
@@ -58,10 +57,9 @@ pub count_reached : (H : List ℕ → List ℕ) (held : List Bool → Option (Li
     → Reached held bits (length os)
 unfolding IsPeers
 count_reached H held [] [] y h = absurd h
-count_reached H held (b ∷ bits) [] y h = parts held b bits (other_half H (length bits) (λ q. held (not b ∷ q)) y h.0)
-count_reached H held [] (o ∷ os) y h = absurd h
-count_reached H held (b ∷ bits) (o ∷ os) y h = further held b bits (length os)
-    (count_reached H (λ q. held (b ∷ q)) bits os y h.1)
+count_reached H held (b ∷ bits) [] y h = parts held b bits (other_half H _ (λ q. held _) y h.0)
+count_reached H held [] _ y h = absurd h
+count_reached H held (b ∷ bits) (o ∷ os) y h = further held b bits _ (count_reached H (λ q. held _) bits os y h.1)
 
 -- an empty half at the bottom isn't counted
 abbrev Short : (List Bool → Option (List ℕ)) → ℕ → Type 0
@@ -70,7 +68,7 @@ Short held n = (q : List Bool) → ¬ (length q ≡ n) → held q ≡ None
 empty_half : (H : List ℕ → List ℕ) (k : ℕ) (held : List Bool → Option (List ℕ)) → IsPeer H None k held None
     → (q : List Bool) → held q ≡ None
 empty_half H k held (inl none) = none.1
-empty_half H k held (inr some) = let e = some.0 in absurd (cc)
+empty_half H k held (inr some) = absurd cc
 
 alone : (held : List Bool → Option (List ℕ)) (b : Bool) (bits : List Bool) → Short held (suc (length bits))
     → ((q : List Bool) → held (not b ∷ q) ≡ None) → ((q : List Bool) → ¬ (q ≡ bits) → held (b ∷ q) ≡ None)
@@ -86,37 +84,36 @@ without_last : (H : List ℕ → List ℕ) (held : List Bool → Option (List �
     → IsPeers H (λ k. None) held bits os
 unfolding IsPeers
 without_last H held [] [] short h = absurd h
-without_last H held (b ∷ bits) [] short h = alone held b bits short
-    (empty_half H (length bits) (λ q. held (not b ∷ q)) h.0) h.1
-without_last H held [] (o ∷ os) short h = absurd h
+without_last H held (b ∷ bits) [] short h = alone held b bits short (empty_half H _ (λ q. held _) h.0) h.1
+without_last H held [] _ short h = absurd h
 without_last H held (b ∷ bits) (o ∷ os) short h =
-    (h.0, without_last H (λ q. held (b ∷ q)) bits os (λ q n. short (b ∷ q) (λ e. n (omega arith))) h.1)
+    (h.0, without_last H (λ q. held _) bits os (λ q n. short (b ∷ q) (λ e. n (omega arith))) h.1)
 
 pub replicate-last : (os : List (Option (List ℕ))) (n : ℕ) → os ++ replicate (suc n) None
     ≡ (os ++ None ∷ []) ++ replicate n None
-replicate-last os n = sym (append_assoc os (None ∷ []) (replicate n None))
+replicate-last os n = sym (append_assoc os _ _)
 
 pub trimmed_peers : (H : List ℕ → List ℕ) (held : List Bool → Option (List ℕ)) (bits : List Bool)
     (os : List (Option (List ℕ))) (n : ℕ) → Short held (length bits)
     → IsPeers H (λ k. None) held bits (os ++ replicate n None) → IsPeers H (λ k. None) held bits os
 trimmed_peers H held bits os zero short h = rw (append-nil os) at h
 trimmed_peers H held bits os (suc n) short h = without_last H held bits os short
-    (trimmed_peers H held bits (os ++ None ∷ []) n short (rw (replicate-last os n) at h))
+    (trimmed_peers H held bits _ n short (rw (replicate-last os n) at h))
 
 pub trimmed_value : (H : List ℕ → List ℕ) (x : List ℕ) (bits : List Bool) (os : List (Option (List ℕ))) (n : ℕ)
     → value_above H 0 (os ++ replicate n None) x bits ≡ value_above H 0 os x bits
 trimmed_value H x bits os zero = ap (λ t. value_above H 0 t x bits) (append-nil os)
-trimmed_value H x bits os (suc n) = ap (λ t. value_above H 0 t x bits) (replicate-last os n)
-    ∙ trimmed_value H x bits (os ++ None ∷ []) n ∙ value_above-None H 0 os x bits
+trimmed_value H x bits os (suc n) = rw (replicate-last os n)
+    (trimmed_value H x bits _ n ∙ value_above-None H 0 os x bits)
 
 pub some_count : (H : List ℕ → List ℕ) (m : SparseMap) (bits : List Bool) (os : List (Option (List ℕ))) (lone : ℕ)
     → IsPeers H (λ k. None) (get m) bits os → EndsInSome os → IsPeerCount lone m bits (length os)
 some_count H m bits os lone h ends =
-    let reached = count_reached H (get m) bits ends.0 ends.1 (rw ends.2 at h) in
-    let size : length os ≡ shared bits reached.0 + 1 = ap length ends.2 ∙ length-append ends.0 (Some ends.1 ∷ [])
-    ∙ ap (λ n. n + 1) reached.3 in
+    let reached = count_reached H _ bits ends.0 ends.1 (rw ends.2 at h) in
+    let size : length os ≡ shared bits reached.0 + 1 = rw ends.2 (length-append ends.0 _
+    ∙ ap (λ n. n + 1) reached.3) in
     record {
-      above = λ q some n. count_above H (get m) bits os h q some n;
+      above = λ q some n. count_above H _ bits os h q some n;
       reached = inr (reached.0, reached.1, reached.2, size);
     }
 

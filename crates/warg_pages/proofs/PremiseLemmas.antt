@@ -5,7 +5,7 @@ use Rattle.warg_map.proofs.ForCallers.{all_bits, last_held, same_bits-itself, sa
 use Rattle.std.specs.FinMap.{get}
 use Rattle.std.proofs.Common.{◌≡◌, ℕ, zero, suc, ◌+◌, ◌-◌, ◌*◌, ◌^◌, ◌<◌, ◌==◌, ◌⊎◌, inl, inr, Bool, true, false, List, [], ◌∷◌, ◌++◌, length, take, drop, Option, Some, None, if◌then◌else◌, refl, sym, ap, subst, ◌∙◌, arith, append-nil, unwrap_or}
 use Rattle.std.specs.Prelude.{replicate}
-use Rattle.std.specs.List.{filter_map, cons_option}
+use Rattle.std.specs.List.{filter_map}
 use Rattle.std.proofs.lemmas.Bool.{cases_lt, cond-false, ne_eqb, false_from_ne_true}
 use Rattle.std.proofs.lemmas.List.{take-append-drop, length-append, length-take-le}
 use Rattle.std.proofs.lemmas.List.Elements.{All-replicate, All-cons, All-nil}
@@ -31,7 +31,7 @@ no_slots H prefix (s ∷ bytes) = no_slots H prefix bytes
 
 pub empty_page : (H : List ℕ → List ℕ) → page_of H [] [] ≡ []
 unfolding page_of
-empty_page H = no_slots H [] (numbers 0 256)
+empty_page H = no_slots H [] _
 
 pub empty_digest : (H : List ℕ → List ℕ) → page_digest H 0 [] ≡ root_of_levels H 256 (below (map_of H []) [])
 empty_digest H = ap (page_digest H 0) (sym (empty_page H)) ∙ page_root H [] [] 0 (omega arith) refl
@@ -48,14 +48,13 @@ module _ (H : List ℕ → List ℕ) (slots : List SlotAt) where
   above k same place first from =
       let double = ap (λ p. place * p) (pow-suc 2 k) in
       let left = same (2 * place) first (omega arith) in
-      let right = same (2 * place + 1) (first + 2 ^ suc k) (omega (arith, pow-suc 2 k)) in
-      ap (λ l. branch_input (H l) (root_over H (digest_at H (slot_height 0) slots) (first + 2 ^ suc k) (suc k))) left
-      ∙ ap (λ r. branch_input (root_over H (digest_at H (slot_height 0) []) first (suc k)) (H r)) right
+      let right = same (2 * place + 1) (first + 2 ^ suc k) (omega arith) in
+      rw left (ap (λ r. branch_input (root_over H (digest_at H (slot_height 0) []) first (suc k)) (H r)) right)
 
   pub from_level : (j d : ℕ) → Same j → Same (d + j)
   from_level j zero same = let none : 0 + j ≡ j = omega arith in subst Same (sym none) same
   from_level j (suc d) same = let next : suc d + j ≡ suc (d + j) = omega arith in
-      subst Same (sym next) (above (d + j) (from_level j d same))
+      rw next (above _ (from_level j d same))
 
   pub same_digest : Same 7 → page_digest H 0 slots ≡ page_digest H 0 []
   unfolding root_over
@@ -107,7 +106,7 @@ module _ (H : List ℕ → List ℕ) (gives : GivesHashes H) where
   cut_apart one other at c =
       let level : at.levels + 0 ≡ at.levels = omega arith in
       let same : Same H cut_elsewhere at.levels =
-      subst (Same H cut_elsewhere) level (from_level H cut_elsewhere 0 at.levels cut_same) in
+      rw level at (from_level H cut_elsewhere 0 at.levels cut_same) in
       c.differ (at.one_is ∙ same at.place at.first at.aligned ∙ sym at.other_is)
 
   pub cut_differs : HaveSameDigests H 0 cut_elsewhere [] → ⊥
@@ -158,16 +157,16 @@ ones_apart depth one other at c =
           c.differ (at.one_is ∙ rw (left, right) refl ∙ sym at.other_is)
       | inr none ↦
           let zero_first : at.first ≡ 0 = omega arith in
-          let is : marked one ≡ ones = ap marked at.one_is ∙ rw (zero_first, first_ones height at.levels) refl in
+          let is : marked one ≡ ones = rw at.one_is (rw (zero_first, first_ones height at.levels) refl) in
           let left = first_zeros height at.first at.levels in
           let right = first_zeros height (at.first + 2 ^ at.levels) at.levels in
-          let isnt : marked other ≡ zeros = ap marked at.other_is ∙ rw (left, right) refl in
-          let same : ones ≡ zeros = sym is ∙ c.same ∙ isnt in absurd cc
+          let isnt : marked other ≡ zeros = rw at.other_is (rw (left, right) refl) in
+          absurd cc
     ]
 
 pub ones_differ : (depth : ℕ) → HaveSameDigests marked depth with_ones [] → ⊥
 unfolding digest_at
-ones_differ depth same = let wrong : ones ≡ zeros = same 0 (omega arith) ∙ empty_zeros (slot_height depth) in absurd cc
+ones_differ depth same = let wrong : ones ≡ zeros = same 0 (omega arith) ∙ empty_zeros _ in absurd cc
 
 -- A map with one key, whose leaf has ones: at the key's own bits as a prefix no page has a slot, and the root is the
 -- leaf.
@@ -192,12 +191,11 @@ none_at_byte s =
 none_at_bytes : (bytes : List ℕ) → filter_map (slot_of marked lone_key lone_bits) bytes ≡ []
 none_at_bytes [] = refl
 none_at_bytes (s ∷ bytes) =
-    ap (λ o. cons_option o (filter_map (slot_of marked lone_key lone_bits) bytes)) (none_at_byte s)
-    ∙ none_at_bytes bytes
+    rw (none_at_byte s) (none_at_bytes bytes)
 
 pub lone_page : page_of marked lone_key lone_bits ≡ []
 unfolding page_of
-lone_page = none_at_bytes (numbers 0 256)
+lone_page = none_at_bytes _
 
 lone_held : get (map_of marked lone_key) (lone_bits ++ []) ≡ Some ones
 unfolding last_with
@@ -269,12 +267,12 @@ both_apart one other at c = elim (cases_lt 0 at.levels) [
       let other_is = rw level at at.other_is in
       elim (two_apart at.place at.first from) [
         | inl same ↦ c.differ (one_is ∙ same ∙ sym other_is)
-        | inr differ ↦ differ (ap fives (sym one_is) ∙ c.same ∙ ap fives other_is)
+        | inr differ ↦ differ (rw (← one_is) (c.same ∙ ap fives other_is))
       ]
   | inl high ↦
       let level : at.levels - 1 + 1 ≡ at.levels = omega arith in
       let same : Same fives with_both at.levels =
-      subst (Same fives with_both) level (from_level fives with_both 1 (at.levels - 1) both_same) in
+      rw level at (from_level fives with_both 1 (at.levels - 1) both_same) in
       c.differ (at.one_is ∙ same at.place at.first at.aligned ∙ sym at.other_is)
 ]
 
@@ -329,17 +327,16 @@ lone_here = last_held marked lone_bits lone_key ∙ rw (same_bits-itself lone_bi
 
 slot_ones : slot_root ≡ ones
 slot_ones =
-    left_root 248 (below (map_of marked lone_key) (byte_bits 0))
-    (ap (get (map_of marked lone_key)) bits_are ∙ lone_here)
+    left_root 248 (below _ _) (rw bits_are lone_here)
 
 -- At eight bits nothing is held, so there the root is that of an empty tree.
 none_root : (k : ℕ) (held : List Bool → Option (List ℕ)) → ((q : List Bool) → length q ≡ k → held q ≡ None)
     → root_of_levels marked k held ≡ zeros
 unfolding root_of_levels
-none_root zero held none = ap (λ o. unwrap_or o (empty_root marked 0)) (none [] refl) ∙ empty_zeros 0
+none_root zero held none = rw (none [] refl) (empty_zeros 0)
 none_root (suc k) held none =
-    let left = none_root k (λ q. held (false ∷ q)) (λ q len. none (false ∷ q) (omega arith)) in
-    let right = none_root k (λ q. held (true ∷ q)) (λ q len. none (true ∷ q) (omega arith)) in
+    let left = none_root k (λ q. held (false ∷ q)) (λ q len. none _ (omega arith)) in
+    let right = none_root k (λ q. held _) (λ q len. none (true ∷ q) (omega arith)) in
     rw (left, right) refl
 
 short_none : (q : List Bool) → length q ≡ 8 → get (map_of marked lone_key) q ≡ None
@@ -350,7 +347,7 @@ short_none q len =
     last_held marked q lone_key ∙ rw other refl
 
 pub short_root : page_digest marked 31 [] ≡ root_of_levels marked 8 (below (map_of marked lone_key) [])
-short_root = first_zeros 0 0 8 ∙ sym (none_root 8 (below (map_of marked lone_key) []) short_none)
+short_root = first_zeros 0 0 8 ∙ sym (none_root 8 (below _ []) short_none)
 
 as_ones : (first k : ℕ) → input_over marked 31 (lone_slot ones ∷ []) first k ≡ input_over marked 31 with_ones first k
 unfolding digest_at
@@ -358,17 +355,17 @@ as_ones first k = refl
 
 slot_input : (first k : ℕ)
     → input_over marked 31 (lone_slot slot_root ∷ []) first k ≡ input_over marked 31 with_ones first k
-slot_input first k = ap (λ d. input_over marked 31 (lone_slot d ∷ []) first k) slot_ones ∙ as_ones first k
+slot_input first k = rw slot_ones (as_ones first k)
 
 pub top_differs : HaveSameDigests marked 31 [] (page_of marked lone_key []) → ⊥
 unfolding digest_at
 top_differs all =
-    let same = subst (λ (page : List SlotAt). HaveSameDigests marked 31 [] page) top_page all in
+    let same = rw top_page at all in
     let wrong : ones ≡ zeros = sym slot_ones ∙ sym (same 0 (omega arith)) ∙ empty_zeros 0 in absurd cc
 
 pub top_apart : SomeCollision marked (AreInputsAt marked 31 [] (page_of marked lone_key [])) → ⊥
 top_apart c =
-    let found = subst (λ (page : List SlotAt). SomeCollision marked (AreInputsAt marked 31 [] page)) top_page c in
+    let found = rw top_page at c in
     let at = found.placed in
     ones_apart 31 found.second found.first
     (record {

@@ -10,11 +10,11 @@ use Rattle.warg_pages.specs.Private.Descents.{value_above}
 -- peers that are missing
 missing_peer : (H : List ℕ → List ℕ) (ps : List (Option (List ℕ))) (i : ℕ) → i < 256 - length ps
     → peer_of H ps i ≡ empty_root H i
-missing_peer H ps i lt = cond-true _ _ _ (lt-ltb i (256 - length ps) lt)
+missing_peer H ps i lt = cond-true _ _ _ (lt-ltb i _ lt)
 
 there_peer : (H : List ℕ → List ℕ) (ps : List (Option (List ℕ))) (i : ℕ) → 256 - length ps ≤ i
     → peer_of H ps i ≡ unwrap_or (get_or ps (i - (256 - length ps)) None) (empty_root H i)
-there_peer H ps i le = cond-false _ _ _ (le-ltb i (256 - length ps) le)
+there_peer H ps i le = cond-false _ _ _ (le-ltb i _ le)
 
 -- The peers of the heights below those of bits are these, from the top.
 abbrev AreBelow : (List ℕ → List ℕ) → List (Option (List ℕ)) → List (Option (List ℕ)) → ℕ → Type 0
@@ -40,15 +40,15 @@ value_from_top H ps (o ∷ os) x (b ∷ bits) h =
 -- a proof's peers run from the bottom
 pub reversed_value : (H : List ℕ → List ℕ) (os : List (Option (List ℕ))) (x : List ℕ) (bits : List Bool)
     → length bits ≡ 256 → length os ≤ 256 → proof_value H (reverse os) x bits ≡ value_above H 0 os x bits
-reversed_value H os x bits n few = value_from_top H (reverse os) os x bits (λ i lt. at i (omega arith))
+reversed_value H os x bits n few = value_from_top H _ os x bits (λ i lt. at i (omega arith))
   where
     at : (i : ℕ) → i < 256 → peer_of H (reverse os) i ≡ unwrap_or (get_or os (length bits - 1 - i) None)
         (empty_root H i)
     at i lt = elim (cases_lt i (256 - length os)) [
       | inl low ↦ (
           let size = length-reverse os in
-          let past = get_or_past os (length bits - 1 - i) None (omega arith) in
-          missing_peer H (reverse os) i (omega arith) ∙ sym (ap (λ t. unwrap_or t (empty_root H i)) past))
+          let past = get_or_past os _ None (omega arith) in
+          missing_peer H _ i (omega arith) ∙ sym (ap (λ t. unwrap_or t (empty_root H i)) past))
       | inr high ↦ (
           let size = length-reverse os in
           let place : i - (256 - length (reverse os)) < length os = omega arith in

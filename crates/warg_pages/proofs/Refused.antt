@@ -1,5 +1,5 @@
 -- Refusals that are passed on.
-use Rattle.std.proofs.Common.{◌≡◌, Result, Ok, Err, IfOk, IfErr, sym, subst}
+use Rattle.std.proofs.Common.{◌≡◌, Result, Ok, Err, IfOk, IfErr}
 use Rattle.std.specs.Result.{IsErrAnd}
 use Rattle.warg_pages.specs.declared.error.WayError.{WayError}
 use Rattle.warg_pages.specs.declared.error.WayError.TheVariants.{BadPage, WrongDigest, WrongLoneKey, Memory}
@@ -37,10 +37,10 @@ of_source (Way w) f h = of_memory w f h
 -- as a refusal of another type
 pub way_refused : {X E P Q : Type 0} (r : Result X (ProveError E)) (w : WayError) → IsErrAnd r (λ e. e ≡ Way w)
     → (P → Q) → IsMemoryUnless P w → IfErr r (IsOfSourceUnless {E = E} Q)
-way_refused {E = E} {Q = Q} r w is f h = err_and r (λ e. e ≡ Way w) (IsOfSourceUnless Q) is
-    (λ e same. let P : ProveError E → Type 0 = IsOfSourceUnless Q in subst P (sym same) (of_memory w f h))
+way_refused {E = E} {Q = Q} r w is f h = err_and r _ _ is
+    (λ e same. rw same (of_memory w f h))
 
 pub source_refused : {X E P Q : Type 0} (r : Result X (ProveError E)) (given : ProveError E)
     → IsErrAnd r (λ e. e ≡ given) → (P → Q) → IsOfSourceUnless P given → IfErr r (IsOfSourceUnless {E = E} Q)
-source_refused {E = E} {Q = Q} r given is f h = err_and r (λ e. e ≡ given) (IsOfSourceUnless Q) is
-    (λ e same. let P : ProveError E → Type 0 = IsOfSourceUnless Q in subst P (sym same) (of_source given f h))
+source_refused {E = E} {Q = Q} r given is f h = err_and r _ _ is
+    (λ e same. rw same (of_source given f h))

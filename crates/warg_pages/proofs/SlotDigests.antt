@@ -28,8 +28,7 @@ pub one_more_same : (xs ys : List SlotAt) (i : ℕ) (x y : SlotAt) → i < lengt
     → map byte_and_digest (take i xs) ≡ map byte_and_digest (take i ys) → map byte_and_digest (take (i + 1) xs)
     ≡ map byte_and_digest (take (i + 1) ys)
 one_more_same xs ys i x y lt within is are byte digest e =
-    ap (map byte_and_digest) (take_more xs i x lt ∙ ap (λ z. take i xs ++ z ∷ []) (sym is))
-    ∙ map-append byte_and_digest (take i xs) (x ∷ [])
-    ∙ (λ j. e j ++ (byte j, digest j) ∷ [])
+    rw (take_more xs i x lt ∙ ap (λ z. take i xs ++ z ∷ []) (sym is))
+    (map-append byte_and_digest _ _ ∙ (λ j. e j ++ (byte j, digest j) ∷ [])
     ∙ sym (ap (map byte_and_digest) (take_more ys i y within ∙ ap (λ z. take i ys ++ z ∷ []) (sym are))
-    ∙ map-append byte_and_digest (take i ys) (y ∷ []))
+    ∙ map-append byte_and_digest _ _))

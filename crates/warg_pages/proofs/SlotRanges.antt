@@ -67,7 +67,6 @@ pub root_over-same : (H : List ℕ → List ℕ) (f g : ℕ → List ℕ) (first
 unfolding root_over
 root_over-same H f g first zero h = h first (omega arith) (omega arith)
 root_over-same H f g first (suc k) h =
-    let double = pow-suc 2 k in
     rw (
       root_over-same H f g first k (λ s le lt. h s le (rw (pow-suc 2 k) (omega arith))),
       root_over-same H f g (first + 2 ^ k) k (λ s le lt. h s (omega arith) (rw (pow-suc 2 k) (omega arith))),
@@ -96,19 +95,17 @@ unfolding root_over
 root_over-split H height first k n xs l r =
     let whole : xs ≡ take n xs ++ drop n xs = sym (take-append-drop n xs) in
     rw (
-      root_over-same H (digest_at H height xs) (digest_at H height (take n xs)) first k
-          (λ s le lt. ap (λ ys. digest_at H height ys s) whole ∙ at_left H height (first + 2 ^ k) (take n xs)
-          (drop n xs) s r lt),
-      root_over-same H (digest_at H height xs) (digest_at H height (drop n xs)) (first + 2 ^ k) k
-          (λ s le lt. ap (λ ys. digest_at H height ys s) whole ∙ at_right H height (first + 2 ^ k) (take n xs)
-          (drop n xs) s l le),
+      root_over-same H _ _ first k
+          (λ s le lt. ap (λ ys. digest_at H height ys s) whole ∙ at_left H height (first + 2 ^ k) _ _ s r lt),
+      root_over-same H _ _ (first + 2 ^ k) k
+          (λ s le lt. ap (λ ys. digest_at H height ys s) whole ∙ at_right H height (first + 2 ^ k) _ _ s l le),
     ) refl
 
 -- a tree over no slots, and over one
 pub root_over-empty : (H : List ℕ → List ℕ) (height first k : ℕ) (xs : List SlotAt) → length xs ≡ 0
     → root_over H (digest_at H height xs) first k ≡ empty_root H (height + k)
 root_over-empty H height first k [] n = root_over-nil H height first k
-root_over-empty H height first k (x ∷ xs) n = absurd (omega arith)
+root_over-empty H height first k _ n = absurd (omega arith)
 
 pub root_over-one : (H : List ℕ → List ℕ) (height first k : ℕ) (xs : List SlotAt) (d : SlotAt) → 0 < length xs → k ≡ 0
     → All (λ x. first ≤ x.byte) xs → All (λ x. x.byte < first + 2 ^ k) xs → root_over H (digest_at H height xs) first k
@@ -127,13 +124,13 @@ pub below_point : (xs : List SlotAt) (n middle : ℕ) → IsPartitionPoint (λ y
 below_point xs n middle at = λ k d lt.
     let all = length-take n xs in
     let low : k < n = omega arith in
-    rw (get_or-take n xs k d low) (ltb-true (get_or xs k d).byte middle (at.0 k d (omega arith) low))
+    rw (get_or-take n xs k d low) (ltb-true _ middle (at.0 k d (omega arith) low))
 
 pub above_point : (xs : List SlotAt) (n middle : ℕ) → IsPartitionPoint (λ y. ltb y.byte middle ≡ true)
     (λ y. ltb y.byte middle ≡ false) xs n → All (λ x. middle ≤ x.byte) (drop n xs)
 above_point xs n middle at = λ k d lt.
     let all = length-drop n xs in
-    rw (get_or-drop n xs k d) (ltb-false (get_or xs (n + k) d).byte middle (at.1 (n + k) d (omega arith) (omega arith)))
+    rw (get_or-drop n xs k d) (ltb-false _ middle (at.1 (n + k) d (omega arith) (omega arith)))
 
 -- levels that are not 0
 pub halved : (k : ℕ) → ¬ (k ≡ 0) → 2 ^ k ≡ 2 ^ (k - 1) + 2 ^ (k - 1)
@@ -141,7 +138,7 @@ halved zero n = absurd (n refl)
 halved (suc k) n = let at : suc k - 1 ≡ k = omega arith in rw (at, pow-suc 2 k) (omega arith)
 
 pub some_slots : (xs : List SlotAt) → eqb (length xs) 0 ≡ false → 0 < length xs
-some_slots [] e = absurd (cc)
+some_slots [] e = absurd cc
 some_slots (x ∷ xs) e = omega arith
 
 pub shifted : (k : ℕ) → k < 8 → 1 * 2 ^ k % 2 ^ 64 ≡ 2 ^ k
@@ -155,7 +152,7 @@ pub root_over-halves : (H : List ℕ → List ℕ) (height first k n middle : �
     ≡ root_over H (digest_at H height xs) first k
 root_over-halves H height first k n middle xs l r some m le re low high =
     let at : k ≡ suc (k - 1) = omega arith in
-    rw (le, re, m) (sym (root_over-split H height first (k - 1) n xs (rw m at low) (rw m at high)))
+    rw (le, re, m) (sym (root_over-split H height first _ n xs (rw m at low) (rw m at high)))
     ∙ ap (root_over H (digest_at H height xs) first) (sym at)
 
 -- a tree over a part of the slots, and over all
@@ -163,11 +160,9 @@ pub root_over-part : (H : List ℕ → List ℕ) (height first k m n : ℕ) (xs 
     → All (λ x. x.byte < first) (take m xs) → All (λ x. first + 2 ^ k ≤ x.byte) (drop n (drop m xs))
     → root_over H (digest_at H height (take n (drop m xs))) first k ≡ root_over H (digest_at H height xs) first k
 root_over-part H height first k m n xs l r =
-    sym (root_over-same H (digest_at H height xs) (digest_at H height (take n (drop m xs))) first k same)
+    sym (root_over-same H _ _ first k same)
   where
     same : (s : ℕ) → first ≤ s → s < first + 2 ^ k → digest_at H height xs s ≡ digest_at H height (take n (drop m xs)) s
     same s le lt =
-        ap (λ ys. digest_at H height ys s) (sym (take-append-drop m xs)) ∙ at_right H height first (take m xs)
-        (drop m xs) s l le
-        ∙ ap (λ ys. digest_at H height ys s) (sym (take-append-drop n (drop m xs))) ∙ at_left H height (first + 2 ^ k)
-        (take n (drop m xs)) (drop n (drop m xs)) s r lt
+        ap (λ ys. digest_at H height ys s) (sym (take-append-drop m xs)) ∙ at_right H height first _ _ s l le
+        ∙ ap (λ ys. digest_at H height ys s) (sym (take-append-drop n _)) ∙ at_left H height (first + 2 ^ k) _ _ s r lt

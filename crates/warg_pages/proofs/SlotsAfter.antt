@@ -1,12 +1,12 @@
 -- The slots of a page after more insertions.
-use Rattle.std.proofs.Common.{◌≡◌, ℕ, ◌+◌, ◌-◌, ◌*◌, ◌<◌, ◌≤◌, Bool, true, false, not, ◌||◌, ◌&&◌, eqb, List, [], ◌++◌, length, Option, Some, None, refl, sym, ap, subst, ◌∙◌, arith, length-append}
+use Rattle.std.proofs.Common.{◌≡◌, ℕ, ◌+◌, ◌-◌, ◌*◌, ◌<◌, ◌≤◌, Bool, true, false, not, ◌||◌, ◌&&◌, eqb, List, [], ◌++◌, length, Option, Some, None, refl, sym, ap, ◌∙◌, arith, length-append}
 use Rattle.std.proofs.lemmas.Bool.{and_parts, false_from_ne_true, ne_eqb}
 use Rattle.std.proofs.lemmas.List.Folds.{list_all-append}
 use Rattle.std.specs.Bool.{then_some}
 use Rattle.std.specs.List.{list_all}
 use Rattle.warg_crypto.specs.Collisions.{GivesHashes}
 use Rattle.warg_crypto.specs.Tree.{leaf_digest}
-use Rattle.warg_map.specs.Bits.{bits_from, last_bits, key_bits}
+use Rattle.warg_map.specs.Bits.{last_bits, key_bits}
 use Rattle.warg_map.specs.Last.{last_with, same_bits}
 use Rattle.warg_map.specs.Sparse.{root_of_levels, map_of}
 use Rattle.warg_map.proofs.ForCallers.{same_bits-true, same_digest}
@@ -33,9 +33,7 @@ held_alone H old q s key None l h = all_none H q (last_bits key 256) old l
 held_alone H old q s key (Some e) l h =
     let found = lone_of (is_lone H old q e) (H e.0, leaf_digest H e.1) (key, h.0) h.1 in
     let same : H e.0 ≡ key = ap (λ (v : List ℕ × List ℕ). v.0) found.1 in
-    let P : List ℕ → Type 0 = λ k. list_all (λ f. not (is_below H q f) || same_bits (last_bits k 256) (key_bits H f.0))
-    old ≡ true in
-    subst P same found.0
+    rw same at found.0
 
 alone_held : (H : List ℕ → List ℕ) → GivesHashes H → (old : List (List ℕ × List ℕ)) (q : List Bool) (s : ℕ)
     (e : List ℕ × List ℕ) (last : Option (List ℕ × List ℕ)) → last_with (is_below H q) old ≡ last
@@ -44,35 +42,26 @@ alone_held : (H : List ℕ → List ℕ) → GivesHashes H → (old : List (List
 alone_held H gives old q s e None l all = tt
 alone_held H gives old q s e (Some f) l all =
     let here = last_passes (is_below H q) old f l in
-    let this = all_last (λ f. not (is_below H q f) || same_bits (key_bits H e.0) (key_bits H f.0))
-    (is_below H q) old f all l in
+    let this = all_last _ _ old f all l in
     let bits : same_bits (key_bits H e.0) (key_bits H f.0) ≡ true = rw here at this in
-    let same : H e.0 ≡ H f.0 = same_digest H e.0 f.0 (gives _) (gives _)
-    (same_bits-true (key_bits H e.0) (key_bits H f.0) bits) in
-    let P : List ℕ → Type 0 = λ k. list_all (λ f. not (is_below H q f) || same_bits (last_bits k 256) (key_bits H f.0))
-    old ≡ true in
-    let lone : is_lone H old q f ≡ true = subst P same all in (
+    let same : H e.0 ≡ H f.0 = same_digest H e.0 f.0 (gives _) (gives _) (same_bits-true _ _ bits) in
+    let lone : is_lone H old q f ≡ true = rw same at all in (
       leaf_digest H f.1,
-      ap (λ b. then_some {T = List ℕ × List ℕ} b (H f.0, leaf_digest H f.1)) lone
-          ∙ ap (λ (k : List ℕ). Some (k, leaf_digest H f.1)) (sym same),
+      rw lone (ap (λ (k : List ℕ). Some (k, leaf_digest H f.1)) (sym same)),
     )
 
 pub stays_lone : (H : List ℕ → List ℕ) (old more : List (List ℕ × List ℕ)) (q : List Bool) (s n : ℕ)
     (e : List ℕ × List ℕ) → StaysAlone (H e.0) (slot_over H old q s (last_with (is_below H q) old))
     (changes_below H n more q) → is_lone H (old ++ more) q e ≡ true
 stays_lone H old more q s n e h =
-    list_all-append (λ f. not (is_below H q f) || same_bits (key_bits H e.0) (key_bits H f.0)) old more
-    ∙ (λ i. held_alone H old q s (H e.0) (last_with (is_below H q) old) refl h.0 i && all_of_key H q n
-    (H e.0) more h.1 i)
+    list_all-append _ old more ∙ (λ i. held_alone H old q s _ _ refl h.0 i && all_of_key H q n _ more h.1 i)
 
 pub lone_stays : (H : List ℕ → List ℕ) → GivesHashes H → (old more : List (List ℕ × List ℕ)) (q : List Bool) (s n : ℕ)
     (e : List ℕ × List ℕ) → is_lone H (old ++ more) q e ≡ true
     → StaysAlone (H e.0) (slot_over H old q s (last_with (is_below H q) old)) (changes_below H n more q)
 lone_stays H gives old more q s n e h =
-    let parts = and_parts (list_all (λ f. not (is_below H q f) || same_bits (key_bits H e.0) (key_bits H f.0)) old) _
-    (sym (list_all-append (λ f. not (is_below H q f) || same_bits (key_bits H e.0) (key_bits H f.0)) old more)
-    ∙ h) in
-    (alone_held H gives old q s e (last_with (is_below H q) old) refl parts.0, all_one_key H gives q n e more parts.1)
+    let parts = and_parts _ _ (sym (list_all-append _ old more) ∙ h) in
+    (alone_held H gives old q s e _ refl parts.0, all_one_key H gives q n e more parts.1)
 
 -- the slot of a lone key
 pub lone_over_is : (H : List ℕ → List ℕ) (es : List (List ℕ × List ℕ)) (q : List Bool) (s : ℕ) (e : List ℕ × List ℕ)
@@ -82,12 +71,10 @@ pub lone_over_is : (H : List ℕ → List ℕ) (es : List (List ℕ × List ℕ)
 lone_over_is H es q s e last lone le =
     let own = own_lone_over H es q s (Some e) _ (H e.0, leaf_digest H e.1) last refl
     (ap (λ b. then_some {T = List ℕ × List ℕ} b (H e.0, leaf_digest H e.1)) lone) in
-    let parts = same_parts q own.alone.rest (bits_from (H e.0) 0 (length q)) (last_bits (H e.0) (256 - length q))
-    (sym (length-bits_from (H e.0) 0 (length q))) (sym own.alone.begins ∙ key_at (H e.0) (length q) le) in
-    let size : length own.alone.rest ≡ 256 - length q = ap length parts.1
-    ∙ length-bits_from (H e.0) (256 - (256 - length q)) (256 - length q) in
-    ap (λ k. root_of_levels H k (below (map_of H es) q)) (sym size) ∙ alone_value H (below (map_of H es) q)
-    (leaf_digest H e.1) own.alone.rest own.alone.alone ∙ ap (value_above H 0 [] (leaf_digest H e.1)) parts.1
+    let parts = same_parts q own.alone.rest _ _ (sym (length-bits_from _ 0 _)) (sym own.alone.begins ∙ key_at _ _ le) in
+    let size : length own.alone.rest ≡ 256 - length q = ap length parts.1 ∙ length-bits_from _ _ _ in
+    ap (λ k. root_of_levels H k (below (map_of H es) q)) (sym size) ∙ alone_value H (below _ q) _ own.alone.rest
+    own.alone.alone ∙ ap (value_above H 0 [] (leaf_digest H e.1)) parts.1
 
 pub lone_slot_is : (H : List ℕ → List ℕ) (es : List (List ℕ × List ℕ)) (q : List Bool) (depth s : ℕ)
     (e : List ℕ × List ℕ) → length q ≡ 8 * depth + 8 → depth < 32 → last_with (is_below H q) es ≡ Some e
@@ -96,37 +83,35 @@ pub lone_slot_is : (H : List ℕ → List ℕ) (es : List (List ℕ × List ℕ)
     ≡ Some (lone_slot H depth s (version H es q) (H e.0, leaf_digest H e.1))
 lone_slot_is H es q depth s e size lt last lone =
     let height : 256 - length q ≡ slot_height depth = omega arith in
-    ap (slot_over H es q s) last
-    ∙ (λ i. Some record {
+    rw last (λ i. Some record {
       byte = s;
       version = version H es q;
-      digest = (lone_over_is H es q s e last lone (omega arith) ∙ ap (lone_root H (H e.0) (leaf_digest H e.1)) height)
-          i;
+      digest = (lone_over_is H es q s e last lone (omega arith) ∙ ap (lone_root H _ _) height) i;
       lone = then_some {T = List ℕ × List ℕ} (lone i) (H e.0, leaf_digest H e.1);
     })
 
 -- where one is, no page stands
 pub no_page_lone : (H : List ℕ → List ℕ) (es : List (List ℕ × List ℕ)) (q r : List Bool) (e : List ℕ × List ℕ)
     → 0 < length q → last_with (is_below H q) es ≡ Some e → is_lone H es q e ≡ true → stands H es (q ++ r) ≡ true → ⊥
-no_page_lone H es q r e some last lone there = either (is_below H (q ++ r) e) refl
+no_page_lone H es q r e some last lone there = either _ refl
   where
     either : (b : Bool) → is_below H (q ++ r) e ≡ b → ⊥
     either true under =
         let long = lone_longer H es q r e last lone under in
-        let size : eqb (length (q ++ r)) 0 ≡ false = ne_eqb (length (q ++ r)) 0 (λ z. let all = length-append q r in
+        let size : eqb (length (q ++ r)) 0 ≡ false = ne_eqb _ 0 (λ z. let all = length-append q r in
         omega arith) in
         let is : stands H es (q ++ r) ≡ false = ap (stands_over H es (q ++ r)) long.is_last
         ∙ (λ i. size i || not (long.alone i)) in
         let no : true ≡ false = sym there ∙ is in cc
     either false off =
         let is : stands H es (q ++ r) ≡ false = ap (stands_over H es (q ++ r)) (lone_elsewhere H es q r e lone off) in
-        let no : true ≡ false = sym there ∙ is in cc
+        cc
 
 -- and else one does
 pub page_not_lone : (H : List ℕ → List ℕ) (es : List (List ℕ × List ℕ)) (q : List Bool) (e : List ℕ × List ℕ)
     → last_with (is_below H q) es ≡ Some e → ¬ (is_lone H es q e ≡ true) → stands H es q ≡ true
-page_not_lone H es q e last other = ap (stands_over H es q) last ∙ ap (λ b. eqb (length q) 0 || not b)
-    (false_from_ne_true _ other) ∙ either (eqb (length q) 0)
+page_not_lone H es q e last other = rw last (ap (λ b. eqb (length q) 0 || not b)
+    (false_from_ne_true _ other) ∙ either _)
   where
     either : (b : Bool) → (b || true) ≡ true
     either true = refl
@@ -141,9 +126,9 @@ pub page_slot_is : (H : List ℕ → List ℕ) (es : List (List ℕ × List ℕ)
       digest = root_of_levels H (256 - length q) (below (map_of H es) q);
       lone = None;
     }
-page_slot_is H es q s None some there = absurd (cc)
+page_slot_is H es q s None some there = absurd cc
 page_slot_is H es q s (Some e) some there =
-    let size : eqb (length q) 0 ≡ false = ne_eqb (length q) 0 (λ z. omega arith) in
+    let size : eqb (length q) 0 ≡ false = ne_eqb _ 0 (λ z. omega arith) in
     let not_lone : not (is_lone H es q e) ≡ true = rw size at there in
     either (is_lone H es q e) not_lone
   where
@@ -160,5 +145,5 @@ page_slot_is H es q s (Some e) some there =
           digest = root_of_levels H (256 - length q) (below (map_of H es) q);
           lone = None;
         })
-    either true h = absurd (cc)
+    either true h = absurd cc
     either false h = refl

@@ -23,7 +23,7 @@ fails_above first end [] h = refl
 fails_above first end (x ∷ xs) h =
     let high : end ≤ x.byte = All-head (λ (y : SlotAt). end ≤ y.byte) x xs h in
     let no : ltb x.byte end ≡ false = false_from_ne_true _ (λ e. let lt = ltb-true x.byte end e in omega arith) in
-    rw (no, fails_above first end xs (All-tail (λ (y : SlotAt). end ≤ y.byte) x xs h)) (neither (leb first x.byte))
+    rw (no, fails_above first end xs (All-tail (λ (y : SlotAt). end ≤ y.byte) x xs h)) (neither _)
   where
     neither : (b : Bool) → ((b && false) || false) ≡ false
     neither true = refl
@@ -42,10 +42,9 @@ pub none_among : (first k m n : ℕ) (xs : List SlotAt) → All (λ x. x.byte < 
     → All (λ x. first + 2 ^ k ≤ x.byte) (drop n (drop m xs)) → length (take n (drop m xs)) ≡ 0 → stands_among xs first k
     ≡ false
 none_among first k m n xs below above none =
-    ap (list_any (is_among first (first + 2 ^ k))) (sym (take-append-drop m xs)) ∙ fails_all first (first + 2 ^ k)
-    (take m xs) (drop m xs) below
-    ∙ ap (list_any (is_among first (first + 2 ^ k))) (sym (take-append-drop n (drop m xs))
-    ∙ nothing (take n (drop m xs)) none) ∙ fails_above first (first + 2 ^ k) (drop n (drop m xs)) above
+    rw (← take-append-drop m xs) (fails_all first (first + 2 ^ k)
+    _ _ below ∙ ap (list_any (is_among first (first + 2 ^ k))) (sym (take-append-drop n _)
+    ∙ nothing _ none) ∙ fails_above first (first + 2 ^ k) _ above)
   where
     nothing : (ys : List SlotAt) → length ys ≡ 0 → ys ++ drop n (drop m xs) ≡ drop n (drop m xs)
     nothing [] e = refl
@@ -55,8 +54,6 @@ pub some_among : (first k m n : ℕ) (xs : List SlotAt) → All (λ x. first ≤
     → All (λ x. x.byte < first + 2 ^ k) (take n (drop m xs)) → 0 < length (take n (drop m xs))
     → All (λ x. x.byte < first) (take m xs) → stands_among xs first k ≡ true
 some_among first k m n xs from to some below =
-    ap (list_any (is_among first (first + 2 ^ k))) (sym (take-append-drop m xs)) ∙ fails_all first (first + 2 ^ k)
-    (take m xs) (drop m xs) below
-    ∙ ap (list_any (is_among first (first + 2 ^ k))) (sym (take-append-drop n (drop m xs)))
-    ∙ passes_first first (first + 2 ^ k) (take n (drop m xs)) (drop n (drop m xs)) some
-    (rw (take-append-drop n (drop m xs)) from) to
+    rw (← take-append-drop m xs) (fails_all first (first + 2 ^ k)
+    _ _ below ∙ ap (list_any (is_among first (first + 2 ^ k))) (sym (take-append-drop n _))
+    ∙ passes_first first (first + 2 ^ k) _ _ some (rw (take-append-drop n _) from) to)

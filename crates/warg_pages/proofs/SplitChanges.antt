@@ -1,6 +1,6 @@
 -- Changes split by a byte of their key digests.
 use Rattle.std.proofs.Common.{◌≡◌, ◌≢◌, ℕ, ◌+◌, ◌<◌, false, List, [], ◌∷◌, ◌++◌, length, get_or, set, take}
-use Rattle.std.proofs.Common.{sym, ap, ◌∙◌, arith, inl, inr}
+use Rattle.std.proofs.Common.{sym, ◌∙◌, arith, inl, inr}
 use Rattle.std.proofs.lemmas.Bool.{cases_eq, cases_lt, eqb-true, false_from_ne_true}
 use Rattle.std.proofs.lemmas.Bool.Decides.{nat_tests}
 use Rattle.std.proofs.lemmas.Grind.{get_or-set_at}
@@ -41,12 +41,10 @@ module _ (depth : ℕ) (changes : List ChangeAt) (place : ℕ) (x : ChangeAt) (l
   put_more items lists own list d byte within is_own pushed before = elim (cases_eq (get_or x.key depth 0) byte) [
     | inl same ↦
         let at : own ≡ get_or lists byte own = rw (← same) is_own in
-        let was : items own ≡ filter (goes_to depth byte) (take place changes) = ap items at ∙ before own in
-        rw (get_or-set_at lists (get_or x.key depth 0) byte list d (sym same) within, pushed, was)
-        (sym (more_at byte same))
+        let was : items own ≡ filter (goes_to depth byte) (take place changes) = rw at (before own) in
+        rw (get_or-set_at lists _ byte list d (sym same) within, pushed, was) (sym (more_at byte same))
     | inr other ↦
-        rw (get_or-set_other lists (get_or x.key depth 0) byte list d (λ e. other (sym e)))
-        (before d ∙ sym (none_at byte other))
+        rw (get_or-set_other lists _ byte list d (λ e. other (sym e))) (before d ∙ sym (none_at byte other))
   ]
 
 -- one empty list more
@@ -57,6 +55,6 @@ pub one_empty_more : {V : Type 0} (items : V → List ChangeAt) (lists : List V)
 one_empty_more items lists list d n byte size none before less = elim (cases_lt byte n) [
   | inl low ↦
       let within : byte < length lists = omega arith in
-      rw (get_or_append_left lists (list ∷ []) d byte within) (before low d)
+      rw (get_or_append_left lists _ d byte within) (before low d)
   | inr high ↦ let last : length lists ≡ byte = omega arith in rw (get_or_push lists list d byte last) none
 ]

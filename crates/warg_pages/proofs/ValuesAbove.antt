@@ -36,7 +36,7 @@ unfolding value_above empty_root
 value_above-empty H n [] = let height : n ≡ 0 + n = omega arith in ap (empty_root H) height
 value_above-empty H n (b ∷ bits) =
     let height : suc (length bits + n) ≡ suc (length bits) + n = omega arith in
-    rw (value_above-empty H n bits) (both b (empty_root H (length bits + n)) ∙ ap (empty_root H) height)
+    rw (value_above-empty H n bits) (both b _ ∙ ap (empty_root H) height)
   where
     both : (b : Bool) (e : List ℕ) → H (input_beside b e e) ≡ H (1 ∷ e ++ e)
     both true e = refl
@@ -54,8 +54,7 @@ PeersAbove H n held (b ∷ bits) (o ∷ os) = IsPeer H None (length bits + n) (�
 -- a peer that is written as None where nothing is held has the root of its half
 peer_root : (H : List ℕ → List ℕ) (k : ℕ) (held : List Bool → Option (List ℕ)) (o : Option (List ℕ))
     → IsPeer H None k held o → unwrap_or o (empty_root H k) ≡ root_of_levels H k held
-peer_root H k held o (inl none) = ap (λ t. unwrap_or t (empty_root H k)) none.0
-    ∙ sym (root-same H k held (λ q. None) none.1 ∙ root-nothing H k)
+peer_root H k held o (inl none) = rw none.0 (sym (root-same H k held _ none.1 ∙ root-nothing H k))
 peer_root H k held o (inr some) = ap (λ t. unwrap_or t (empty_root H k)) some.0
 
 level_above : (H : List ℕ → List ℕ) (k : ℕ) (held : List Bool → Option (List ℕ)) (b : Bool) (x y : List ℕ)
@@ -74,9 +73,8 @@ root_above H n held [] (o ∷ os) h = absurd h
 root_above H n held (b ∷ bits) [] h = absurd h
 root_above H n held (b ∷ bits) (o ∷ os) h =
     let height : suc (length bits) + n ≡ suc (length bits + n) = omega arith in
-    ap (λ k. root_of_levels H k held) height ∙ level_above H (length bits + n) held b _ _
-    (peer_root H (length bits + n) (λ q. held (not b ∷ q)) o h.0)
-    (sym (root_above H n (λ q. held (b ∷ q)) bits os h.1))
+    rw height (level_above H _ held b _ _ (peer_root H _ (λ q. held _) o h.0)
+    (sym (root_above H n (λ q. held _) bits os h.1)))
 
 pub IsPeers-append : (H : List ℕ → List ℕ) (held : List Bool → Option (List ℕ)) (bits rest : List Bool)
     (os more : List (Option (List ℕ))) → PeersAbove H (length rest) held bits os
@@ -88,7 +86,7 @@ IsPeers-append H held [] rest (o ∷ os) more h g = absurd h
 IsPeers-append H held (b ∷ bits) rest [] more h g = absurd h
 IsPeers-append H held (b ∷ bits) rest (o ∷ os) more h g =
     let height : length bits + length rest ≡ length (bits ++ rest) = sym (length-append bits rest) in
-    (rw height at h.0, IsPeers-append H (λ q. held (b ∷ q)) bits rest os more h.1 g)
+    (rw height at h.0, IsPeers-append H (λ q. held _) bits rest os more h.1 g)
 
 -- the peers of bits lead from what is held there to the root
 pub alone_root : (H : List ℕ → List ℕ) (held : List Bool → Option (List ℕ)) (bits : List Bool)
@@ -98,10 +96,9 @@ unfolding value_above root_of_levels
 alone_root H held [] h = refl
 alone_root H held (b ∷ bits) h =
     let height : length bits + 0 ≡ length bits = omega arith in
-    level_above H (length bits) held b _ _
-    (ap (empty_root H) height ∙ sym (root-same H (length bits) (λ q. held (not b ∷ q)) (λ q. None)
-    (λ q. h (not b ∷ q) (other b)) ∙ root-nothing H (length bits)))
-    (sym (alone_root H (λ q. held (b ∷ q)) bits (λ q n. h (b ∷ q) (λ e. n (tail e)))))
+    level_above H _ held b _ _ (rw height (sym (root-same H _ (λ q. held _) _
+    (λ q. h (not b ∷ q) (other b)) ∙ root-nothing H _)))
+    (sym (alone_root H (λ q. held _) bits (λ q n. h (b ∷ q) (λ e. n (tail e)))))
   where
     other : (c : Bool) {q r : List Bool} → ¬ (not c ∷ q ≡ c ∷ r)
     other true e = cc e

@@ -9,15 +9,13 @@ use Rattle.warg_crypto.specs.Digests.{IsByte, IsDigest}
 use Rattle.warg_crypto.specs.Collisions.{GivesHashes}
 use Rattle.warg_crypto.specs.EmptyTrees.{empty_root}
 use Rattle.warg_crypto.specs.Tree.{leaf_digest}
-use Rattle.warg_map.specs.Bits.{bits_from, last_bits}
-use Rattle.warg_map.specs.Last.{last_with, same_bits}
+use Rattle.warg_map.specs.Last.{last_with}
 use Rattle.warg_map.specs.Sparse.{root_of_levels, map_of}
 use Rattle.warg_pages.specs.Prefixes.{bits_of_bytes, byte_bits, is_below, below, version}
 use Rattle.warg_pages.specs.Slots.{SlotAt, IsPage, is_lone, slot_over, slot_of, numbers, page_of}
 use Rattle.warg_pages.specs.Pages.{page_digest, slot_height}
 use Rattle.warg_pages.specs.PageBytes.{page_bytes}
 use Rattle.warg_pages.specs.ChangedPages.{ChangedPageAt}
-use Rattle.warg_pages.specs.OwnPages.{stands}
 use Rattle.warg_pages.specs.ProvedKeys.{IsOwnSource}
 use Rattle.warg_pages.specs.Visits.{held_by, IsLoneBelow, AreOfSlot, AreOfSlots, AreFromWhere, AreAllPagesWhere}
 use Rattle.warg_pages.specs.Private.Visited.{IsOwnFrom, IsOwnSlot}
@@ -41,13 +39,12 @@ module _ (IsLone : List ℕ → SlotAt → List ℕ × List ℕ → Type 0)
       → AreOfSlots IsLone From prefix items (these ++ more)
   unfolding AreOfSlots
   slots_more items x rest these more e first others =
-      let P : List SlotAt → Type 0 = λ xs. AreOfSlots IsLone From prefix xs (these ++ more) in
-      subst P (sym e) (these, more, refl, first, others)
+      rw e (these, more, refl, first, others)
 
   pub no_slots : (items : List SlotAt) → items ≡ [] → AreOfSlots IsLone From prefix items []
   unfolding AreOfSlots
   no_slots items e =
-      let P : List SlotAt → Type 0 = λ xs. AreOfSlots IsLone From prefix xs [] in subst P (sym e) refl
+      rw e refl
 
 -- a page and those below it
 pub page_from : (H : List ℕ → List ℕ) (IsLone : List ℕ → SlotAt → List ℕ × List ℕ → Type 0)
@@ -76,7 +73,7 @@ pub all_of_none : (H : List ℕ → List ℕ) (IsLone : List ℕ → SlotAt → 
     (IsThere : List ℕ → ℕ → List SlotAt → Type 0) (root : List ℕ) (version : ℕ)
     → version ≡ 0 → root ≡ empty_root H 256 → AreAllPagesWhere H IsLone IsThere root version []
 all_of_none H IsLone IsThere root version none empty =
-    let P : ℕ → Type 0 = λ n. AreAllPagesWhere H IsLone IsThere root n [] in subst P (sym none) (refl, empty)
+    rw none (refl, empty)
 
 -- where the pages are those of insertions
 pub own_root : (H : List ℕ → List ℕ) (bytes_at : List ℕ → ℕ → Option (List ℕ)) (root : List ℕ) (count : ℕ)
@@ -96,27 +93,27 @@ module _ {H : List ℕ → List ℕ} (gives : GivesHashes H) {bytes_at : List �
     {prefix digest : List ℕ} {number : ℕ} {es : List (List ℕ × List ℕ)}
     (own : IsOwnFrom H bytes_at prefix number digest es) (lt : length prefix < 32) where
   own_bytes : bytes_at prefix number ≡ Some (page_bytes (page_of H es (bits_of_bytes prefix)))
-  own_bytes = ap (bytes_at prefix) own.is_version ∙ own.pages prefix own.are_bytes lt own.is_there
+  own_bytes = rw own.is_version (own.pages prefix own.are_bytes lt own.is_there)
 
   own_is_page : IsPage (page_of H es (bits_of_bytes prefix))
-  own_is_page = own_slots H es (bits_of_bytes prefix) gives own.fits
+  own_is_page = own_slots H es _ gives own.fits
 
   pub own_refused : ((slots : List SlotAt) → IsPage slots → bytes_at prefix number ≢ Some (page_bytes slots)) → ⊥
   own_refused fault = fault (page_of H es (bits_of_bytes prefix)) own_is_page own_bytes
 
   pub own_page : {page : List SlotAt} → IsPage page → IfSome (bytes_at prefix number) (λ known. known ≡ page_bytes page)
       → page ≡ page_of H es (bits_of_bytes prefix)
-  own_page {page} is at = one_page page (page_of H es (bits_of_bytes prefix)) is own_is_page (sym (rw own_bytes at at))
+  own_page {page} is at = one_page page _ is own_is_page (sym (rw own_bytes at at))
 
   pub own_digest : {page : List SlotAt} → IsPage page
       → IfSome (bytes_at prefix number) (λ known. known ≡ page_bytes page) → page_digest H (length prefix) page ≡ digest
-  own_digest is at = ap (page_digest H (length prefix)) (own_page is at) ∙ page_at_bytes H es prefix lt
-      ∙ sym own.is_digest
+  own_digest is at = rw (own_page is at) (page_at_bytes H es prefix lt
+      ∙ sym own.is_digest)
 
 pub own_end : {H : List ℕ → List ℕ} {bytes_at : List ℕ → ℕ → Option (List ℕ)} {prefix digest : List ℕ} {number : ℕ}
     {es : List (List ℕ × List ℕ)} → IsOwnFrom H bytes_at prefix number digest es → length prefix ≡ 32 → ⊥
 own_end {H} {bytes_at} {prefix} {digest} {number} {es} own full =
-    no_way H bytes_at prefix digest (length prefix) number es full record {
+    no_way H bytes_at prefix digest _ number es full record {
       pages = own.pages;
       fits = own.fits;
       is_there = own.is_there;
@@ -133,7 +130,7 @@ among : (f : ℕ → Option SlotAt) → ((s : ℕ) (y : SlotAt) → f s ≡ Some
     → IsAmong f (first + n) x
 unfolding numbers
 among f byte first zero i x lt e = absurd (omega arith)
-among f byte first (suc n) i x lt e = by_first (f first) refl i lt e (λ j. among f byte (first + 1) n j x)
+among f byte first (suc n) i x lt e = by_first _ refl i lt e (λ j. among f byte (first + 1) n j x)
   where
     slots : List SlotAt
     slots = filter_map f (numbers (first + 1) n)
@@ -158,13 +155,13 @@ pub own_slot : {H : List ℕ → List ℕ} {bytes_at : List ℕ → ℕ → Opti
 unfolding page_of
 own_slot {H} {prefix = prefix} {es = es} own same i x lt e =
     let p : List Bool = bits_of_bytes prefix in
-    let found = among (slot_of H es p) (λ s y is. slot_is p s y is) 0 256 i x
-    (let P : List SlotAt → Type 0 = λ xs. i < length xs in subst P same lt) (e ∙ ap (λ xs. get_or xs i x) same) in
+    let found = among _ (λ s y is. slot_is p s y is) 0 256 i x
+    (rw same at lt) (e ∙ ap (λ xs. get_or xs i x) same) in
     record {
       pages = own.pages;
       fits = own.fits;
       are_bytes = own.are_bytes;
-      is_byte = (let low = found.0 in omega arith);
+      is_byte = omega arith;
       is_slot = found.1;
     }
   where
@@ -178,14 +175,14 @@ pub own_below : {H : List ℕ → List ℕ} {bytes_at : List ℕ → ℕ → Opt
 own_below {H} {prefix = prefix} {longer = longer} {x = x} {es = es} own e none =
     let p : List Bool = bits_of_bytes prefix in
     let slot = own_slot_is H es p x.byte x own.is_slot in
-    let bits : bits_of_bytes longer ≡ p ++ byte_bits x.byte = ap bits_of_bytes e ∙ bits-more prefix x.byte in
+    let bits : bits_of_bytes longer ≡ p ++ byte_bits x.byte = rw e (bits-more prefix x.byte) in
     let height : 256 - length (p ++ byte_bits x.byte) ≡ 256 - 8 * length longer =
     (let n = ap length bits in let m = length-bits longer in omega arith) in record {
       pages = own.pages;
       fits = own.fits;
       are_bytes = rw e (All-append IsByte prefix (x.byte ∷ []) own.are_bytes (All-cons IsByte x.byte [] own.is_byte
           (λ i d lt. absurd (omega arith))));
-      is_there = ap (stands H es) bits ∙ slot.page none;
+      is_there = rw bits (slot.page none);
       is_version = slot.version ∙ ap (version H es) (sym bits);
       is_digest = slot.digest ∙ (λ i. root_of_levels H (height i) (below (map_of H es) (sym bits i)));
     }
@@ -194,11 +191,11 @@ own_below {H} {prefix = prefix} {longer = longer} {x = x} {es = es} own e none =
 lone_digest : (H : List ℕ → List ℕ) → GivesHashes H → (es : List (List ℕ × List ℕ)) (p : List Bool) (s : ℕ)
     (last : Option (List ℕ × List ℕ)) (x : SlotAt) (lone : List ℕ × List ℕ) → slot_over H es p s last ≡ Some x
     → x.lone ≡ Some lone → IsDigest lone.0
-lone_digest H gives es p s None x lone h is = absurd (cc)
+lone_digest H gives es p s None x lone h is = absurd cc
 lone_digest H gives es p s (Some e) x lone h is =
     let found = lone_of (is_lone H es p e) (H e.0, leaf_digest H e.1) lone
     (ap (λ (y : SlotAt). y.lone) (some_same h) ∙ is) in
-    subst IsDigest (ap (λ (l : List ℕ × List ℕ). l.0) found.1) (gives e.0)
+    rw (ap (λ (l : List ℕ × List ℕ). l.0) found.1) at (gives e.0)
 
 held_alone : (lone : List ℕ × List ℕ) (b : Bool) → cond b (Some lone.1) None
     ≡ option_map (λ (l : List ℕ × List ℕ). l.1) (cond b (Some lone) None)
@@ -234,9 +231,9 @@ own_lone {H} {prefix = prefix} {x = x} {lone = lone} {es = es} gives own lt is =
         let slot = own_lone_over H es p x.byte last x lone refl own.is_slot is in
         let all = is_digest.has_32 in
         let depth = length prefix + 1 in
-        let front = (same_parts p slot.alone.rest (bits_from lone.0 0 (8 * depth)) (last_bits lone.0 (256 - 8 * depth))
-        (ap length (sym bits) ∙ length-bits longer ∙ ap (λ n. 8 * n) size ∙ sym (length-bits_from lone.0 0 (8 * depth)))
-        (sym slot.alone.begins ∙ key_at lone.0 (8 * depth) (omega arith))).0 in
+        let front = (same_parts p slot.alone.rest _ _
+        (ap length (sym bits) ∙ length-bits longer ∙ ap (λ n. 8 * n) size ∙ sym (length-bits_from lone.0 0 _))
+        (sym slot.alone.begins ∙ key_at lone.0 _ (omega arith))).0 in
         let taken : length (take depth lone.0) ≡ length longer = omega (arith, size, length-take depth lone.0) in
         same_bytes (take depth lone.0) longer (All-take IsByte depth lone.0 is_digest.are_bytes)
         (All-append IsByte prefix (x.byte ∷ []) own.are_bytes (All-cons IsByte x.byte [] own.is_byte
@@ -247,10 +244,7 @@ own_lone {H} {prefix = prefix} {x = x} {lone = lone} {es = es} gives own lt is =
     digest =
         let height : 256 - length p ≡ slot_height (length prefix) =
         (let n = ap length bits in let m = length-bits longer in omega (arith, size)) in
-        (own_slot_is H es (bits_of_bytes prefix) x.byte x own.is_slot).digest
-        ∙ ap (λ k. root_of_levels H k (below (map_of H es) p)) height
-        ∙ root-same H (slot_height (length prefix)) (below (map_of H es) p)
-        (λ q. held_by (lone ∷ []) (bits_of_bytes longer ++ q))
-        (λ q. lone_over H es p x.byte last x lone.0 lone.1 refl own.is_slot is q
-        ∙ held_alone lone (same_bits (p ++ q) (last_bits lone.0 256))
+        (own_slot_is H es _ x.byte x own.is_slot).digest ∙ ap (λ k. root_of_levels H k (below (map_of H es) p)) height
+        ∙ root-same H _ (below _ p) (λ q. held_by (lone ∷ []) (bits_of_bytes longer ++ q))
+        (λ q. lone_over H es p x.byte last x lone.0 lone.1 refl own.is_slot is q ∙ held_alone lone _
         ∙ ap (λ t. held_by (lone ∷ []) (t ++ q)) (sym bits))

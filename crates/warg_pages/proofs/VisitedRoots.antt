@@ -7,7 +7,6 @@ use Rattle.std.proofs.lemmas.Grind.{flat_map-append}
 use Rattle.std.proofs.lemmas.List.{take-append-drop, append_cancel_left}
 use Rattle.std.proofs.lemmas.Bool.Decides.{eqb_tells}
 use Rattle.std.proofs.Math.Seq.{take-append_seam}
-use Rattle.std.specs.Prelude.{find}
 use Rattle.std.specs.List.{All, Contains, filter, filter_map, cons_option}
 use Rattle.std.specs.Option.{option_or, option_map, is_some}
 use Rattle.warg_crypto.specs.Digests.{IsDigest}
@@ -15,7 +14,7 @@ use Rattle.warg_map.specs.Bits.{bits_from, last_bits}
 use Rattle.warg_map.specs.Last.{same_bits}
 use Rattle.warg_map.specs.Sparse.{root_of_levels}
 use Rattle.warg_map.proofs.ForCallers.{same_bits-true}
-use Rattle.warg_pages.specs.Prefixes.{bits_of_bytes, byte_bits}
+use Rattle.warg_pages.specs.Prefixes.{bits_of_bytes}
 use Rattle.warg_pages.specs.Slots.{SlotAt, IsSlot, IsPage, Ascends}
 use Rattle.warg_pages.specs.Pages.{digest_at, slot_height, page_digest}
 use Rattle.warg_pages.specs.ChangedPages.{ChangedPageAt}
@@ -45,15 +44,12 @@ held_among-append : (xs ys : List SlotAt) (bits : List Bool)
     → held_among (xs ++ ys) bits ≡ option_or (held_among xs bits) (held_among ys bits)
 held_among-append xs ys bits =
     let found = λ (l : List ℕ × List ℕ). same_bits bits (last_bits l.0 256) in
-    ap (λ ls. held_by ls bits) (filter_map-append (λ (x : SlotAt). x.lone) xs ys)
-    ∙ ap (option_map (λ (l : List ℕ × List ℕ). l.1)) (find-append found (filter_map (λ (x : SlotAt). x.lone) xs)
-    (filter_map (λ (x : SlotAt). x.lone) ys))
-    ∙ either_map (find found (filter_map (λ (x : SlotAt). x.lone) xs))
-    (find found (filter_map (λ (x : SlotAt). x.lone) ys))
+    rw (filter_map-append _ xs ys)
+    (ap (option_map (λ (l : List ℕ × List ℕ). l.1)) (find-append found _ _) ∙ either_map _ _)
 
 both_none : (a b : Option (List ℕ)) → option_or a b ≡ None → (a ≡ None) × (b ≡ None)
 both_none None b e = (refl, e)
-both_none (Some x) b e = absurd (cc)
+both_none (Some x) b e = absurd cc
 
 or_none : (a : Option (List ℕ)) → option_or a None ≡ a
 or_none None = refl
@@ -82,7 +78,7 @@ one_in_kept false y ys xs x in_xs h = later_among y xs x (in_xs h)
 
 pub in_kept : (xs : List SlotAt) (x : SlotAt) → Contains (with_lone xs) x → Contains xs x
 in_kept [] x h = h
-in_kept (y ∷ xs) x h = one_in_kept (is_some y.lone) y (with_lone xs) xs x (in_kept xs x) h
+in_kept (y ∷ xs) x h = one_in_kept _ y (with_lone xs) xs x (in_kept xs x) h
 
 -- the lone keys of slots begin with bytes
 abbrev pub BeginWith : List ℕ → List SlotAt → Type 0
@@ -124,12 +120,11 @@ other_bits : (prefix : List ℕ) (s t : ℕ) (k : List ℕ) (r : List Bool) → 
 other_bits prefix s t k r short low lt is n e = false_from_ne_true _ (λ same. n (byte (same_bits-true _ _ same)))
   where
     size : length prefix + 1 ≤ length k
-    size = let has = is.has_32 in omega arith
+    size = omega arith
 
     key : last_bits k 256 ≡ bits_of_bytes (prefix ++ t ∷ []) ++ last_bits k (256 - 8 * (length prefix + 1))
-    key = key_at k (8 * (length prefix + 1)) (omega arith)
-        ∙ ap (λ p. p ++ last_bits k (256 - 8 * (length prefix + 1))) (sym (bits_of_taken k (length prefix + 1) size)
-        ∙ ap bits_of_bytes e)
+    key = key_at k _ (omega arith)
+        ∙ ap (λ p. p ++ last_bits k (256 - 8 * (length prefix + 1))) (sym (bits_of_taken k _ size) ∙ ap bits_of_bytes e)
 
     byte : bits_of_bytes (prefix ++ s ∷ []) ++ r ≡ last_bits k 256 → t ≡ s
     byte same =
@@ -137,9 +132,8 @@ other_bits prefix s t k r short low lt is n e = false_from_ne_true _ (λ same. n
         length-bits (prefix ++ s ∷ []) ∙ ap (λ n. 8 * n) (length-append prefix (s ∷ [])
         ∙ sym (length-append prefix (t ∷ [])))
         ∙ sym (length-bits (prefix ++ t ∷ [])) in
-        let first = (same_parts (bits_of_bytes (prefix ++ s ∷ [])) r (bits_of_bytes (prefix ++ t ∷ []))
-        (last_bits k (256 - 8 * (length prefix + 1))) sizes (same ∙ key)).0 in
-        let bits = (same_parts (bits_of_bytes prefix) (byte_bits s) (bits_of_bytes prefix) (byte_bits t) refl
+        let first = (same_parts _ r _ _ sizes (same ∙ key)).0 in
+        let bits = (same_parts (bits_of_bytes prefix) _ _ _ refl
         (sym (bits-more prefix s) ∙ first ∙ bits-more prefix t)).1 in
         sym (number-byte_bits t lt) ∙ ap number (sym bits) ∙ number-byte_bits s low
 
@@ -310,9 +304,9 @@ module _ (H : List ℕ → List ℕ) (AreFrom : List ℕ → ℕ → List ℕ �
   slots_held n (x ∷ xs) pages short ascend are low below h =
       let is : IsSlot x = All-head IsSlot x xs are in
       let at : n ≤ x.byte = All-head (λ (y : SlotAt). n ≤ y.byte) x xs low in
-      let split : lone_slots pages ≡ lone_slots h.0 ++ lone_slots h.1 = ap lone_slots h.2
-      ∙ flat_map-append (λ (p : ChangedPageAt). with_lone p.page) h.0 h.1 in
-      rw split (one_more_slot H prefix n x xs (lone_slots h.0) (lone_slots h.1) short at is.is_byte
+      let split : lone_slots pages ≡ lone_slots h.0 ++ lone_slots h.1 = rw h.2
+      (flat_map-append (λ (p : ChangedPageAt). with_lone p.page) h.0 h.1) in
+      rw split (one_more_slot H prefix n x xs _ _ short at is.is_byte
       (slot_held x x.lone h.0 refl is (below x.byte) h.3)
       (slots_held (x.byte + 1) xs h.1 short
       (λ i j d lt within. ascend (suc i) (suc j) d (omega arith) (omega arith)) (All-tail IsSlot x xs are)
@@ -329,9 +323,8 @@ in_page slots ys y h = elim (Contains-append_cases (with_lone slots) ys y h) [
 -- a shorter prefix
 begin_shorter : (prefix k : List ℕ) (t : ℕ) → take (length prefix + 1) k ≡ prefix ++ t ∷ []
     → take (length prefix) k ≡ prefix
-begin_shorter prefix k t e = ap (take (length prefix)) (sym (take-append-drop (length prefix + 1) k)
-    ∙ ap (λ z. z ++ drop (length prefix + 1) k) e ∙ append_assoc prefix (t ∷ []) (drop (length prefix + 1) k))
-    ∙ take-append_seam prefix (t ∷ drop (length prefix + 1) k)
+begin_shorter prefix k t e = rw (sym (take-append-drop _ k)
+    ∙ ap (λ z. z ++ drop (length prefix + 1) k) e ∙ append_assoc prefix _ _) (take-append_seam prefix _)
 
 -- the page at a prefix
 page_held : (H : List ℕ → List ℕ) (prefix : List ℕ) (version : ℕ) (slots : List SlotAt) (below : List ChangedPageAt)
@@ -339,14 +332,13 @@ page_held : (H : List ℕ → List ℕ) (prefix : List ℕ) (version : ℕ) (slo
     → IsHeldBelow H prefix (page_digest H (length prefix) slots) (256 - 8 * length prefix)
     (lone_slots (record { prefix = prefix; version = version; page = slots } ∷ below))
 page_held H prefix version slots below short held = record {
-  begin = λ y l c e. (let at = held.begin y l (in_page slots (lone_slots below) y c) e in
+  begin = λ y l c e. (let at = held.begin y l (in_page slots _ y c) e in
       (at.3, begin_shorter prefix l.0 at.0 at.4));
-  root = root_over-below H (slot_height (length prefix)) 8 0 (digest_at H (slot_height (length prefix)) slots)
-      (λ r. held_among (with_lone slots ++ lone_slots below) (bits_of_bytes prefix ++ r)) at_byte
+  root = root_over-below H _ 8 0 _ (λ r. held_among (with_lone slots ++ lone_slots below) (bits_of_bytes prefix ++ r))
+      at_byte
       ∙ ap (λ k. root_of_levels H k (λ r. held_among (with_lone slots ++ lone_slots below) (bits_of_bytes prefix ++ r)))
       height;
-  apart = λ y z k l m c d is_y is_z. held.apart y z k l m (in_page slots (lone_slots below) y c) (in_page slots
-      (lone_slots below) z d) is_y is_z;
+  apart = λ y z k l m c d is_y is_z. held.apart y z k l m (in_page slots _ y c) (in_page slots _ z d) is_y is_z;
 }
   where
     height : 8 + slot_height (length prefix) ≡ 256 - 8 * length prefix
@@ -354,15 +346,14 @@ page_held H prefix version slots below short held = record {
 
     kept : (bits : List Bool) → held_among (slots ++ lone_slots below) bits
         ≡ held_among (with_lone slots ++ lone_slots below) bits
-    kept bits = ap (λ l. held_by l bits) (filter_map-append (λ (x : SlotAt). x.lone) slots (lone_slots below)
+    kept bits = ap (λ l. held_by l bits) (filter_map-append _ slots _
         ∙ ap (λ l. l ++ filter_map (λ x. x.lone) (lone_slots below)) (sym (kept_lones slots))
-        ∙ sym (filter_map-append (λ (x : SlotAt). x.lone) (with_lone slots) (lone_slots below)))
+        ∙ sym (filter_map-append _ (with_lone slots) _))
 
     bits_at : (q r : List Bool) → length q ≡ 8
         → bits_of_bytes (prefix ++ number q ∷ []) ++ r ≡ bits_of_bytes prefix ++ (q ++ r)
-    bits_at q r m = ap (λ b. b ++ r) (bits-more prefix (number q)
-        ∙ ap (λ b. bits_of_bytes prefix ++ b) (byte_bits-number q m))
-        ∙ append_assoc (bits_of_bytes prefix) q r
+    bits_at q r m = ap (λ b. b ++ r) (bits-more prefix _ ∙ ap (λ b. bits_of_bytes prefix ++ b) (byte_bits-number q m))
+        ∙ append_assoc _ q r
 
     at_byte : (q : List Bool) → length q ≡ 8 → digest_at H (slot_height (length prefix)) slots (0 + number q)
         ≡ root_of_levels H (slot_height (length prefix))
@@ -370,8 +361,8 @@ page_held H prefix version slots below short held = record {
     at_byte q m =
         let at : 0 + number q ≡ number q = omega arith in
         let low : number q < 256 = rw m at (number_below q) in
-        rw at (held.root (number q) low ∙ root-same H (slot_height (length prefix)) _ _
-        (λ r. ap (held_among (slots ++ lone_slots below)) (bits_at q r m) ∙ kept (bits_of_bytes prefix ++ (q ++ r))))
+        rw at (held.root _ low ∙ root-same H _ _ _
+        (λ r. ap (held_among (slots ++ lone_slots below)) (bits_at q r m) ∙ kept _))
 
 -- the pages from a prefix on
 abbrev pub AreHeldAfter : (List ℕ → List ℕ) → (List ℕ → ℕ → List SlotAt → Type 0) → ℕ → Type 0
@@ -388,7 +379,7 @@ pub longer_held : (H : List ℕ → List ℕ) (IsThere : List ℕ → ℕ → Li
 longer_held H IsThere n prefix size held byte version digest pages from =
     let longer = length-append prefix (byte ∷ []) in
     let height : 256 - 8 * length (prefix ++ byte ∷ []) ≡ 248 - 8 * length prefix = omega arith in
-    rw height at (held (prefix ++ byte ∷ []) version digest pages (omega arith) from)
+    rw height at (held _ version digest pages (omega arith) from)
 
 pub pages_held : (H : List ℕ → List ℕ) (IsThere : List ℕ → ℕ → List SlotAt → Type 0) (n : ℕ) → AreHeldAfter H IsThere n
 unfolding AreFromWhere
@@ -407,21 +398,21 @@ pub root_of_pages : (H : List ℕ → List ℕ) (IsThere : List ℕ → ℕ → 
 unfolding bits_from
 root_of_pages H IsThere root zero all h = h.1 ∙ sym (root-nothing H 256)
     ∙ ap (λ p. root_of_levels H 256 (held_by (lone_keys p))) (sym h.0)
-root_of_pages H IsThere root (suc last) all h = (pages_held H IsThere 32 [] (suc last) root all refl h).root
+root_of_pages H IsThere root (suc last) all h = (pages_held H IsThere 32 [] _ root all refl h).root
 
 -- the lone keys of pages are digests
 pub lone_digests : (H : List ℕ → List ℕ) (IsThere : List ℕ → ℕ → List SlotAt → Type 0) (root : List ℕ) (version : ℕ)
     (all : List ChangedPageAt) → AreAllPages H IsThere root version all → (x : SlotAt) (l : List ℕ × List ℕ)
     → Contains (lone_slots all) x → x.lone ≡ Some l → IsDigest l.0
 lone_digests H IsThere root zero all h = λ x l c e. absurd (let size = ap (λ p. length (lone_slots p)) h.0 in
-    let lt = c.1 in omega arith)
+    omega arith)
 lone_digests H IsThere root (suc last) all h = λ x l c e.
-    ((pages_held H IsThere 32 [] (suc last) root all refl h).begin x l c e).0
+    ((pages_held H IsThere 32 [] _ root all refl h).begin x l c e).0
 
 -- no two lone keys of pages have one digest
 pub lone_apart : (H : List ℕ → List ℕ) (IsThere : List ℕ → ℕ → List SlotAt → Type 0) (root : List ℕ) (version : ℕ)
     (all : List ChangedPageAt) → AreAllPages H IsThere root version all → AreApart (lone_slots all)
 lone_apart H IsThere root zero all h = λ x y k l m at other is are. absurd (let size = ap (λ p. length
     (lone_slots p)) h.0 in
-    let lt = at.1 in omega arith)
-lone_apart H IsThere root (suc last) all h = (pages_held H IsThere 32 [] (suc last) root all refl h).apart
+    omega arith)
+lone_apart H IsThere root _ all h = (pages_held H IsThere 32 [] _ root all refl h).apart

@@ -8,9 +8,9 @@ use Rattle.std.specs.List.{All, filter, cons_option}
 use Rattle.warg_crypto.specs.Digests.{IsByte}
 use Rattle.warg_crypto.specs.Collisions.{GivesHashes}
 use Rattle.warg_map.specs.Last.{last_with}
-use Rattle.warg_pages.specs.Prefixes.{is_below, bits_of_bytes, last_place}
+use Rattle.warg_pages.specs.Prefixes.{is_below, bits_of_bytes}
 use Rattle.warg_pages.specs.Slots.{SlotAt}
-use Rattle.warg_pages.specs.Pages.{slot_height, slot_at, page_digest}
+use Rattle.warg_pages.specs.Pages.{slot_height, slot_at}
 use Rattle.warg_pages.specs.ChangedPages.{StoodAt, ChangesWhatStood}
 use Rattle.warg_pages.specs.ChangedPages.StoodAt.{below}
 use Rattle.warg_pages.specs.Private.Updates.{ChangeAt, changes_below, goes_to, slot_digest, AreChangesAt, IsNamedAt}
@@ -35,17 +35,16 @@ pub none_changes : (H : List ℕ → List ℕ) → GivesHashes H → (prefix : L
     ≡ None → filter (goes_to (length prefix) byte) changes ≡ []
 none_changes H gives prefix changes byte count more short lt are none =
     let next = changes_next H gives prefix changes byte count more short lt are.are_changes in
-    next ∙ last_of-none (changes_below H count more (bits_of_bytes (prefix ++ byte ∷ [])))
-    (last_change H (bits_of_bytes (prefix ++ byte ∷ [])) count more
-    ∙ ap (option_map (put_by H (count + last_place (is_below H (bits_of_bytes (prefix ++ byte ∷ []))) more))) none)
+    next ∙ last_of-none (changes_below H count more (bits_of_bytes (prefix ++ byte ∷ []))) (last_change H _ count more
+    ∙ ap (option_map (put_by H _)) none)
 
 -- what a slot names
 pub named_next : (H : List ℕ → List ℕ) (root prefix : List ℕ) (above : List SlotAt) (byte : ℕ)
     → StoodAt H root prefix above → IsNamedAt H root (prefix ++ byte ∷ [])
     (slot_digest H (length prefix) (slot_at above byte))
 named_next H root prefix above byte stood = λ slots e.
-    below prefix above slots byte stood (ap (λ n. page_digest H n slots) (sym (length-append prefix (byte ∷ []))) ∙ e
-    ∙ as_digest (slot_at above byte) ∙ sym (digest_at-slot H (slot_height (length prefix)) above byte))
+    below prefix above slots byte stood (rw (← length-append prefix (byte ∷ [])) (e
+    ∙ as_digest (slot_at above byte) ∙ sym (digest_at-slot H (slot_height (length prefix)) above byte)))
   where
     as_digest : (o : Option SlotAt) → slot_digest H (length prefix) o ≡ digest_of H (slot_height (length prefix)) o
     as_digest None = refl

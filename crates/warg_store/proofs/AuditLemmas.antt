@@ -1,12 +1,13 @@
 -- Logs that stand for the leaf digests of some entries.
-use Rattle.std.proofs.Common.{◌≡◌, ℕ, List, [], ◌∷◌, ◌++◌, length, map, take, get_or, append_assoc, sym, ap, ◌∙◌, subst, ◌+◌, ◌<◌, Result, Ok, Err}
+use Rattle.std.proofs.Common.{◌≡◌, ℕ, List, [], ◌∷◌, ◌++◌, length, map, take, get_or, append_assoc, sym, ◌∙◌, ◌+◌, ◌<◌, Result, Ok, Err}
 use Rattle.std.specs.Result.{OnOk}
 use Rattle.std.specs.Prelude.{IfOk}
-use Rattle.std.proofs.lemmas.List.{map-append, length-map, take_more}
+use Rattle.std.proofs.lemmas.List.{map-append, length-map}
 use Rattle.warg_crypto.specs.Digests.{sha256}
 use Rattle.warg_log.specs.Claims.{RootAndLength}
 use Rattle.warg_log.specs.Tree.{root_of, leaves_of}
 use Rattle.warg_tiles.specs.TileLog.{RightEdge, StandsFor}
+use Rattle.warg_store.proofs.ListLemmas.{next_mapped}
 use Rattle.warg_store.specs.Audited.{HasEntries, IsOfEntries}
 
 -- a fact holds where a call is done, too
@@ -30,9 +31,8 @@ pub one_more : (old new : RightEdge) (entry : List ℕ)
     → ((ds : List (List ℕ)) → StandsFor sha256 old ds → StandsFor sha256 new (ds ++ sha256 (0 ∷ entry) ∷ []))
     → (es : List (List ℕ)) → StandsFor sha256 old (leaves_of sha256 es)
     → StandsFor sha256 new (leaves_of sha256 (es ++ entry ∷ []))
-one_more old new entry stands es was = subst (StandsFor sha256 new)
-    (sym (map-append (λ (e : List ℕ). sha256 (0 ∷ e)) es (entry ∷ [])))
-    (stands (leaves_of sha256 es) was)
+one_more old new entry stands es was =
+    rw (map-append (λ (e : List ℕ). sha256 (0 ∷ e)) es (entry ∷ [])) (stands (leaves_of sha256 es) was)
 
 -- So do the entries of a list, one after the other.
 pub next_more : {X : Type 0} (entry_of : X → List ℕ) (first old new : RightEdge) (xs : List X) (i : ℕ) (x : X)
@@ -44,11 +44,7 @@ pub next_more : {X : Type 0} (entry_of : X → List ℕ) (first old new : RightE
     → (es : List (List ℕ)) → StandsFor sha256 first (leaves_of sha256 es)
     → StandsFor sha256 new (leaves_of sha256 (es ++ map entry_of (take (i + 1) xs)))
 next_more {X = X} entry_of first old new xs i x below is so_far more es was =
-    let all : es ++ map entry_of (take (i + 1) xs) ≡ (es ++ map entry_of (take i xs)) ++ entry_of x ∷ [] =
-    ap (λ (l : List X). es ++ map entry_of l) (take_more xs i x below ∙ ap (λ (y : X). take i xs ++ y ∷ []) (sym is))
-    ∙ ap (λ (l : List (List ℕ)). es ++ l) (map-append entry_of (take i xs) (x ∷ []))
-    ∙ sym (append_assoc es (map entry_of (take i xs)) (entry_of x ∷ [])) in
-    subst (λ (l : List (List ℕ)). StandsFor sha256 new (leaves_of sha256 l)) (sym all)
+    rw (next_mapped entry_of xs i x below is, ← append_assoc es (map entry_of (take i xs)) (entry_of x ∷ []))
     (more (es ++ map entry_of (take i xs)) (so_far es was))
 
 -- The checkpoint of a log of entries is theirs.

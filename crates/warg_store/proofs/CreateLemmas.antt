@@ -1,13 +1,10 @@
 -- A log of no entries, made in a folder that has none.
-use Rattle.std.proofs.Common.{◌≡◌, ◌≢◌, ℕ, ◌/◌, ◌^◌, ◌*◌, List, [], drop, map, Option, Some, None, IsSome, true, false, if◌then◌else◌, refl, sym, ap, subst, ◌∙◌, arith, string_bytes}
+use Rattle.std.proofs.Common.{◌≡◌, ◌≢◌, ℕ, List, [], map, Option, Some, None, IsSome, true, false, if◌then◌else◌, refl, sym, ap, ◌∙◌, arith, string_bytes}
 use Rattle.std.specs.List.{All, Contains}
 use Rattle.std.proofs.lemmas.List.Elements.{All-contains, All-map}
-use Rattle.std.proofs.Math.Nat.{zero-div}
 use Rattle.std.specs.declared.string.String.{String}
 use Rattle.std.specs.declared.alloc.Global.{Global}
 use Rattle.warg_crypto.specs.Digests.{sha256}
-use Rattle.warg_tiles.specs.Tiles.{TileAt}
-use Rattle.warg_tiles.specs.Between.{IsTileOf}
 use Rattle.warg_tiles.specs.TileLog.{RightEdge, StandsFor}
 use Rattle.warg_tiles.specs.EntryBundles.{bundle_of}
 use Rattle.warg_folder.specs.Files.{File, Files, put}
@@ -18,15 +15,15 @@ use Rattle.warg_store.specs.Opening.{HasNoLogFile}
 use Rattle.warg_store.specs.Log.{CanBeKept, said_of, checkpoint_of, Keeps, HasFiles, no_entries_with}
 use Rattle.warg_store.specs.Growing.{Has}
 use Rattle.warg_folder.proofs.ForCallers.{put_here, unsigned_is, without_at, told_checkpoint, unmarked}
-use Rattle.warg_store.proofs.LeadLemmas.{extends_self, own_pages}
-use Rattle.warg_store.proofs.GrowingLemmas.{none_some}
+use Rattle.warg_store.proofs.LeadLemmas.{no_tile, extends_self, own_pages}
+use Rattle.warg_store.proofs.GrowingLemmas.{none_staged}
 
 -- a folder without files of a log, once a crash leaves what is seen
 pub settled : (before mid now : Files) (may : Files → Type 0) → HasNoLogFile before → mid ≡ before → now ≡ mid
     → Only mid may → IsStaging now may
 settled before mid now may fresh same kept only c left = record {
-  outside = λ n isnt. ap (λ (f : Files). f n) (only c left ∙ sym kept);
-  no_mark = ap (λ (f : Files). f mark) (only c left ∙ same) ∙ fresh mark refl;
+  outside = λ n isnt. rw (only c left, kept) refl;
+  no_mark = rw (only c left, same) (fresh mark refl);
 }
 
 -- a name that is listed nowhere has no file
@@ -39,15 +36,9 @@ absent s names n listed others = at (s n) refl
     at None e = e
     at (Some bytes) e =
         absurd (All-contains (λ m. m ≢ n) (map (λ name. string_bytes name) names) n
-        (All-map (λ m. m ≢ n) (λ name. string_bytes name) names others) (listed n (subst IsSome (sym e) refl)) refl)
+        (All-map (λ m. m ≢ n) (λ name. string_bytes name) names others) (listed n (rw e refl)) refl)
 
--- it has no tile
-pub no_tile : (t : TileAt) → IsTileOf 0 t → ⊥
-no_tile t is =
-    let none : 0 / 2 ^ (8 * t.level) ≡ 0 = zero-div (2 ^ (8 * t.level)) in
-    omega (arith, is.some, is.width, none)
-
--- and no page
+-- it has no page
 no_page : {P : Type 0} (origin : List ℕ) (lines : List (List ℕ)) (f : File)
     → Contains (no_entries_with origin lines).pages f → P
 no_page origin lines f (k, low, is) = absurd (omega arith)
@@ -122,12 +113,8 @@ has_none seen may_leave origin lines folder edge is stands keeps nothing staging
       order = omega (arith, len, taken);
       held = omega (arith, len, taken);
       most = omega arith;
-      bundle = subst (λ n. [] ≡ bundle_of (drop (256 * (n / 256)) [])) (sym taken) refl;
-      staged = record {
-        tile = λ t low new. absurd (no_tile t (subst (λ n. IsTileOf n t) taken new.exists));
-        bundle = λ t level new. absurd (no_tile t (subst (λ n. IsTileOf n t) taken new.exists));
-        nothing_else = λ n served some. absurd (none_some (seen folder (staged n)) (nothing (staged n) refl) some);
-      };
-      pages = own_pages [] [] (seen folder) (λ path. nothing (staged (page_name path)) refl);
+      bundle = rw taken refl;
+      staged = none_staged (no_entries_with origin lines) (seen folder) taken nothing;
+      pages = own_pages (λ path. nothing (staged (page_name path)) refl);
       staging = staging;
     }

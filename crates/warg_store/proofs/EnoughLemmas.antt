@@ -1,9 +1,9 @@
 -- The tiles that a path needs were read, and what is made of them leads to the log's root.
-use Rattle.std.proofs.Common.{◌≡◌, ℕ, ◌+◌, ◌-◌, ◌*◌, ◌^◌, ◌<◌, ◌≤◌, ◌||◌, Bool, true, false, cond, List, [], ◌∷◌, ◌++◌, length, map, take, drop, get_or, slice_index_or, Option, Some, None, IsSome, Result, Ok, Err, refl, sym, ap, ◌∙◌, arith}
+use Rattle.std.proofs.Common.{◌≡◌, ℕ, ◌+◌, ◌-◌, ◌*◌, ◌^◌, ◌<◌, ◌≤◌, ◌||◌, Bool, true, false, cond, List, [], ◌∷◌, ◌++◌, length, take, drop, get_or, slice_index_or, Option, Some, None, IsSome, Result, Ok, Err, refl, sym, ap, ◌∙◌, arith}
 use Rattle.std.specs.Prelude.{OnOk, IfErr}
 use Rattle.std.specs.List.{AllByRecursion, slice_get}
 use Rattle.std.proofs.lemmas.Bool.{le-leb}
-use Rattle.std.proofs.lemmas.List.{take_all, take_more, map-append, length-map, get_or-map, get_or-drop, get_or-take}
+use Rattle.std.proofs.lemmas.List.{take_all, map-append, length-map, get_or-map, get_or-drop, get_or-take}
 use Rattle.std.proofs.lemmas.List.Folds.{list_any-append}
 use Rattle.std.proofs.lemmas.Option.{slice_get_within, get_or_from_slice_get}
 use Rattle.warg_crypto.specs.Digests.{sha256}
@@ -25,10 +25,10 @@ use Rattle.warg_tiles.proofs.ForCallers.{digest_by_own, tile_own, covered_gives,
 use Rattle.warg_store.specs.Log.{LogOf, IsBundleIn}
 use Rattle.warg_store.specs.Reading.{inclusion_in, consistency_in}
 use Rattle.warg_store.specs.Private.Fetched.{AreOwn, GivesMore}
-use Rattle.warg_store.proofs.LeadLemmas.{end_inside}
-
-abbrev tiles_of : Tiles → List TileAt
-tiles_of tiles = map (λ t. t.0) tiles
+use Rattle.warg_store.proofs.ListLemmas.{next_taken}
+use Rattle.warg_store.proofs.OptionLemmas.{one_value}
+use Rattle.warg_store.proofs.StagedLemmas.{tiles_of}
+use Rattle.warg_store.proofs.LeadLemmas.{end_inside, bundle_inside}
 
 first_of : (b : Bool) → (b || false) ≡ true → b ≡ true
 first_of true is = refl
@@ -46,14 +46,14 @@ gives_held tiles t covered = record {
 pub gives_added : (tiles : Tiles) (t : TileAt) (digests : List (List ℕ))
     → GivesMore tiles (t ∷ []) (tiles ++ (t, digests) ∷ [])
 gives_added tiles t digests = record {
-  keep = λ x given. ap (λ l. gives l x) whole ∙ list_any-append (λ s. has_below s x) (tiles_of tiles) (t ∷ [])
-      ∙ rw given refl;
-  add = λ x given. ap (λ l. gives l x) whole ∙ list_any-append (λ s. has_below s x) (tiles_of tiles) (t ∷ [])
-      ∙ rw given (or_last (gives (tiles_of tiles) x));
+  keep = λ x given. more x ∙ rw given refl;
+  add = λ x given. more x ∙ rw given (or_last (gives (tiles_of tiles) x));
 }
   where
-    whole : tiles_of (tiles ++ (t, digests) ∷ []) ≡ tiles_of tiles ++ t ∷ []
-    whole = map-append (λ (s : TileAt × List (List ℕ)). s.0) tiles ((t, digests) ∷ [])
+    more : (x : ℕ) → gives (tiles_of (tiles ++ (t, digests) ∷ [])) x
+        ≡ (gives (tiles_of tiles) x || (has_below t x || false))
+    more x = rw (map-append (λ (s : TileAt × List (List ℕ)). s.0) tiles ((t, digests) ∷ []))
+        (list_any-append (λ s. has_below s x) (tiles_of tiles) (t ∷ []))
 
     or_last : (b : Bool) → (b || true) ≡ true
     or_last true = refl
@@ -70,7 +70,7 @@ gives_next old mid new ts i t wide inside is level number more before now = reco
 }
   where
     whole : take (i + 1) ts ≡ take i ts ++ t ∷ []
-    whole = take_more ts i t inside ∙ ap (λ (s : TileAt). take i ts ++ s ∷ []) (sym is)
+    whole = next_taken ts i t inside is
 
     by_first : (x : ℕ) (b : Bool) → gives (take i ts) x ≡ b → (b || (has_below t x || false)) ≡ true
         → gives (tiles_of new) x ≡ true
@@ -104,9 +104,7 @@ own_leaf log index d inside is =
     rw (leaf.0, leaf.1) (ap (λ (b : Bool). cond b (Some (root_over sha256 ds (index * 1) 1)) None)
     (le-leb ((index + 1) * 1) (length ds) (omega (arith, count))) ∙ ap (λ n. Some (root_over sha256 ds n 1))
     (omega arith)) in
-    let both : Some d ≡ Some (root_over sha256 ds index 1) = sym is ∙ found in
-    let same : d ≡ root_over sha256 ds index 1 = cc in
-    same ∙ root_over_one sha256 ds index count
+    one_value is found ∙ root_over_one sha256 ds index count
 
 module _ (log : LogOf) where
   abbrev ds : List (List ℕ)
@@ -166,8 +164,7 @@ tile_leaf log t i is below =
     let all = leaves_of sha256 log.entries in
     let same : length all ≡ length log.entries = length-map log.entries (leaf_digest sha256) in
     let end : tile_end t ≤ length log.entries = end_inside (length log.entries) t is.exists in
-    let one : 2 ^ (8 * t.level) ≡ 1 = ap (λ l. 2 ^ (8 * l)) is.level in
-    let within : 256 * t.number + t.width ≤ length log.entries = omega (arith, rw one at end) in
+    let within = bundle_inside t is.level is.exists in
     let place : ℕ = 256 * t.number + i in
     let node : node_in t i ≡ 2 * place = ap (λ l. 2 * ((256 * t.number + i) * 2 ^ (8 * l)) + 2 ^ (8 * l) - 1) is.level
     ∙ omega arith in

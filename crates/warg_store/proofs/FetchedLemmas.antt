@@ -1,5 +1,5 @@
 -- What is made of a log's own tiles and bundles is the log's.
-use Rattle.std.proofs.Common.{◌≡◌, ℕ, ◌+◌, ◌-◌, ◌*◌, ◌/◌, ◌%◌, ◌^◌, ◌<◌, ◌≤◌, List, [], ◌∷◌, ◌++◌, length, take, drop, min, get_or, Some, sym, ap, subst, ◌∙◌, refl, arith}
+use Rattle.std.proofs.Common.{◌≡◌, ℕ, ◌+◌, ◌-◌, ◌*◌, ◌/◌, ◌%◌, ◌^◌, ◌<◌, ◌≤◌, List, [], ◌∷◌, ◌++◌, length, take, drop, min, get_or, Some, sym, ap, ◌∙◌, refl, arith}
 use Rattle.std.specs.List.{slice_get}
 use Rattle.std.proofs.lemmas.List.{append-nil, take_min, length-map, length-drop, length-take-le, get_or-drop, get_or-take}
 use Rattle.std.proofs.lemmas.Option.{slice_get_within, slice_get-get_or, get_or_from_slice_get}
@@ -18,8 +18,8 @@ use Rattle.warg_tiles.specs.EntryBundles.{bundle_of}
 use Rattle.warg_tiles.proofs.ForCallers.{bundle_once, bundle_same, digest_by_own, low_level, tile_own}
 use Rattle.warg_folder.specs.Files.{Files}
 use Rattle.warg_folder.specs.Moments.{Within}
-use Rattle.warg_store.specs.Log.{LogOf, IsTileIn, IsBundleIn, bundle_bytes, Keeps, ArePagesStaged}
-use Rattle.warg_store.specs.Growing.{LogIn, Has, AreFullStaged}
+use Rattle.warg_store.specs.Log.{LogOf, IsTileIn, IsBundleIn, bundle_bytes}
+use Rattle.warg_store.specs.Growing.{LogIn, Has}
 use Rattle.warg_store.proofs.ReadyRuns.{staging_kept}
 use Rattle.warg_store.specs.Reading.{bundle_in, inclusion_in, consistency_in}
 use Rattle.warg_store.specs.Private.Fetched.{AreOwn}
@@ -37,7 +37,7 @@ own_more log tiles t digests is read own =
     let count : length ds ≡ length log.entries = length-map log.entries (λ (e : List ℕ). sha256 (0 ∷ e)) in
     let fits : tile_end t ≤ length ds = omega (arith, count, end_inside (length log.entries) t is.exists) in
     all_push (λ (u : TileAt × List (List ℕ)). IsTileBy (own_digest sha256 ds) u.0 u.1) tiles (t, digests) own
-    (subst (IsTileBy (own_digest sha256 ds) t) (sym read) (tile_own sha256 ds t fits))
+    (rw read (tile_own sha256 ds t fits))
 
 -- The log's own tiles make its own paths.
 module _ (log : LogOf) (tiles : Tiles) (own : AreOwn log tiles) where
@@ -75,7 +75,7 @@ pub wide_in : (log : LogOf) (n count : ℕ) (t u : TileAt) → length log.entrie
     → u.level ≡ t.level → IsTileOf count u → IsTileIn log u
 wide_in log n count t u is most of level wide = record {
   level = omega (arith, level, low_level n t most of);
-  exists = subst (λ l. IsTileOf l u) (sym is) wide;
+  exists = rw is wide;
 }
 
 -- the tile over an entry's digest alone
@@ -88,8 +88,7 @@ pub leaf_in : (log : LogOf) (index count : ℕ) (t wide : TileAt) → length log
     → ((n : ℕ) → n ≤ count → n ≤ 2 ^ 63 → IsTileOf n t → IsTileOf count wide) → IsTileIn log wide
 leaf_in log index count t wide is small below level number width same of =
     let least : TileAt = record { level = 0; number = index / 256; width = index % 256 + 1 } in
-    let named : IsTileOf (index + 1) t = subst (IsTileOf (index + 1)) (sym (same_tile t least level number width))
-    (leaf_tile index) in
+    let named : IsTileOf (index + 1) t = rw (same_tile t least level number width) (leaf_tile index) in
     let most : index + 1 ≤ 2 ^ 63 = omega (arith, small) in
     let more : index + 1 ≤ count = omega (arith, below) in
     wide_in log (index + 1) count t wide is most named same (of (index + 1) more most named)
@@ -105,7 +104,7 @@ pub entry_tile : (log : LogOf) (t : TileAt) (index count : ℕ) → length log.e
     → t ≡ filled 0 count (index / 256) → IsEntryTile log t index
 entry_tile log t index count is below tile =
     let nodes : length log.entries / 1 ≡ count = div-one (length log.entries) ∙ is in
-    subst (λ u. IsEntryTile log u index) (sym tile) (record {
+    rw tile (record {
       is_in = record { level = refl; exists = record { some = omega (arith, below); width = omega (arith, nodes) } };
       most = omega arith;
       fits = omega (arith, below, is);
@@ -116,8 +115,7 @@ entry_tile log t index count is below tile =
 pub bundle_tile : (log : LogOf) (t : TileAt) (bundle count : ℕ) → length log.entries ≡ count → 256 * bundle < count
     → t ≡ filled 0 count bundle → IsEntryTile log t (256 * bundle)
 bundle_tile log t bundle count is below tile =
-    let number : 256 * bundle / 256 ≡ bundle = omega arith in
-    entry_tile log t (256 * bundle) count is below (tile ∙ ap (filled 0 count) (sym number))
+    entry_tile log t (256 * bundle) count is below (tile ∙ ap (filled 0 count) (omega arith))
 
 -- and its bytes have its entries
 pub own_bundle : (log : LogOf) (t : TileAt) (bundle count : ℕ) (es : List (List ℕ)) → length log.entries ≡ count
@@ -134,7 +132,5 @@ pub has_read : {F : Type 0} (seen : F → Files) (may_leave : F → Files → Ty
     (f : F) → seen f ≡ seen l.folder → Within (may_leave l.folder) (may_leave f)
     → Has seen may_leave served old next l → Has seen may_leave served old next (record l { folder = f })
 has_read seen may_leave served old next l f same within has =
-    in_folder seen may_leave served served old next l f has (subst (Keeps served old) (sym same) has.keeps)
-    (subst (AreFullStaged l.text.length l.edge.taken next) (sym same) has.staged)
-    (subst (ArePagesStaged served.pages old.pages next.pages) (sym same) has.pages)
+    in_folder f has (rw same has.keeps) (rw same has.staged) (rw same has.pages)
     (staging_kept (seen l.folder) (seen f) (may_leave l.folder) (may_leave f) same within has.staging)

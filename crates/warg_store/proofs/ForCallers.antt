@@ -1,5 +1,5 @@
 -- Lemmas for the proofs of the crates above, over public definitions alone.
-use Rattle.std.proofs.Common.{◌≡◌, ◌⊎◌, ⊎_elim, ℕ, ◌+◌, ◌<◌, List, length, sym, subst, arith}
+use Rattle.std.proofs.Common.{◌≡◌, ◌⊎◌, ⊎_elim, ℕ, ◌+◌, ◌<◌, List, length, arith}
 use Rattle.std.specs.List.{Contains}
 use Rattle.warg_folder.specs.Files.{File, Files}
 use Rattle.warg_folder.specs.Moments.{IsRead}
@@ -21,7 +21,7 @@ module _ {F : Type 0} (seen : F → Files) (may_leave : F → Files → Type 0) 
   pub has_read : (served old next : LogOf) (l m : LogIn F) → m ≡ record l { folder = m.folder }
       → IsRead seen may_leave moment left_since l.folder m.folder → Has seen may_leave served old next l
       → Has seen may_leave served old next m
-  has_read served old next l m same read has = subst (Has seen may_leave served old next) (sym same)
+  has_read served old next l m same read has = rw same
       (fetched.has_read seen may_leave served old next l m.folder read.found read.crash has)
 
 -- fewer pages to be kept, where each of the others is kept already

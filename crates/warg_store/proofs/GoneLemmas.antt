@@ -1,5 +1,5 @@
 -- Files that are removed, one after the other.
-use Rattle.std.proofs.Common.{◌≡◌, ◌≢◌, ℕ, zero, suc, ◌+◌, ◌<◌, ◌≤◌, List, length, get_or, Option, IsSome, string_bytes, sym, ap, subst, ◌∙◌, arith}
+use Rattle.std.proofs.Common.{◌≡◌, ◌≢◌, ℕ, zero, suc, ◌+◌, add-one, add-zero, add-suc, ◌<◌, ◌≤◌, List, length, get_or, IsSome, string_bytes, sym, ap, ◌∙◌, arith}
 use Rattle.std.specs.declared.string.String.{String}
 use Rattle.std.specs.declared.alloc.Global.{Global}
 use Rattle.std.proofs.lemmas.List.{get_or_default}
@@ -10,16 +10,13 @@ use Rattle.warg_store.specs.Pruned.{AreGone}
 -- one file more
 pub gone_more : (n : ℕ) (old mid new : Files) (name : List ℕ) → AreGone n old mid → IsSome (mid name)
     → new ≡ without name mid → AreGone (n + 1) old new
-gone_more n old mid new name gone there is = subst (λ k. AreGone k old new)
-    (let next : suc n ≡ n + 1 = omega arith in next) (name, mid, gone, there, is)
+gone_more n old mid new name gone there is = rw (add-one n) (name, mid, gone, there, is)
 
 -- files that are removed, and then others
 pub gone_then : (m n : ℕ) (old mid new : Files) → AreGone m old mid → AreGone n mid new → AreGone (m + n) old new
-gone_then m zero old mid new one two = subst (λ k. AreGone k old new)
-    (let same : m ≡ m + 0 = omega arith in same) (subst (λ (f : Files). AreGone m old f) (sym two) one)
-gone_then m (suc n) old mid new one (name, before, two, there, is) = subst (λ k. AreGone k old new)
-    (let next : suc (m + n) ≡ m + suc n = omega arith in next)
-    (name, before, gone_then m n old mid before one two, there, is)
+gone_then m zero old mid new one two = rw (add-zero m, two) one
+gone_then m (suc n) old mid new one (name, before, two, there, is) =
+    rw (add-suc m n) (name, before, gone_then m n old mid before one two, there, is)
 
 -- Names from one on have a file.
 abbrev pub AreLeft : ℕ → List (String Global) → Files → Type 0
@@ -35,10 +32,7 @@ left_behind names i it name mid new below is named apart left gone k d behind in
     let text : String Global → List ℕ = λ s. string_bytes s in
     let here : name ≡ text (get_or names i d) = named ∙ ap text (is ∙ get_or_default names i it d below) in
     let other : name ≢ text (get_or names k d) = λ same. apart i k d (omega (arith, behind)) inside (sym here ∙ same) in
-    subst (λ (o : Option (List ℕ)). IsSome o)
-    (sym (ap (λ (f : Files). f (text (get_or names k d))) gone
-    ∙ without_apart name mid (text (get_or names k d)) other))
-    (left k d (omega (arith, behind)) inside)
+    rw (gone, without_apart name mid (text (get_or names k d)) other) (left k d (omega (arith, behind)) inside)
 
 pub left_after : (names : List (String Global)) (i : ℕ) (files : Files) → AreLeft i names files
     → AreLeft (i + 1) names files
@@ -48,5 +42,4 @@ left_after names i files left k d behind inside = left k d (omega (arith, behind
 pub first_left : (names : List (String Global)) (i : ℕ) (it : String Global) (name : List ℕ) (files : Files)
     → i < length names → it ≡ get_or names i it → name ≡ string_bytes it → AreLeft i names files → IsSome (files name)
 first_left names i it name files below is named left =
-    subst (λ (n : List ℕ). IsSome (files n)) (sym (named ∙ ap (λ (s : String Global). string_bytes s) is))
-    (left i it (omega arith) below)
+    rw (named, is) (left i it (omega arith) below)

@@ -1,5 +1,5 @@
 -- Files of older lengths at a log's places.
-use Rattle.std.proofs.Common.{◌≡◌, ◌⊎◌, inl, inr, ℕ, zero, suc, ◌+◌, ◌*◌, ◌/◌, ◌^◌, ◌<◌, ◌≤◌, true, false, List, [], ◌∷◌, ◌++◌, length, map, take, drop, Option, Some, None, IsSome, nat_eq, codes, refl, sym, ap, subst, ◌∙◌, arith}
+use Rattle.std.proofs.Common.{◌≡◌, ◌⊎◌, inl, inr, ℕ, zero, suc, ◌+◌, ◌*◌, ◌/◌, ◌^◌, ◌<◌, ◌≤◌, true, false, List, [], ◌∷◌, ◌++◌, length, map, take, drop, Option, Some, None, IsSome, nat_eq, codes, refl, sym, ap, ◌∙◌, arith}
 use Rattle.std.specs.Fmt.{decimal}
 use Rattle.std.specs.List.{AllByRecursion, Contains, flat_map, starts_with}
 use Rattle.std.proofs.lemmas.Bool.{cases_lt}
@@ -7,8 +7,8 @@ use Rattle.std.proofs.lemmas.Bool.Decides.{Decides-eqb}
 use Rattle.std.proofs.lemmas.Slice.Eq.{starts_is}
 use Rattle.std.proofs.lemmas.List.{length-append, length-map, map-append, take-append-drop, take-map, take-take}
 use Rattle.std.proofs.lemmas.List.FromFn.{take-map-range_with_len}
-use Rattle.std.proofs.lemmas.Nat.{pow_pos, le-div}
-use Rattle.std.proofs.Math.Nat.{div-mul-le_self, mul-div_cancel, mul-le-mul_left, mul-le-mul_right}
+use Rattle.std.proofs.lemmas.Nat.{pow_pos}
+use Rattle.std.proofs.Math.Nat.{mul-div_cancel, mul-le-mul_left, mul-le-mul_right}
 use Rattle.std.proofs.Math.Seq.{take-add}
 use Rattle.warg_crypto.specs.Digests.{sha256}
 use Rattle.warg_crypto.specs.Tree.{leaf_digest}
@@ -27,29 +27,31 @@ use Rattle.warg_store.specs.declared.older.Newer.{Newer}
 use Rattle.warg_store.specs.declared.older.Newer.TheVariants.{Tile, Bundle}
 use Rattle.warg_store.specs.Reading.{bundle_in}
 use Rattle.warg_store.proofs.GrowingLemmas.{from_ground, full_stays}
-use Rattle.warg_store.proofs.LeadLemmas.{end_inside, width_at_most, digests_kept}
+use Rattle.warg_store.proofs.LeadLemmas.{nodes_order, end_inside, width_at_most, digests_kept}
+use Rattle.warg_store.proofs.StagedLemmas.{tiles_of}
 use Rattle.warg_store.proofs.PathLemmas.{same_tile, tile_behind, entries_behind}
 
--- an older file's path begins as that of the full one in its place
+-- a partial file's path begins as that of the full one in its place
+begins : (path : TileAt → List ℕ) (t full : TileAt) → record t { width = 256 } ≡ full
+    → path t ≡ (path (record t { width = 256 }) ++ codes ".p/") ++ decimal t.width
+    → starts_with nat_eq (path t) (path full ++ codes ".p/") ≡ true
+begins path t full same behind =
+    let prefix : List ℕ = path full ++ codes ".p/" in
+    (starts_is Decides-eqb (path t) prefix (starts_with nat_eq (path t) prefix) refl).1 (decimal t.width)
+    (rw same at behind)
+
+-- and so does an older file's
 pub begins_partial : (newer : Newer) (t : TileAt) → IsNarrower t (tile_of newer)
     → starts_with nat_eq (path_beside newer t)
     (path_beside newer (record (tile_of newer) { width = 256 }) ++ codes ".p/") ≡ true
 begins_partial (Tile newer) t is =
     let full : TileAt = record newer.now.tile { width = 256 } in
-    let here : TileAt = record t { width = 256 } in
-    let same : here ≡ full = same_tile here full is.level is.number refl in
-    let prefix : List ℕ = tile_path full ++ codes ".p/" in
-    (starts_is Decides-eqb (tile_path t) prefix (starts_with nat_eq (tile_path t) prefix) refl).1 (decimal t.width)
-    (tile_behind t is.partial ∙ ap (λ (u : TileAt). (tile_path u ++ codes ".p/") ++ decimal t.width) same)
+    begins tile_path t full (same_tile (record t { width = 256 }) full is.level is.number refl)
+    (tile_behind t is.partial)
 begins_partial (Bundle number entries) t is =
     let full : TileAt = record { level = 0; number = number; width = 256 } in
-    let here : TileAt = record t { width = 256 } in
-    let same : here ≡ full = same_tile here full is.level is.number refl in
-    let prefix : List ℕ = entries_path full ++ codes ".p/" in
-    (starts_is Decides-eqb (entries_path t) prefix (starts_with nat_eq (entries_path t) prefix) refl).1
-    (decimal t.width)
-    (entries_behind t is.partial
-    ∙ ap (λ (u : TileAt). (entries_path u ++ codes ".p/") ++ decimal t.width) same)
+    begins entries_path t full (same_tile (record t { width = 256 }) full is.level is.number refl)
+    (entries_behind t is.partial)
 
 -- an option that has a value has this one, where each has
 some_is : (o : Option (List ℕ)) (value : List ℕ) → ((bytes : List ℕ) → o ≡ Some bytes → bytes ≡ value) → IsSome o
@@ -64,22 +66,26 @@ own_length t some wide = record {
   width = omega (arith, mul-div_cancel (256 * t.number + t.width) (pow_pos (8 * t.level)), wide);
 }
 
+-- a narrower tile ends within the log
+lower_end : (n : ℕ) (t newer : TileAt) → IsTileOf n newer → t.level ≡ newer.level → t.number ≡ newer.number
+    → t.width < newer.width → tile_end t ≤ n
+lower_end n t newer of level number less =
+    let lower : 256 * t.number + t.width ≤ 256 * newer.number + newer.width = omega (arith, number, less) in
+    let end : (256 * newer.number + newer.width) * 2 ^ (8 * t.level) ≤ n = rw level (end_inside n newer of) in
+    omega (arith, mul-le-mul_right (2 ^ (8 * t.level)) lower, end)
+
+pub narrow_end : (n : ℕ) (t newer : TileAt) → IsTileOf n newer → IsNarrower t newer → tile_end t ≤ n
+narrow_end n t newer of is = lower_end n t newer of is.level is.number is.less
+
 -- an older tile in the place of one of the log has its bytes
 pub older_tile : (log : LogOf) (files : Files) (t newer : TileAt) → IsTileIn log newer → t.level ≡ newer.level
     → t.number ≡ newer.number → t.width < newer.width → 0 < t.width → HasOlder log files → IsSome (files (tile_path t))
     → files (tile_path t) ≡ Some (tile_bytes log t)
 older_tile log files t newer is level number less some has there =
-    let wide : newer.width ≤ 256 = width_at_most (length log.entries) newer is.exists in
-    let lower : 256 * t.number + t.width ≤ 256 * newer.number + newer.width = omega (arith, number, less) in
-    let end : tile_end t ≤ length log.entries = omega (
-      arith,
-      mul-le-mul_right (2 ^ (8 * t.level)) lower,
-      ap (λ l. (256 * newer.number + newer.width) * 2 ^ (8 * l)) level,
-      end_inside (length log.entries) newer is.exists,
-    ) in
     some_is (files (tile_path t)) (tile_bytes log t)
-    (λ bytes e. has.tile (tile_end t) t bytes end (omega (arith, level, is.level))
-    (own_length t some (omega (arith, less, wide))) e) there
+    (λ bytes e. has.tile (tile_end t) t bytes (lower_end _ t newer is.exists level number less)
+    (omega (arith, level, is.level))
+    (own_length t some (omega (arith, less, width_at_most (length log.entries) newer is.exists))) e) there
 
 -- and so has an older bundle
 pub older_bundle : (log : LogOf) (files : Files) (t : TileAt) → t.level ≡ 0 → 0 < t.width → t.width ≤ 256
@@ -105,13 +111,11 @@ pub bundle_stands : (log : LogOf) (number : ℕ) (old new : RightEdge) (xs : Lis
     → StandsFor sha256 old (leaves_of sha256 (take (256 * number) log.entries))
     → StandsFor sha256 new (leaves_of sha256 (take (256 * number + 256) log.entries))
 bundle_stands log number old new xs are pushed was =
-    subst (λ (l : List (List ℕ)). StandsFor sha256 new (leaves_of sha256 l))
-    (ap (λ (l : List (List ℕ)). take (256 * number) log.entries ++ l) are
-    ∙ sym (take-add (256 * number) 256 log.entries)) (pushed (take (256 * number) log.entries) was)
+    rw (take-add (256 * number) 256 log.entries, ← are) (pushed (take (256 * number) log.entries) was)
 
 -- Tiles that are made of a log's first entries are the log's.
 own_each : (log : LogOf) (ds : List (List ℕ)) (tiles : Tiles)
-    → ((t : TileAt) → Contains (map (λ (x : TileAt × List (List ℕ)). x.0) tiles) t
+    → ((t : TileAt) → Contains (tiles_of tiles) t
     → IsTileIn log t × (tile_digests sha256 ds t ≡ tile_digests sha256 (leaves_of sha256 log.entries) t))
     → AllByRecursion (λ (x : TileAt × List (List ℕ)). IsTileBy (own_digest sha256 ds) x.0 x.1) tiles
     → AllByRecursion (IsOwnTile log) tiles
@@ -137,7 +141,7 @@ own_full log m taken len tiles most count are =
     own_each log ds tiles
     (λ t has.
     let is = ((full_tiles taken len (omega (arith, low, most))).exactly t).0
-    (subst (λ (l : List TileAt). Contains l t) are.places has) in
+    (rw are.places at has) in
     let exists = full_stays len (length log.entries) t low is.0 is.1 in (
       record { level = low_level (length log.entries) t most exists; exists = exists },
       sym (ap (λ (l : List (List ℕ)). tile_digests sha256 (leaves_of sha256 l) t)
@@ -153,44 +157,37 @@ pub own_parts : (log : LogOf) (len : ℕ) (tiles : Tiles) → length log.entries
 own_parts log len tiles most count are = own_each log (leaves_of sha256 log.entries) tiles
     (λ t has.
     let is = ((partial_of len (omega (arith, count, most))).exactly t).0
-    (subst (λ (l : List TileAt). Contains l t) are.places has) in
-    let exists : IsTileOf (length log.entries) t = subst (λ n. IsTileOf n t) count is.0 in
+    (rw are.places at has) in
+    let exists = rw count at is.0 in
     (record { level = low_level (length log.entries) t most exists; exists = exists }, refl)) are.digests
 
 -- Narrower tiles in the places of a log's own.
 
--- a narrower tile ends within the log
-pub narrow_end : (n : ℕ) (t newer : TileAt) → IsTileOf n newer → IsNarrower t newer → tile_end t ≤ n
-narrow_end n t newer of is =
-    let lower : 256 * t.number + t.width ≤ 256 * newer.number + newer.width = omega (arith, is.number, is.less) in
-    omega (
-      arith,
-      mul-le-mul_right (2 ^ (8 * t.level)) lower,
-      ap (λ l. (256 * newer.number + newer.width) * 2 ^ (8 * l)) is.level,
-      end_inside n newer of,
-    )
+-- its digests are the first of the newer one's
+first_digests : (ds : List (List ℕ)) (t newer : TileAt) → t.level ≡ newer.level → t.number ≡ newer.number
+    → t.width < newer.width → take t.width (tile_digests sha256 ds newer) ≡ tile_digests sha256 ds t
+first_digests ds t newer level number less =
+    let narrow : TileAt = record { level = newer.level; number = newer.number; width = t.width } in
+    take-map-range_with_len (λ i. root_of sha256 (leaves_below (node_in newer i) ds)) 0 newer.width t.width
+    (omega (arith, less)) ∙ ap (tile_digests sha256 ds) (sym (same_tile t narrow level number refl))
 
--- its bytes are the first of the newer one's
+-- and its bytes are the first of the newer one's
 pub narrow_bytes : (log : LogOf) (t newer : TileAt) (digests : List (List ℕ))
     → digests ≡ tile_digests sha256 (leaves_of sha256 log.entries) newer → IsNarrower t newer
     → flat_map (λ digest. digest) (take t.width digests) ≡ tile_bytes log t
-narrow_bytes log t newer digests are is =
-    let ds = leaves_of sha256 log.entries in
-    let narrow : TileAt = record { level = newer.level; number = newer.number; width = t.width } in
-    ap (flat_map (λ (digest : List ℕ). digest)) (ap (take t.width) are
-    ∙ take-map-range_with_len (λ i. root_of sha256 (leaves_below (node_in newer i) ds)) 0 newer.width t.width
-    (omega (arith, is.less)) ∙ ap (tile_digests sha256 ds) (sym (same_tile t narrow is.level is.number refl)))
+narrow_bytes log t newer digests are is = ap (flat_map (λ (digest : List ℕ). digest))
+    (ap (take t.width) are ∙ first_digests (leaves_of sha256 log.entries) t newer is.level is.number is.less)
 
 -- what is left in the places of compared tiles has the log's bytes
 pub own_narrow : (log : LogOf) (files : Files) (tiles : Tiles)
     → AllByRecursion (λ (x : TileAt × List (List ℕ)). IsTileBy (own_digest sha256 (leaves_of sha256 log.entries)) x.0
     x.1) tiles
     → AllByRecursion (HasNarrower files) tiles → (newer : TileAt)
-    → Contains (map (λ (x : TileAt × List (List ℕ)). x.0) tiles) newer → (t : TileAt) (bytes : List ℕ)
+    → Contains (tiles_of tiles) newer → (t : TileAt) (bytes : List ℕ)
     → IsNarrower t newer → files (tile_path t) ≡ Some bytes → bytes ≡ tile_bytes log t
 own_narrow log files [] own has newer (k, low, is) t bytes narrow there = absurd (omega arith)
 own_narrow log files (x ∷ xs) own has newer (zero, low, is) t bytes narrow there =
-    let here : IsNarrower t x.0 = subst (IsNarrower t) (sym is) narrow in
+    let here : IsNarrower t x.0 = rw is narrow in
     has.0 t bytes here there ∙ narrow_bytes log t x.0 x.1
     (own_tile sha256 (leaves_of sha256 log.entries) x.1 x.0 own.0) here
 own_narrow log files (x ∷ xs) own has newer (suc k, low, is) t bytes narrow there =
@@ -207,10 +204,8 @@ pub record IsPlaced (n : ℕ) (t newer : TileAt) : Type 0 where
 pub placed : (m n : ℕ) (t : TileAt) → m ≤ n → n ≤ 2 ^ 63 → t.level < 8 → IsTileOf m t
     → IsPlaced n t (filled t.level (n / 2 ^ (8 * t.level)) t.number)
 placed m n t longer most level of =
-    let p = 2 ^ (8 * t.level) in
-    let one : 1 ≤ p = omega (arith, pow_pos (8 * t.level)) in
-    let more : m / p ≤ n / p = le-div (m / p) n p (pow_pos (8 * t.level))
-    (omega (arith, div-mul-le_self m p, longer)) in
+    let one : 1 ≤ 2 ^ (8 * t.level) = omega (arith, pow_pos (8 * t.level)) in
+    let more = nodes_order t.level longer in
     record {
       is = record {
         level = omega (arith, level);
@@ -242,8 +237,6 @@ pub older_digests : (ds : List (List ℕ)) (t newer : TileAt) → t.level ≡ ne
     → t.width < newer.width
     → tile_digests sha256 ds newer ≡ tile_digests sha256 ds t ++ drop t.width (tile_digests sha256 ds newer)
 older_digests ds t newer level number less =
-    let narrow : TileAt = record { level = newer.level; number = newer.number; width = t.width } in
-    sym (take-append-drop t.width (tile_digests sha256 ds newer))
-    ∙ ap (λ (l : List (List ℕ)). l ++ drop t.width (tile_digests sha256 ds newer))
-    (take-map-range_with_len (λ i. root_of sha256 (leaves_below (node_in newer i) ds)) 0 newer.width t.width
-    (omega (arith, less)) ∙ ap (tile_digests sha256 ds) (sym (same_tile t narrow level number refl)))
+    let all = tile_digests sha256 ds newer in
+    sym (take-append-drop t.width all)
+    ∙ ap (λ (l : List (List ℕ)). l ++ drop t.width all) (first_digests ds t newer level number less)

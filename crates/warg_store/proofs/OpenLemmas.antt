@@ -1,7 +1,7 @@
 -- A log that a folder keeps, as it is read back.
 use Rattle.std.proofs.Common.{◌≡◌, inl, inr, ℕ, zero, suc, ◌+◌, ◌-◌, ◌*◌, ◌/◌, ◌%◌, ◌^◌, ◌<◌, ◌≤◌, List, [], ◌∷◌, ◌++◌, true, cond, length, take, drop, map, filter, Option, Some, None, append_assoc, refl, sym, ap, subst, ◌∙◌, arith}
 use Rattle.std.specs.Prelude.{nat_lt, option_map, slice_get}
-use Rattle.std.specs.List.{AllByRecursion, Contains, range_with_len}
+use Rattle.std.specs.List.{AllByRecursion, range_with_len}
 use Rattle.std.proofs.lemmas.Bool.{cases_lt, lt-ltb, le-ltb}
 use Rattle.std.proofs.lemmas.List.{take_all, drop_all, length-append, length-map, length-drop, length-take-le, map-append, append-nil}
 use Rattle.std.proofs.lemmas.List.FromFn.{length-map-range_with_len, filter_of_map_range_with_len_more}
@@ -32,7 +32,8 @@ use Rattle.warg_folder.proofs.ForCallers.{apart, served_not_state, put_here, put
 use Rattle.warg_protobuf.proofs.ForCallers.{all_append}
 use Rattle.warg_store.proofs.ListLemmas.{all_take, all_drop}
 use Rattle.warg_store.proofs.LeadLemmas.{end_inside, extends_self, file_served, same_files, same_served, own_pages}
-use Rattle.warg_store.proofs.GrowingLemmas.{ground, none_some}
+use Rattle.warg_store.proofs.GrowingLemmas.{ground, none_staged}
+use Rattle.warg_store.proofs.OptionLemmas.{one_value}
 use Rattle.warg_store.proofs.PathLemmas.{same_tile}
 
 -- Digests of a log.
@@ -48,8 +49,8 @@ root_digest (d ∷ ds) all =
     let whole : root_over sha256 (d ∷ ds) 0 (length (d ∷ ds)) ≡ root_of sha256 (d ∷ ds) =
     ap (root_of sha256) (take_all (length (d ∷ ds)) (d ∷ ds) (omega arith)) in
     subst IsDigest whole (elim (cases_lt 1 (length (d ∷ ds))) [
-      | inl more ↦ subst IsDigest (sym (root_over_parts sha256 (d ∷ ds) 0 (length (d ∷ ds)) more (omega arith)))
-          (IsDigest-sha256 _)
+      | inl more ↦
+          rw (root_over_parts sha256 (d ∷ ds) 0 (length (d ∷ ds)) more (omega arith)) (IsDigest-sha256 _)
       | inr few ↦ subst (λ n. IsDigest (root_over sha256 (d ∷ ds) 0 n)) (let one : 1 ≡ length (d ∷ ds) = omega arith in
           one) (subst IsDigest (sym (root_over_one sha256 (d ∷ ds) 0 (omega arith))) all.0)
     ])
@@ -70,9 +71,7 @@ tile_hashes log t = digest_hashes (λ i. root_of sha256 (leaves_below (node_in t
 pub read_within : (o : Option (List ℕ)) (bytes whole : List ℕ) (most : ℕ) → Some bytes ≡ option_map (take (most + 1)) o
     → o ≡ Some whole → length whole ≤ most → bytes ≡ whole
 read_within o bytes whole most read is short =
-    let same : Some bytes ≡ Some (take (most + 1) whole) = read ∙ ap (option_map (take (most + 1))) is in
-    let cut : bytes ≡ take (most + 1) whole = cc in
-    cut ∙ take_all (most + 1) whole (omega (arith, short))
+    one_value refl (rw is at read) ∙ take_all (most + 1) whole (omega (arith, short))
 
 -- a tile's file is read as the log's digests
 pub tile_hashed : (log : LogOf) (t : TileAt) (o : Option (List ℕ)) (bytes : List ℕ) → t.width ≤ 256
@@ -91,9 +90,7 @@ pub tile_read : (log : LogOf) (t : TileAt) (o : Option (List ℕ)) (bytes : List
     → t.width ≤ 256 → o ≡ Some (tile_bytes log t) → Some bytes ≡ option_map (take (8192 + 1)) o
     → hashes_of bytes ≡ Some digests → digests ≡ tile_digests sha256 (leaves_of sha256 log.entries) t
 tile_read log t o bytes digests wide is read hashes =
-    let both : Some digests ≡ Some (tile_digests sha256 (leaves_of sha256 log.entries) t) = sym hashes
-    ∙ (tile_hashed log t o bytes wide is read).0 in
-    cc
+    one_value hashes (tile_hashed log t o bytes wide is read).0
 
 -- the greatest size of a bundle of short entries
 pub bundle_size : (entries : List (List ℕ)) → AreShort entries → length (bundle_of entries) ≤ 65537 * length entries
@@ -164,10 +161,8 @@ text_read said None o bytes most can is there read =
     (None, read_within o bytes (text_before said None) most read there (omega (arith, is, can.text)))
 text_read said (Some rest) o bytes most can is there read =
     let text = text_of said in
-    let same : Some bytes ≡ Some (take (most + 1) (text ++ (10 ∷ rest))) = read
-    ∙ ap (option_map (take (most + 1))) there ∙ ap (λ (b : List ℕ). Some (take (most + 1) b))
-    (text_parts said (Some rest)) in
-    let cut : bytes ≡ take (most + 1) (text ++ (10 ∷ rest)) = cc in
+    let cut : bytes ≡ take (most + 1) (text ++ (10 ∷ rest)) =
+    one_value refl (rw there at read) ∙ ap (take (most + 1)) (text_parts said (Some rest)) in
     let left : most + 1 ≡ length text + suc (most - length text) = omega (arith, is, can.text) in (
       Some (take (most - length text) rest),
       cut ∙ ap (λ n. take n (text ++ (10 ∷ rest))) left ∙ take-append-add text (10 ∷ rest) (suc (most - length text))
@@ -230,7 +225,7 @@ part_some log level tiles digests some is are =
           ∙ sym (parts_more n level ∙ rw (lt-ltb 0 (n / 2 ^ (8 * level) % 256) some) refl);
       digests = all_append (λ (x : TileAt × List (List ℕ)). IsTileBy (own_digest sha256 ds) x.0 x.1) tiles
           ((t, digests) ∷ []) are.digests (
-            subst (λ (l : List (List ℕ)). IsTileBy (own_digest sha256 ds) t l) (sym is) (tile_own sha256 ds t within),
+            rw is (tile_own sha256 ds t within),
             tt,
           );
     }
@@ -243,9 +238,11 @@ last_bundle_is log t level is part =
     let n = length log.entries in
     let g = ground n t level is in
     let number : t.number ≡ n / 256 = omega (arith, g.0, g.1, part) in
-    ap (λ k. bundle_of (take t.width (drop (256 * k) log.entries))) number
-    ∙ ap bundle_of (take_all t.width (drop (256 * (n / 256)) log.entries)
-    (omega (arith, length-drop (256 * (n / 256)) log.entries, g.0, g.1, part, number)))
+    rw (
+      number,
+      take_all t.width (drop (256 * (n / 256)) log.entries)
+          (omega (arith, length-drop (256 * (n / 256)) log.entries, g.0, g.1, part, number)),
+    ) refl
 
 pub no_last_bundle : (log : LogOf) → length log.entries % 256 ≡ 0
     → [] ≡ bundle_of (drop (256 * (length log.entries / 256)) log.entries)
@@ -258,9 +255,7 @@ pub part_of : (log : LogOf) (tiles : Tiles) (x : TileAt × List (List ℕ)) (res
     → ArePartsTo log 8 tiles → tiles ≡ x ∷ rest → IsTileOf (length log.entries) x.0 × (x.0.width < 256)
 part_of log tiles x rest can are is =
     ((partial_of (length log.entries) can.most).exactly x.0).0
-    (subst (λ (l : List TileAt). Contains l x.0) are.places
-    (subst (λ (l : Tiles). Contains (map (λ (y : TileAt × List (List ℕ)). y.0) l) x.0) (sym is)
-    (0, omega arith, refl)))
+    (rw (← are.places, is) (0, omega arith, refl))
 
 abbrev higher_parts : ℕ → List TileAt
 higher_parts n = filter (λ t. nat_lt 0 t.width) (map (last_tile n) (range_with_len 1 7))
@@ -313,11 +308,8 @@ pub level_there : (log : LogOf) (files : Files) (n level : ℕ) (t : TileAt) →
 level_there log files n level t low size at number width some has =
     let last = last_tile (length log.entries) level in
     let same : t ≡ last = same_tile t last at (number ∙ ap (λ n. n / 2 ^ (8 * level) / 256) size)
-    (width ∙ ap (λ n. n / 2 ^ (8 * level) % 256) size) in (
-      same,
-      subst (λ (u : TileAt). files (tile_path u) ≡ Some (tile_bytes log u)) (sym same)
-          (part_there log files level low (subst (λ n. 0 < n / 2 ^ (8 * level) % 256) size some) has),
-    )
+    (width ∙ ap (λ n. n / 2 ^ (8 * level) % 256) size) in
+    (same, rw same (part_there log files level low (rw size at some) has))
 
 -- The opened log.
 
@@ -341,14 +333,9 @@ opened_has seen may_leave served log folder said edge bundle held is keeps nothi
       order = omega (arith, taken, len);
       held = omega (arith, taken, len, rest);
       most = omega (arith, rest);
-      bundle = bytes ∙ ap (λ n. bundle_of (drop (256 * (n / 256)) log.entries))
-          (sym (taken ∙ ap (λ (s : Said). s.length) is));
-      staged = record {
-        tile = λ t low new. absurd (new.new (subst (λ n. IsTileOf n t) taken new.exists));
-        bundle = λ t level new. absurd (new.new (subst (λ n. IsTileOf n t) taken new.exists));
-        nothing_else = λ n is_there some. absurd (none_some (seen folder (staged n)) (nothing (staged n) refl) some);
-      };
-      pages = own_pages served.pages log.pages (seen folder) (λ path. nothing (staged (page_name path)) refl);
+      bundle = rw (taken, is) bytes;
+      staged = none_staged log (seen folder) taken nothing;
+      pages = own_pages (λ path. nothing (staged (page_name path)) refl);
       staging = staging;
     }
 
@@ -362,8 +349,8 @@ taken_over log s serves =
     record {
       can = serves.can;
       state = put_here (state, checkpoint_of log) s;
-      holds = same_files log s (put (state, checkpoint_of log) s) same serves.holds;
-      serves = same_served log s (put (state, checkpoint_of log) s) same
+      holds = same_files (put (state, checkpoint_of log) s) same serves.holds;
+      serves = same_served (put (state, checkpoint_of log) s) same
           (put_apart (state, checkpoint_of log) s checkpoint (λ e. apart (ap is_own e))) serves;
       begins = extends_self log;
       newest = λ _. refl;

@@ -116,20 +116,17 @@ partial_place n width other = rw (ne_eqb width 256 other) refl
 place_once : (m v n w : ℕ) → v ≤ 256 → w ≤ 256 → place_path m v ≡ place_path n w → (m ≡ n) × (v ≡ w)
 place_once m v n w vs ws e = elim (cases_eq v 256) [
   | inl v_full ↦ elim (cases_eq w 256) [
-    | inl w_full ↦ (
-      number_path_once m n (sym (ap (place_path m) v_full ∙ full_place m) ∙ e ∙ ap (place_path n) w_full
-          ∙ full_place n),
-      v_full ∙ sym w_full,
-    )
+    | inl w_full ↦
+        (number_path_once m n (rw (v_full, w_full, full_place m, full_place n) at e), v_full ∙ sym w_full)
     | inr w_part ↦ absurd (never_cut 46 (number_path m) (number_path n) (112 ∷ (47 ∷ decimal w)) (dotless_path m)
-        (sym (ap (place_path m) v_full ∙ full_place m) ∙ e ∙ partial_place n w w_part))
+        (rw (v_full, full_place m, partial_place n w w_part) at e))
   ]
   | inr v_part ↦ elim (cases_eq w 256) [
     | inl w_full ↦ absurd (never_cut 46 (number_path n) (number_path m) (112 ∷ (47 ∷ decimal v)) (dotless_path n)
-        (sym (ap (place_path n) w_full ∙ full_place n) ∙ sym e ∙ partial_place m v v_part))
+        (sym (rw (w_full, full_place n, partial_place m v v_part) at e)))
     | inr w_part ↦
         let parts = cut_once 46 (number_path m) (112 ∷ (47 ∷ decimal v)) (number_path n) (112 ∷ (47 ∷ decimal w))
-        (dotless_path m) (dotless_path n) (sym (partial_place m v v_part) ∙ e ∙ partial_place n w w_part) in (
+        (dotless_path m) (dotless_path n) (rw (partial_place m v v_part, partial_place n w w_part) at e) in (
           number_path_once m n parts.0,
           decimal_injective v w (omega arith) (omega arith)
               (append_cancel_left (112 ∷ (47 ∷ [])) (decimal v) (decimal w) parts.1),
@@ -150,12 +147,8 @@ decimal_without n c small out = from_index c (decimal n)
     (λ i below. not_in_digits own (decimal n) c (digits_decimal own n small) (λ r. out (omega arith) (omega arith)) i
     below)
 
-abbrev tile_at : ℕ → ℕ → ℕ → TileAt
-tile_at level number width = record { level = level; number = number; width = width }
-
 pub same_tile : (t u : TileAt) → t.level ≡ u.level → t.number ≡ u.number → t.width ≡ u.width → t ≡ u
-same_tile t u level number width = ap (λ l. tile_at l t.number t.width) level
-    ∙ ap (λ n. tile_at u.level n t.width) number ∙ ap (λ w. tile_at u.level u.number w) width
+same_tile t u level number width = λ i. record { level = level i; number = number i; width = width i }
 
 -- different tiles have different paths
 path_once : (t u : TileAt) → t.level ≤ 63 → u.level ≤ 63 → t.width ≤ 256 → u.width ≤ 256 → tile_path t ≡ tile_path u

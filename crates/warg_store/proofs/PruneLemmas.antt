@@ -1,5 +1,5 @@
 -- A folder whose spare files go.
-use Rattle.std.proofs.Common.{◌≡◌, ◌⊎◌, inl, inr, ⊎_elim, ℕ, ◌<◌, ◌≤◌, List, [], ◌∷◌, length, map, get_or, take, codes, nat_eq, string_bytes, true, false, Option, Some, None, IsSome, refl, sym, ap, subst, ◌∙◌, arith}
+use Rattle.std.proofs.Common.{◌≡◌, ◌⊎◌, inl, inr, ⊎_elim, ℕ, ◌<◌, List, [], ◌∷◌, length, map, get_or, take, codes, nat_eq, string_bytes, true, false, Option, Some, None, IsSome, refl, sym, ap, ◌∙◌, arith}
 use Rattle.std.specs.Prelude.{option_map, Bool, IsTrue, Vec, ◌↔◌}
 use Rattle.std.specs.Bool.{if◌then◌else◌}
 use Rattle.std.specs.List.{All, Contains, starts_with}
@@ -20,15 +20,16 @@ use Rattle.warg_store.specs.Private.Steps.{IsPruning, PrunesOn}
 use Rattle.warg_folder.proofs.ForCallers.{one_name, apart, served_not_staged, without_here, without_apart, either, goes_on, begins, leaves_none, leaves_then}
 use Rattle.warg_store.proofs.PathLemmas.{tile_path_once, one_tile, entries_path_once, no_tile_a_bundle, other_kind, no_page_a_tile, no_page_a_bundle}
 use Rattle.warg_store.proofs.ServeLemmas.{opened_idle}
-use Rattle.warg_store.proofs.LeadLemmas.{width_at_most, file_served, same_served, same_kept, pages_stay}
+use Rattle.warg_store.proofs.LeadLemmas.{width_at_most, file_served, same_served, same_kept, either_served, keeps_beside, pages_stay}
 use Rattle.warg_tiles.proofs.ForCallers.{low_level}
 use Rattle.warg_store.proofs.GrowingLemmas.{none_some, in_folder}
 use Rattle.warg_store.proofs.SignLemmas.{full_staged_same}
 
 -- a spare name is a served one, and so is the full one's
-pub path_served : (n full : List ℕ) (t : TileAt) → HasFull n t full → (is_served n ≡ true) × (is_served full ≡ true)
-path_served n full t (inl is) = (ap is_served (sym is.0), ap is_served (sym is.1))
-path_served n full t (inr is) = (ap is_served (sym is.1), ap is_served (sym is.2))
+spare_served : {kept served : ℕ} {s : Files} {n : List ℕ} (spare : IsSpare kept served s n)
+    → (is_served n ≡ true) × (is_served spare.full ≡ true)
+spare_served spare = ⊎_elim (λ is. (ap is_served (sym is.0), ap is_served (sym is.1)))
+    (λ is. (ap is_served (sym is.1), ap is_served (sym is.2))) spare.paths
 
 -- a file is there, or not
 none_or_some : (o : Option (List ℕ)) → (o ≡ None) ⊎ IsSome o
@@ -45,12 +46,12 @@ pub one_full : (n : List ℕ) (t u : TileAt) (f g : List ℕ) → IsTile t → I
     → (t ≡ u) × (f ≡ g)
 one_full n t u f g it iu (inl a) (inl b) =
     let same = one_tile t u it iu (a.0 ∙ sym b.0) in
-    (same, sym a.1 ∙ ap (λ (x : TileAt). tile_path (full_of x)) same ∙ b.1)
+    (same, sym a.1 ∙ rw same b.1)
 one_full n t u f g it iu (inl a) (inr b) = absurd (other_kind t u it (a.0 ∙ sym b.1))
 one_full n t u f g it iu (inr a) (inl b) = absurd (other_kind u t iu (b.0 ∙ sym a.1))
 one_full n t u f g it iu (inr a) (inr b) =
     let same = entries_path_once t u a.0 b.0 it.most iu.most (a.1 ∙ sym b.1) in
-    (same, sym a.2 ∙ ap (λ (x : TileAt). entries_path (full_of x)) same ∙ b.2)
+    (same, sym a.2 ∙ rw same b.2)
 
 -- a name that is spare in one folder is so in another that has the full file
 spare_in : {kept served : ℕ} {a b : Files} (n : List ℕ) (spare : IsSpare kept served a n) → IsSome (b spare.full)
@@ -70,12 +71,8 @@ module _ (kept served : ℕ) (s : Files) where
   -- the full file in the place of a partial one isn't spare
   pub full_stays : (n full : List ℕ) (t : TileAt) → IsTile t → HasFull n t full → IsSpare kept served s full → ⊥
   full_stays n full t it paths spare =
-      let is : IsTile (full_of t) = record {
-        level = it.level;
-        number = it.number;
-        some = omega arith;
-        most = omega arith;
-      } in
+      let is : IsTile (full_of t) =
+      record { level = it.level; number = it.number; some = omega arith; most = omega arith } in
       let of_full : HasFull full (full_of t) full = ⊎_elim (λ a. inl (a.1, a.1)) (λ b. inr (b.0, b.2, b.2)) paths in
       let same = (one_full full (full_of t) spare.tile full spare.full is spare.is of_full spare.paths).0 in
       omega (arith, ap (λ (x : TileAt). x.width) same, spare.partial)
@@ -83,9 +80,9 @@ module _ (kept served : ℕ) (s : Files) where
   -- what is spare at first is so while others go
   pub spare_still : (now : Files) (n : List ℕ) → IsPruning kept served s now → IsSpare kept served s n
       → IsSpare kept served now n
-  spare_still now n was spare = spare_in n spare (⊎_elim (λ same. subst IsSome (sym same) spare.there)
+  spare_still now n was spare = spare_in n spare (⊎_elim (λ same. rw same spare.there)
       (λ gone. absurd (full_stays n spare.full spare.tile spare.is spare.paths gone.1))
-      (was.outside spare.full (served_not_staged spare.full (path_served n spare.full spare.tile spare.paths).1)))
+      (was.outside spare.full (served_not_staged spare.full (spare_served spare).1)))
 
   -- a spare file goes where each name that has a file was looked at
   pub spare_gone : (now : Files) (n : List ℕ) (names : List (String Global)) → IsPruning kept served s now
@@ -105,11 +102,10 @@ module _ (kept served : ℕ) (s : Files) where
             let d = get_or_any names at.0 low in
             let is : string_bytes (get_or names at.0 d) ≡ n =
             sym (get_or-map (λ (x : String Global). string_bytes x) names at.0 d n low) ∙ at.2 in
-            subst (λ (m : List ℕ). now m ≡ None) is
-            (each at.0 d low (subst (IsSpare kept served s) (sym is) spare))
+            rw (← is) (each at.0 d low (rw is spare))
       ])
       (λ gone. gone.0)
-      (was.outside n (served_not_staged n (path_served n spare.full spare.tile spare.paths).0))
+      (was.outside n (served_not_staged n (spare_served spare).0))
 
   -- before any file goes
   pub begun : (c : Files) → IsBeside s c → IsPruning kept served s c
@@ -120,24 +116,21 @@ module _ (kept served : ℕ) (s : Files) where
       → IsPruning kept served s (without name d)
   pruned_one d name spare was = record {
     outside = λ n isnt. elim (one_name name n) [
-      | inl here ↦ inr (
-        ap (λ m. without name d m) (sym here.1) ∙ without_here name d,
-        subst (IsSpare kept served s) here.1 spare,
-      )
+      | inl here ↦ rw (← here.1) (inr (without_here name d, spare))
       | inr other ↦ elim (was.outside n isnt) [
         | inl same ↦ inl (without_apart name d n other.1 ∙ same)
         | inr gone ↦ inr (without_apart name d n other.1 ∙ gone.0, gone.1)
       ]
     ];
     no_mark = without_apart name d mark
-        (λ e. apart (sym (path_served name spare.full spare.tile spare.paths).0 ∙ ap is_served e)) ∙ was.no_mark;
+        (λ e. apart (sym (spare_served spare).0 ∙ ap is_served e)) ∙ was.no_mark;
   }
 
   -- what is there now was there
   pub was_there : (now : Files) (full : List ℕ) → is_served full ≡ true → IsPruning kept served s now
       → IsSome (now full) → IsSome (s full)
   was_there now full is was some = elim (was.outside full (served_not_staged full is)) [
-    | inl same ↦ subst IsSome same some
+    | inl same ↦ rw same at some
     | inr gone ↦ absurd (none_some (now full) gone.0 some)
   ]
 
@@ -145,36 +138,29 @@ module _ (kept served : ℕ) (s : Files) where
   pub spare_first : (now : Files) (n : List ℕ) → IsPruning kept served s now → IsSpare kept served now n
       → IsSpare kept served s n
   spare_first now n was spare = spare_in n spare
-      (was_there now spare.full (path_served n spare.full spare.tile spare.paths).1 was spare.there)
+      (was_there now spare.full (spare_served spare).1 was spare.there)
 
 -- a spare name is its tile's, whose full one's file is there
 pub spare_tile : {kept served : ℕ} {s : Files} (name : List ℕ) (tile : TileAt) (full : List ℕ) → IsTile tile
     → HasFull name tile full → IsSpare kept served s name
     → ((tile.width < 256) × IsTileOf kept (full_of tile) × (IsTileOf served tile → ⊥)) × IsSome (s full)
 spare_tile {kept = kept} {served = served} {s = s} name tile full is paths spare =
-    let same = one_full name spare.tile tile spare.full full spare.is is spare.paths paths in (
-      (
-        subst (λ (t : TileAt). t.width < 256) same.0 spare.partial,
-        subst (λ (t : TileAt). IsTileOf kept (full_of t)) same.0 spare.exists,
-        subst (λ (t : TileAt). IsTileOf served t → ⊥) same.0 spare.unserved,
-      ),
-      subst (λ (f : List ℕ). IsSome (s f)) same.1 spare.there,
-    )
+    let same = one_full name spare.tile tile spare.full full spare.is is spare.paths paths in
+    (rw (← same.0) (spare.partial, spare.exists, spare.unserved), rw (← same.1) spare.there)
 
 module _ (kept served : ℕ) (old new : Files) (name : List ℕ) where
   -- a staged file stays where a spare one goes
   pub staged_stays : (is : Bool) (n : List ℕ) → new ≡ (if is then without name old else old)
       → (IsTrue is → IsSpare kept served old name) → is_staged n ≡ true → new n ≡ old n
   staged_stays true n gone spare is =
-      let paths = (spare refl).paths in
-      let isnt = served_not_staged name (path_served name (spare refl).full (spare refl).tile paths).0 in
-      ap (λ (f : Files). f n) gone ∙ without_apart name old n (λ e. apart (sym is ∙ ap is_staged (sym e) ∙ isnt))
-  staged_stays false n gone spare is = ap (λ (f : Files). f n) gone
+      let isnt = served_not_staged name (spare_served (spare refl)).0 in
+      rw gone (without_apart name old n (λ e. apart (sym is ∙ ap is_staged (sym e) ∙ isnt)))
+  staged_stays false n gone spare is = rw gone refl
 
   -- a spare file goes
   pub gone_if_spare : (is : Bool) → new ≡ (if is then without name old else old)
       → (IsSpare kept served old name → IsTrue is) → IsSpare kept served old name → new name ≡ None
-  gone_if_spare true gone spare it = ap (λ (f : Files). f name) gone ∙ without_here name old
+  gone_if_spare true gone spare it = rw gone (without_here name old)
   gone_if_spare false gone spare it = absurd (let no : false ≡ true = spare it in cc)
 
 module _ {D : Type 0} (moment : D → ℕ) (left_since : D → ℕ → Files → Type 0) (may_leave : D → Files → Type 0)
@@ -241,11 +227,11 @@ module _ {D : Type 0} (moment : D → ℕ) (left_since : D → ℕ → Files →
       }
 
 -- A folder in which no commit stands keeps a log, and serves a beginning of it, while their files stay.
-module _ (served old : LogOf) (s : Files) (keeps : Keeps served old s) (c : Files) (no_mark : c mark ≡ None)
+module _ {served old : LogOf} {s : Files} (keeps : Keeps served old s) (c : Files) (no_mark : c mark ≡ None)
     (stays_at : (n : List ℕ) → IsFileOf old n ⊎ IsFileOf served n → c n ≡ s n)
     (stays_checkpoint : c checkpoint ≡ s checkpoint) (stays_state : c state ≡ s state) where
   pub still_keeps : Keeps served old c
-  still_keeps = same_kept served old s c stays_at stays_checkpoint stays_state keeps
+  still_keeps = same_kept c stays_at stays_checkpoint stays_state keeps
 
   same : (n : List ℕ) → is_staged n ≡ false → opened c n ≡ c n
   same n isnt = opened_idle c n no_mark isnt
@@ -253,97 +239,55 @@ module _ (served old : LogOf) (s : Files) (keeps : Keeps served old s) (c : File
   pub still_one_of : IsOneOf served old old c
   still_one_of = record {
     read = inl (record {
-      serves = same_served served s c (λ n is. stays_at n (inr is)) stays_checkpoint keeps.serves;
+      serves = same_served c (λ n is. stays_at n (inr is)) stays_checkpoint keeps.serves;
       stay = λ n is. same n (served_not_staged n (file_served served n is));
     });
     state = inl (record { can = keeps.can; text = stays_state ∙ keeps.state });
-    opened = inl (same_kept served old c (opened c)
-        (λ n is. same n (served_not_staged n
-        (⊎_elim (λ one. file_served old n one) (λ other. file_served served n other) is)))
-        (same checkpoint refl) (same state refl) still_keeps);
+    opened = inl (keeps_beside (opened c) same still_keeps);
   }
 
 -- What a folder keeps, and what it serves, stays.
 module _ (served old : LogOf) (s : Files) (keeps : Keeps served old s) where
-  full_wins : (t u : TileAt) → t ≡ u → t.width < 256 → IsTileOf (length old.entries) (full_of t)
-      → IsTileOf (length old.entries) u → ⊥
-  full_wins t u same part full is = let own : IsTileOf (length old.entries) t = subst (IsTileOf (length old.entries))
-      (sym same) is in omega (arith, own.width, full.width, part)
-
-  tile_needed : (t u : TileAt) → t ≡ u → t.width < 256 → IsTileOf (length old.entries) (full_of t)
-      → (IsTileOf (length served.entries) t → ⊥)
-      → IsTileOf (length old.entries) u ⊎ IsTileOf (length served.entries) u → ⊥
-  tile_needed t u same part full unserved (inl is) = full_wins t u same part full is
-  tile_needed t u same part full unserved (inr is) = unserved (subst (IsTileOf (length served.entries)) (sym same) is)
-
   level_of : (t : TileAt) → IsTileOf (length old.entries) (full_of t) → t.level < 8
   level_of t is = low_level (length old.entries) (full_of t) keeps.can.most is
 
-  abbrev IsEither : List ℕ → Type 0
-  IsEither n = (u : TileAt) × (u.width ≤ 256) × (IsTileOf (length old.entries) u ⊎ IsTileOf (length served.entries) u)
-      × (((u.level < 8) × (tile_path u ≡ n)) ⊎ ((u.level ≡ 0) × (entries_path u ≡ n)))
-
-  needed_not_spare : (n : List ℕ) → IsEither n → IsSpare (length old.entries) (length served.entries) s n → ⊥
-  needed_not_spare n u spare =
-      let t = spare.tile in
-      let low : t.level < 8 = level_of t spare.exists in
-      let small : t.width ≤ 256 = omega (arith, spare.partial) in
-      let needed : t ≡ u.0 → ⊥ = λ same. tile_needed t u.0 same spare.partial spare.exists spare.unserved u.2 in
-      ⊎_elim
-      (λ tile. ⊎_elim
-      (λ own. needed (tile_path_once t u.0 low own.0 small u.1 (tile.0 ∙ sym own.1)))
-      (λ own. no_tile_a_bundle t u.0 low (tile.0 ∙ sym own.1))
-      u.3)
-      (λ bundle. ⊎_elim
-      (λ own. no_tile_a_bundle u.0 t own.0 (own.1 ∙ sym bundle.1))
-      (λ own. needed (entries_path_once t u.0 bundle.0 own.0 small u.1 (bundle.1 ∙ sym own.1)))
-      u.3)
-      spare.paths
-
-  page_not_spare : (n path : List ℕ) → page_name path ≡ n → IsSpare (length old.entries) (length served.entries) s n → ⊥
-  page_not_spare n path is spare = ⊎_elim
-      (λ tile. no_page_a_tile spare.tile path (tile.0 ∙ sym is))
-      (λ bundle. no_page_a_bundle spare.tile path (bundle.1 ∙ sym is))
-      spare.paths
+  -- a file of a log that has no spare tile isn't spare
+  not_spare_of : (log : LogOf) (n : List ℕ) (spare : IsSpare (length old.entries) (length served.entries) s n)
+      → (IsTileOf (length log.entries) spare.tile → ⊥) → IsFileOf log n → ⊥
+  not_spare_of log n spare needed (inl (u, is, path)) = ⊎_elim
+      (λ tile. needed (rw (tile_path_once spare.tile u (level_of spare.tile spare.exists) is.level
+      (omega (arith, spare.partial)) (width_at_most _ u is.exists) (tile.0 ∙ sym path)) is.exists))
+      (λ bundle. no_tile_a_bundle u spare.tile is.level (path ∙ sym bundle.1)) spare.paths
+  not_spare_of log n spare needed (inr (inl (u, is, path))) = ⊎_elim
+      (λ tile. no_tile_a_bundle spare.tile u (level_of spare.tile spare.exists) (tile.0 ∙ sym path))
+      (λ bundle. needed (rw (entries_path_once spare.tile u bundle.0 is.level
+      (omega (arith, spare.partial)) (width_at_most _ u is.exists) (bundle.1 ∙ sym path)) is.exists)) spare.paths
+  not_spare_of log n spare needed (inr (inr (f, is, path))) = ⊎_elim
+      (λ tile. no_page_a_tile spare.tile f.0 (tile.0 ∙ sym path))
+      (λ bundle. no_page_a_bundle spare.tile f.0 (bundle.1 ∙ sym path)) spare.paths
 
   not_spare : (n : List ℕ) → IsFileOf old n ⊎ IsFileOf served n
       → IsSpare (length old.entries) (length served.entries) s n → ⊥
-  not_spare n (inl (inl f)) = needed_not_spare n (
-    f.0,
-    width_at_most _ f.0 f.1.exists,
-    inl f.1.exists,
-    inl (f.1.level, f.2),
-  )
-  not_spare n (inl (inr (inl f))) =
-      needed_not_spare n (f.0, width_at_most _ f.0 f.1.exists, inl f.1.exists, inr (f.1.level, f.2))
-  not_spare n (inl (inr (inr f))) = page_not_spare n f.0.0 f.2
-  not_spare n (inr (inl f)) = needed_not_spare n (
-    f.0,
-    width_at_most _ f.0 f.1.exists,
-    inr f.1.exists,
-    inl (f.1.level, f.2),
-  )
-  not_spare n (inr (inr (inl f))) =
-      needed_not_spare n (f.0, width_at_most _ f.0 f.1.exists, inr f.1.exists, inr (f.1.level, f.2))
-  not_spare n (inr (inr (inr f))) = page_not_spare n f.0.0 f.2
+  not_spare n (inl own) spare = not_spare_of old n spare
+      (λ is. omega (arith, is.width, spare.exists.width, spare.partial)) own
+  not_spare n (inr own) spare = not_spare_of served n spare spare.unserved own
 
   module _ (c : Files) (was : IsPruning (length old.entries) (length served.entries) s c) where
     stays_at : (n : List ℕ) → IsFileOf old n ⊎ IsFileOf served n → c n ≡ s n
     stays_at n file = ⊎_elim (λ e. e) (λ gone. absurd (not_spare n file gone.1))
-        (was.outside n (served_not_staged n
-        (⊎_elim (λ one. file_served old n one) (λ other. file_served served n other) file)))
+        (was.outside n (served_not_staged n (either_served old served n file)))
 
     stays_own : (n : List ℕ) → is_staged n ≡ false → is_served n ≡ false → c n ≡ s n
     stays_own n isnt unserved = ⊎_elim (λ e. e)
-        (λ gone. absurd (apart (sym (path_served n gone.1.full gone.1.tile gone.1.paths).0 ∙ unserved)))
+        (λ gone. absurd (apart (sym (spare_served gone.1).0 ∙ unserved)))
         (was.outside n isnt)
 
     pub pruned_keeps : Keeps served old c
-    pruned_keeps = still_keeps served old s keeps c was.no_mark stays_at (stays_own checkpoint refl refl)
+    pruned_keeps = still_keeps keeps c was.no_mark stays_at (stays_own checkpoint refl refl)
         (stays_own state refl refl)
 
     pub pruned_moment : IsOneOf served old old c
-    pruned_moment = still_one_of served old s keeps c was.no_mark stays_at (stays_own checkpoint refl refl)
+    pruned_moment = still_one_of keeps c was.no_mark stays_at (stays_own checkpoint refl refl)
         (stays_own state refl refl)
 
 -- of the names at which commits put files, those that were spare are gone
@@ -351,16 +295,16 @@ pub served_pruned : (kept served : ℕ) (s c : Files) → IsPruning kept served 
 served_pruned kept served s c was n is = was.outside n (served_not_staged n is)
 
 -- a log whose folder still keeps it, with what is staged
-pub still_has : {F : Type 0} (seen : F → Files) (may_leave : F → Files → Type 0) (served old next : LogOf) (l : LogIn F)
-    (folder : F) → Has seen may_leave served old next l → Keeps served old (seen folder) → seen folder mark ≡ None
+pub still_has : {F : Type 0} {seen : F → Files} {may_leave : F → Files → Type 0} {served old next : LogOf}
+    {l : LogIn F} (folder : F) → Has seen may_leave served old next l → Keeps served old (seen folder)
+    → seen folder mark ≡ None
     → ((n : List ℕ) → seen folder (staged n) ≡ seen l.folder (staged n)) → Only (seen folder) (may_leave folder)
     → Has seen may_leave served old next (record l { folder = folder })
-still_has seen may_leave served old next l folder has keeps no_mark same only =
-    in_folder seen may_leave served served old next l folder has keeps
-    (full_staged_same l.text.length l.edge.taken next (seen l.folder) (seen folder) same has.staged)
-    (pages_stay served.pages old.pages next.pages (seen l.folder) (seen folder) (λ path. same (page_name path)) has.pages)
-    (λ c left. subst (λ (f : Files). IsBeside (seen folder) f) (sym (only c left))
-    (record { outside = λ n isnt. refl; no_mark = no_mark }))
+still_has {seen = seen} folder has keeps no_mark same only =
+    in_folder folder has keeps
+    (full_staged_same (seen folder) same has.staged)
+    (pages_stay (λ path. same (page_name path)) has.pages)
+    (λ c left. rw (only c left) (record { outside = λ n isnt. refl; no_mark = no_mark }))
 
 -- a log whose folder was pruned
 pub prune_has : {F : Type 0} (seen : F → Files) (may_leave : F → Files → Type 0) (served old next : LogOf) (l : LogIn F)
@@ -369,7 +313,7 @@ pub prune_has : {F : Type 0} (seen : F → Files) (may_leave : F → Files → T
     → ((n : List ℕ) → is_staged n ≡ true → seen folder n ≡ seen l.folder n) → Only (seen folder) (may_leave folder)
     → Has seen may_leave served old next (record l { folder = folder })
 prune_has seen may_leave served old next l folder has was same only =
-    still_has seen may_leave served old next l folder has
+    still_has folder has
     (pruned_keeps served old (seen l.folder) has.keeps (seen folder) was) was.no_mark (λ n. same (staged n) refl) only
 
 -- a file of which something was read is there, and the reverse

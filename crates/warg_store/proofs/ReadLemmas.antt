@@ -1,5 +1,5 @@
 -- What was read of a file, as the whole of it.
-use Rattle.std.proofs.Common.{◌≡◌, inl, inr, ℕ, zero, suc, ◌+◌, ◌*◌, ◌/◌, ◌%◌, ◌<◌, ◌≤◌, List, [], ◌∷◌, ◌++◌, Bool, true, ◌&&◌, nat_eq, get_or, length, take, drop, Option, Some, None, refl, sym, ap, subst, ◌∙◌, arith}
+use Rattle.std.proofs.Common.{◌≡◌, inl, inr, ℕ, zero, suc, ◌+◌, ◌*◌, ◌/◌, ◌%◌, ◌<◌, ◌≤◌, List, [], ◌∷◌, ◌++◌, Bool, true, ◌&&◌, nat_eq, get_or, length, take, drop, Option, Some, None, refl, sym, ap, ◌∙◌, arith}
 use Rattle.std.specs.Prelude.{◌==◌, option_map}
 use Rattle.std.specs.Bool.{Decides}
 use Rattle.std.specs.Cmp.Lexicographic.{pointwise, bytes_decides}
@@ -12,6 +12,7 @@ use Rattle.warg_paths.specs.Pieces.{pieces, hashes_of}
 use Rattle.warg_tiles.specs.EntryBundles.{bundle_of}
 use Rattle.warg_protobuf.proofs.ForCallers.{all_parts}
 use Rattle.warg_store.specs.Log.{AreShort}
+use Rattle.warg_store.proofs.OptionLemmas.{one_value, no_value}
 
 -- what was read up to a length, and isn't longer, is the file
 pub whole_read : (o : Option (List ℕ)) (bytes : List ℕ) (most : ℕ) → Some bytes ≡ option_map (take (most + 1)) o
@@ -49,12 +50,11 @@ hashes_flat bytes digests is = elim (cases_Bool (length bytes % 32 == 0)) [
   | inl even ↦
       let left : length bytes % 32 ≡ 0 = eqb-true (length bytes % 32) 0 even in
       let count : length bytes ≡ 32 * (length bytes / 32) = omega (arith, left) in
-      let found : Some (pieces (length bytes / 32) bytes) ≡ Some digests = rw even at is in
-      let same : pieces (length bytes / 32) bytes ≡ digests = cc in (
+      let same : pieces (length bytes / 32) bytes ≡ digests = one_value refl (rw even at is) in (
         ap (flat_map (λ (d : List ℕ). d)) (sym same) ∙ pieces_flat (length bytes / 32) bytes count,
         omega (arith, count, ap (λ (l : List (List ℕ)). length l) same, pieces_count (length bytes / 32) bytes),
       )
-  | inr odd ↦ absurd (let none : None ≡ Some digests = rw odd at is in cc)
+  | inr odd ↦ absurd (no_value refl (rw odd at is))
 ]
 
 -- a tile's file, where its digests were read
@@ -81,7 +81,7 @@ short_in (entry ∷ entries) all = (
 
 pub bundle_short : (entries : List (List ℕ)) (bytes : List ℕ) → bytes ≡ bundle_of entries
     → ((i : ℕ) → get_or bytes i 0 < 256) → AreShort entries
-bundle_short entries bytes is low = short_in entries (subst (AllByRecursion (λ b. b < 256)) is (all_low bytes low))
+bundle_short entries bytes is low = short_in entries (rw (← is) (all_low bytes low))
 
 -- What `==` says of digests, and of rows of them.
 

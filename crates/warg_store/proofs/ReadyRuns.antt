@@ -1,10 +1,9 @@
 -- Runs over a folder that is ready for the next commit.
-use Rattle.std.proofs.Common.{◌≡◌, ℕ, List, Option, Some, sym, ap, subst, ◌∙◌, ◌≤◌, nat_eq, if◌then◌else◌}
-use Rattle.std.specs.Cmp.Lexicographic.{pointwise}
+use Rattle.std.proofs.Common.{◌≡◌, ℕ, List, refl, ◌∙◌, ◌≤◌}
 use Rattle.warg_folder.proofs.ForCallers.{leaves_then, in_end}
 use Rattle.warg_folder.specs.Files.{Files, put}
 use Rattle.warg_folder.specs.Moments.{Follows, LeavesOnly, Within}
-use Rattle.warg_folder.specs.Names.{mark, state}
+use Rattle.warg_folder.specs.Names.{state}
 use Rattle.warg_folder.specs.Commits.{IsBeside, IsStaging}
 
 beside_then : (s m c : Files) → IsBeside s m → IsBeside m c → IsBeside s c
@@ -21,8 +20,7 @@ pub stages_twice : {D : Type 0} {seen : D → Files} {may_leave : D → Files �
     → LeavesOnly moment left_since old mid (IsBeside (seen old))
     → LeavesOnly moment left_since mid new (IsBeside (seen mid))
     → LeavesOnly moment left_since old new (IsBeside (seen old))
-stages_twice {seen = seen} {may_leave = may_leave} {moment = moment} {left_since = left_since} {old = old} {mid = mid}
-    {new = new} counts stays one two =
+stages_twice {D} {seen} {may_leave} {moment} {left_since} {old} {mid} {new} counts stays one two =
     let P = IsBeside (seen old) in
     let now : P (seen mid) = in_end moment left_since may_leave counts old mid P one (seen mid) (stays mid) in
     leaves_then moment left_since old mid new P (IsBeside (seen mid)) P one two (λ c is. is)
@@ -33,15 +31,10 @@ pub state_staging : (bytes : List ℕ) (s t : Files) (may now : Files → Type 0
     → Follows (λ old new. new ≡ put (state, bytes) old) may now → IsStaging s may → IsStaging t now
 state_staging bytes s t may now is follows staging c left =
     let from = follows c left in
-    let was = staging from.0 from.1 in record {
-      outside = λ n isnt. ap (λ (f : Files). f n) from.2
-          ∙ ap (λ (o : Option (List ℕ)). if pointwise nat_eq state n then Some bytes else o) (was.outside n isnt)
-          ∙ sym (ap (λ (f : Files). f n) is);
-      no_mark = ap (λ (f : Files). f mark) from.2 ∙ was.no_mark;
-    }
+    let was = staging from.0 from.1 in
+    rw (from.2, is) (record { outside = λ n isnt. rw (was.outside n isnt) refl; no_mark = was.no_mark })
 
 -- a call that changes nothing keeps a folder ready
 pub staging_kept : (s t : Files) (may may_now : Files → Type 0) → t ≡ s → Within may may_now → IsStaging s may
     → IsStaging t may_now
-staging_kept s t may may_now same within was c left = subst (λ (f : Files). IsBeside f c) (sym same)
-    (was c (within c left))
+staging_kept s t may may_now same within was c left = rw same (was c (within c left))

@@ -1,8 +1,6 @@
 -- A log's tiles made again: what is staged, and what its commit makes.
-use Rattle.std.proofs.Common.{◌≡◌, ◌≢◌, inl, inr, ⊎_elim, ℕ, ◌^◌, ◌≤◌, true, false, nat_eq, List, length, Option, Some, None, refl, sym, ap, ◌∙◌, arith, if◌then◌else◌}
+use Rattle.std.proofs.Common.{◌≡◌, ◌≢◌, inl, inr, ⊎_elim, ℕ, ◌^◌, ◌≤◌, true, false, List, length, Option, Some, None, refl, sym, ap, ◌∙◌, arith}
 use mathlib.Core.Path.{fun_ext}
-use Rattle.std.specs.Cmp.Lexicographic.{pointwise}
-use Rattle.std.specs.Option.{option_or}
 use Rattle.std.proofs.lemmas.Bool.{cases_Bool}
 use Rattle.warg_crypto.specs.Digests.{sha256}
 use Rattle.warg_log.specs.Claims.{RootAndLength}
@@ -14,15 +12,16 @@ use Rattle.warg_tiles.specs.TilePaths.{tile_path, entries_path}
 use Rattle.warg_folder.specs.Files.{Files, put}
 use Rattle.warg_folder.specs.Moments.{LeavesOnly}
 use Rattle.warg_folder.specs.Names.{checkpoint, state, mark, staged, is_staged, is_served}
-use Rattle.warg_folder.specs.Commits.{checkpoint_after, told, published, finished, opened, opened_by, committed, NothingStaged, IsBeside, IsStaging, IsBetween}
+use Rattle.warg_folder.specs.Commits.{told, published, finished, opened, opened_by, committed, NothingStaged, IsBeside, IsStaging, IsBetween}
 use Rattle.warg_folder.proofs.ForCallers.{apart, leaves_then, not_staged, served_not_staged, served_not_checkpoint, served_not_state, put_apart, told_apart, without_at, idle_opened}
 use Rattle.warg_store.specs.Audited.{log_of, ShowsLog}
-use Rattle.warg_store.specs.Log.{LogOf, HasState, IsTileIn, checkpoint_of, said_of}
+use Rattle.warg_store.specs.Log.{LogOf, HasState, IsTileIn, said_of}
 use Rattle.warg_store.specs.Reading.{checkpoint_said}
 use Rattle.warg_store.specs.Rebuilt.{IsStated, IsRebuilt}
 use Rattle.warg_store.specs.Private.Used.{IsStagedIn, HasUsedAll, IsRemaking}
 use Rattle.warg_store.specs.declared.auditing.Use.TheVariants.{Stage}
 use Rattle.warg_store.proofs.PathLemmas.{no_tile_a_bundle}
+use Rattle.warg_store.proofs.OptionLemmas.{one_value}
 use Rattle.warg_store.proofs.ServeLemmas.{committed_served}
 use Rattle.warg_store.proofs.UsedLemmas.{said_by}
 use Rattle.warg_store.proofs.WholeLemmas.{same_said}
@@ -87,11 +86,7 @@ between_settled s mid next c nothing beside was = record {
 -- a text is told at each name by what stands there, and by the checkpoint
 told_same : (text : List ℕ) (s t : Files) (n : List ℕ) → s checkpoint ≡ t checkpoint → s n ≡ t n
     → told text s n ≡ told text t n
-told_same text s t n first here =
-    ap (λ (o : Option (List ℕ)). if pointwise nat_eq checkpoint n then checkpoint_after text o
-    else put (state, text) s n) first
-    ∙ ap (λ (o : Option (List ℕ)). if pointwise nat_eq checkpoint n then checkpoint_after text (t checkpoint)
-    else (if pointwise nat_eq state n then Some text else o)) here
+told_same text s t n first here = rw (first, here) refl
 
 not_mark : (n : List ℕ) → is_staged n ≡ false → mark ≢ n
 not_mark n isnt e = apart (ap is_staged e ∙ isnt)
@@ -119,8 +114,7 @@ module _ (first mid : Files) (edge : RightEdge) (said : Said) (nothing : Nothing
   served : (n : List ℕ) → is_served n ≡ true → ((t : TileAt) → IsTileIn log t → tile_path t ≢ n)
       → committed text mid n ≡ told text first n
   served n is none = committed_served mid text n is
-      ∙ ap (λ (o : Option (List ℕ)). option_or o (mid n)) (has.other n none ∙ nothing (staged n) refl)
-      ∙ has.outside n (served_not_staged n is)
+      ∙ rw (has.other n none, nothing (staged n) refl) (has.outside n (served_not_staged n is))
       ∙ sym (told_apart text first n (served_not_checkpoint n is) (served_not_state n is))
 
   gone : (n : List ℕ) → is_staged n ≡ true → committed text mid n ≡ told text first n
@@ -137,7 +131,7 @@ module _ (first mid : Files) (edge : RightEdge) (said : Said) (nothing : Nothing
     short = has.short;
     bundle = has.bundle;
     tile = λ t is. committed_served mid text (tile_path t) refl
-        ∙ ap (λ (o : Option (List ℕ)). option_or o (mid (tile_path t))) (has.tile t is);
+        ∙ rw (has.tile t is) refl;
     other = λ n none. elim (cases_Bool (is_staged n)) [
       | inl is ↦ gone n is
       | inr isnt ↦ elim (cases_Bool (is_served n)) [ inl is ↦ served n is none | inr other ↦ kept n isnt other ]
@@ -194,6 +188,5 @@ rebuilt_shown said old new is = (
 pub mark_stated : (log : LogOf) (files : Files) (text : List ℕ) → files mark ≡ Some text → HasState log (opened files)
     → length text ≤ 2 ^ 20
 mark_stated log files text stands has =
-    let both : Some text ≡ Some (checkpoint_of log) = sym (ap (λ (o : Option (List ℕ)). opened_by o files state) stands)
-    ∙ has.text in
-    let same : text ≡ checkpoint_of log = cc in omega (arith, ap length same, has.can.text)
+    let same = one_value (ap (λ (o : Option (List ℕ)). opened_by o files state) stands) has.text in
+    omega (arith, ap length same, has.can.text)

@@ -1,5 +1,5 @@
 -- A folder whose pages of some names go.
-use Rattle.std.proofs.Common.{◌≡◌, ◌⊎◌, inl, inr, ⊎_elim, ℕ, ◌<◌, List, length, map, get_or, true, false, None, Result, refl, sym, ap, subst, ◌∙◌, arith, string_bytes}
+use Rattle.std.proofs.Common.{◌≡◌, ◌⊎◌, inl, inr, ⊎_elim, ℕ, ◌<◌, List, length, map, get_or, true, false, None, Result, refl, sym, ap, ◌∙◌, arith, string_bytes}
 use Rattle.std.specs.Prelude.{OnOk, Ok, Err}
 use Rattle.std.specs.List.{Contains}
 use Rattle.std.proofs.lemmas.List.{get_or-map, length-map}
@@ -25,14 +25,10 @@ all_pages names s n = inl refl
 -- one page more that is gone, or none
 pub one_gone : (names : List (List ℕ)) (name : List ℕ) (s d c : Files) → Contains names name
     → IsWithoutPages names s d → IsPageGone name d c → IsWithoutPages names s c
-one_gone names name s d c has was (inl same) = subst (IsWithoutPages names s) (sym same) was
+one_gone names name s d c has was (inl same) = rw same was
 one_gone names name s d c has was (inr (page, gone)) =
-    subst (IsWithoutPages names s) (sym gone) (λ n. elim (one_name name n) [
-      | inl here ↦ inr (
-        ap (λ m. without name d m) (sym here.1) ∙ without_here name d,
-        subst (Contains names) here.1 has,
-        subst (λ m. is_page m ≡ true) here.1 page,
-      )
+    rw gone (λ n. elim (one_name name n) [
+      | inl here ↦ rw (← here.1) (inr (without_here name d, has, page))
       | inr other ↦ elim (was n) [
         | inl same ↦ inl (without_apart name d n other.1 ∙ same)
         | inr lost ↦ inr (without_apart name d n other.1 ∙ lost.0, lost.1, lost.2)
@@ -49,15 +45,13 @@ follows_one names name old mid new has was now c left =
 
 -- what is gone stays so
 pub still_gone : (name n : List ℕ) (d c : Files) → IsPageGone name d c → d n ≡ None → c n ≡ None
-still_gone name n d c (inl same) none = ap (λ (f : Files). f n) same ∙ none
-still_gone name n d c (inr (page, gone)) none = ap (λ (f : Files). f n) gone ∙ elim (one_name name n) [
-  | inl here ↦ ap (λ m. without name d m) (sym here.1) ∙ without_here name d
-  | inr other ↦ without_apart name d n other.1 ∙ none
-]
+still_gone name n d c (inl same) none = rw same none
+still_gone name n d c (inr (page, gone)) none = rw gone (elim (one_name name n)
+    [ inl here ↦ rw (← here.1) (without_here name d) | inr other ↦ without_apart name d n other.1 ∙ none ])
 
 -- a file that was removed is gone
 pub gone_here : (name : List ℕ) (d c : Files) → c ≡ without name d → c name ≡ None
-gone_here name d c gone = ap (λ (f : Files). f name) gone ∙ without_here name d
+gone_here name d c gone = rw gone (without_here name d)
 
 -- a page is no file of a log that has no page of its name
 no_file : (names : List (List ℕ)) (log : LogOf) (n : List ℕ) → IsNoneOf names log.pages → Contains names n
@@ -82,11 +76,11 @@ module _ (names : List (List ℕ)) (served old next : LogOf) (clear : ArePagesNo
   no_mark = ⊎_elim (λ same. same ∙ beside.no_mark) (λ lost. lost.0) (gone mark)
 
   pub without_keeps : Keeps served old c
-  without_keeps = still_keeps served old s keeps c no_mark file_stays
+  without_keeps = still_keeps keeps c no_mark file_stays
       (stays checkpoint refl (λ has page. apart (sym page))) (stays state refl (λ has page. apart (sym page)))
 
   pub without_one_of : IsOneOf served old old c
-  without_one_of = still_one_of served old s keeps c no_mark file_stays
+  without_one_of = still_one_of keeps c no_mark file_stays
       (stays checkpoint refl (λ has page. apart (sym page))) (stays state refl (λ has page. apart (sym page)))
 
 -- a log whose pages of these names are gone
@@ -96,7 +90,7 @@ pub without_has : {F : Type 0} (seen : F → Files) (may_leave : F → Files →
     → Only (seen folder) (may_leave folder)
     → Has seen may_leave served old next l → Has seen may_leave served old next (record l { folder = folder })
 without_has seen may_leave names served old next l folder clear beside gone only has =
-    still_has seen may_leave served old next l folder has
+    still_has folder has
     (without_keeps names served old next clear (seen l.folder) has.keeps (seen l.folder) beside (seen folder) gone)
     (⊎_elim (λ same. same ∙ beside.no_mark) (λ lost. lost.0) (gone mark))
     (λ n. ⊎_elim (λ same. same) (λ lost. absurd (apart (sym lost.2))) (gone (staged n))) only
@@ -111,5 +105,5 @@ pub named_in : (names : List (String Global)) (i : ℕ) (name : String Global) (
     → name ≡ get_or names i name → n ≡ string_bytes name → Contains (map (λ name. string_bytes name) names) n
 named_in names i name n below is value =
     let f : String Global → List ℕ = λ x. string_bytes x in
-    subst (Contains (map f names)) (get_or-map f names i name (f name) below ∙ ap f (sym is) ∙ sym value)
+    rw (get_or-map f names i name (f name) below ∙ ap f (sym is) ∙ sym value) at
     (Contains-get_or (map f names) i (f name) (omega (arith, below, length-map names f)))

@@ -7,11 +7,11 @@ use Rattle.warg_folder.specs.Commits.{opened, committed, opened_by}
 use Rattle.warg_folder.proofs.ForCallers.{not_staged, served_not_own, mark_not_staged_file, put_apart, without_at, opened_served, unmarked}
 
 -- where no commit stands, files stand for themselves
-pub idle_same : (s : Files) (n : List ℕ) → s mark ≡ None → is_own n ≡ false → opened s n ≡ s n
-idle_same s n none out = ap (λ (o : Option (List ℕ)). opened_by o s n) none ∙ without_at s n (not_staged n out)
-
 pub opened_idle : (s : Files) (n : List ℕ) → s mark ≡ None → is_staged n ≡ false → opened s n ≡ s n
 opened_idle s n none isnt = ap (λ (o : Option (List ℕ)). opened_by o s n) none ∙ without_at s n isnt
+
+pub idle_same : (s : Files) (n : List ℕ) → s mark ≡ None → is_own n ≡ false → opened s n ≡ s n
+idle_same s n none out = opened_idle s n none (not_staged n out)
 
 -- what stands at a served name once a commit stands
 pub committed_served : (s : Files) (text n : List ℕ) → is_served n ≡ true → committed text s n

@@ -1,5 +1,5 @@
 -- A signed checkpoint, over what a folder keeps.
-use Rattle.std.proofs.Common.{◌≡◌, ◌≢◌, ℕ, ◌<◌, List, [], ◌∷◌, ◌++◌, length, take, drop, get_or, nat_eq, true, false, Some, IsSome, inl, inr, ⊎_elim, refl, sym, ap, subst, ◌∙◌, arith}
+use Rattle.std.proofs.Common.{◌≡◌, ◌≢◌, ℕ, ◌<◌, List, [], ◌∷◌, ◌++◌, length, take, drop, get_or, nat_eq, true, false, Some, inl, inr, ⊎_elim, refl, sym, ap, ◌∙◌, arith}
 use Rattle.std.specs.Cmp.Lexicographic.{pointwise, bytes_decides}
 use Rattle.std.proofs.lemmas.List.{take-append-drop, take_at, drop_at}
 use Rattle.warg_tiles.specs.TilePaths.{tile_path, entries_path}
@@ -19,8 +19,8 @@ use Rattle.warg_store.proofs.OpenLemmas.{text_parts}
 pub note_from : (text note rest : List ℕ) → pointwise nat_eq (take (length text) note) text ≡ true
     → rest ≡ drop (length text) note → 1 < length rest → get_or rest 0 0 ≡ 10 → IsNoteOf text note
 note_from text note rest begins is more newline = of rest more newline
-    (sym (take-append-drop (length text) note) ∙ ap (λ (l : List ℕ). l ++ drop (length text) note)
-    ((bytes_decides (take (length text) note) text).0 begins) ∙ ap (λ (l : List ℕ). text ++ l) (sym is))
+    (sym (take-append-drop (length text) note)
+    ∙ rw ((bytes_decides (take (length text) note) text).0 begins, is) refl)
   where
     of : (r : List ℕ) → 1 < length r → get_or r 0 0 ≡ 10 → note ≡ text ++ r → IsNoteOf text note
     of [] some first e = absurd (omega arith)
@@ -40,12 +40,12 @@ note_back text note (first, behind, is) =
     )
 
 -- what is staged, where the staged files are the same
-pub full_staged_same : (older taken : ℕ) (log : LogOf) (s t : Files) → ((n : List ℕ) → t (staged n) ≡ s (staged n))
-    → AreFullStaged older taken log s → AreFullStaged older taken log t
-full_staged_same older taken log s t same was = record {
+pub full_staged_same : {older taken : ℕ} {log : LogOf} {s : Files} (t : Files)
+    → ((n : List ℕ) → t (staged n) ≡ s (staged n)) → AreFullStaged older taken log s → AreFullStaged older taken log t
+full_staged_same t same was = record {
   tile = λ u low is. same (tile_path u) ∙ was.tile u low is;
   bundle = λ u level is. same (entries_path u) ∙ was.bundle u level is;
-  nothing_else = λ n served some. was.nothing_else n served (subst IsSome (same n) some);
+  nothing_else = λ n served some. was.nothing_else n served (rw same at some);
 }
 
 module _ (note : List ℕ) (s : Files) where
@@ -64,15 +64,15 @@ module _ (note : List ℕ) (s : Files) where
       record {
         can = keeps.can;
         state = other state (not_own state refl) ∙ keeps.state;
-        holds = same_files old s (put (checkpoint, note) s) same keeps.holds;
+        holds = same_files (put (checkpoint, note) s) same keeps.holds;
         serves = record {
           can = keeps.can;
           checkpoint = (
             Some (is.0 ∷ is.1),
             put_here (checkpoint, note) s
-                ∙ ap (λ (b : List ℕ). Some b) (is.2 ∙ sym (text_parts (said_of old) (Some (is.0 ∷ is.1)))),
+                ∙ rw (is.2, text_parts (said_of old) (Some (is.0 ∷ is.1))) refl,
           );
-          holds = same_files old s (put (checkpoint, note) s) same keeps.holds;
+          holds = same_files (put (checkpoint, note) s) same keeps.holds;
         };
         begins = extends_self old;
         newest = λ _. refl;
@@ -95,7 +95,7 @@ module _ (note : List ℕ) (s : Files) where
       → IsStaging s may → IsStaging (put (checkpoint, note) s) now
   sign_staging may now follows was c left =
       let from = follows c left in
-      subst (λ (f : Files). IsBeside (put (checkpoint, note) s) f) (sym from.2) (beside_put from.0 (was from.0 from.1))
+      rw from.2 (beside_put from.0 (was from.0 from.1))
 
   -- at each moment the folder serves the log that it served, or the one that it keeps
   pub sign_moment : (served old : LogOf) (may now : Files → Type 0) → IsNoteOf (checkpoint_of old) note
@@ -104,11 +104,9 @@ module _ (note : List ℕ) (s : Files) where
   sign_moment served old may now is keeps follows was c left =
       let from = follows c left in
       elim (from.2) [
-        | inl same ↦ beside_one_of served old old s c keeps
-            (subst (λ (f : Files). IsBeside s f) (sym same) (was from.0 from.1))
+        | inl same ↦ beside_one_of served old old s c keeps (rw same (was from.0 from.1))
         | inr signed ↦ later (beside_one_of old old old (put (checkpoint, note) s) c (sign_keeps served old is keeps)
-            (subst (λ (f : Files). IsBeside (put (checkpoint, note) s) f) (sym signed)
-            (beside_put from.0 (was from.0 from.1))))
+            (rw signed (beside_put from.0 (was from.0 from.1))))
       ]
     where
       later : IsOneOf old old old c → IsOneOf served old old c
@@ -137,12 +135,8 @@ pub sign_has : {F : Type 0} (seen : F → Files) (may_leave : F → Files → Ty
 sign_has seen may_leave served old next l folder note is put_is follows has =
     let same : (n : List ℕ) → put (checkpoint, note) (seen l.folder) (staged n) ≡ seen l.folder (staged n) =
     λ n. put_apart (checkpoint, note) (seen l.folder) (staged n) (λ e. apart (ap is_own (sym e))) in
-    in_folder seen may_leave served old old next l folder has
-    (subst (Keeps old old) (sym put_is) (sign_keeps note (seen l.folder) served old is has.keeps))
-    (subst (λ (f : Files). AreFullStaged l.text.length l.edge.taken next f) (sym put_is)
-    (full_staged_same l.text.length l.edge.taken next (seen l.folder) (put (checkpoint, note) (seen l.folder)) same
-    has.staged))
-    (pages_beside served.pages old.pages old.pages next.pages (seen l.folder) (seen folder) (λ path has. has)
-    (λ path. ap (λ (f : Files). f (staged (page_name path))) put_is ∙ same (page_name path)) has.pages)
-    (subst (λ (f : Files). IsStaging f (may_leave folder)) (sym put_is)
-    (sign_staging note (seen l.folder) (may_leave l.folder) (may_leave folder) follows has.staging))
+    in_folder folder has (rw put_is (sign_keeps note (seen l.folder) served old is has.keeps))
+    (rw put_is (full_staged_same (put (checkpoint, note) (seen l.folder)) same has.staged))
+    (pages_beside (λ path has. has)
+    (λ path. rw put_is (same (page_name path))) has.pages)
+    (rw put_is (sign_staging note (seen l.folder) (may_leave l.folder) (may_leave folder) follows has.staging))

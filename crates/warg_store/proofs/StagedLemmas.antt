@@ -1,16 +1,33 @@
 -- Files that are staged one after the other.
-use Rattle.std.proofs.Common.{◌≡◌, ◌⊎◌, inl, inr, ⊎_elim, ℕ, ◌+◌, ◌<◌, ◌≤◌, List, [], ◌∷◌, ◌++◌, length, take, map, get_or, nat_le, false, Some, IsSome, refl, sym, ap, ◌∙◌, subst}
+use Rattle.std.proofs.Common.{◌≡◌, ◌≢◌, ◌⊎◌, inl, inr, ⊎_elim, ℕ, ◌+◌, ◌<◌, ◌≤◌, List, [], ◌∷◌, ◌++◌, length, take, map, get_or, nat_le, false, Some, IsSome, refl, sym, ap, ◌∙◌, subst, arith}
 use Rattle.std.specs.List.{AllByRecursion, flat_map}
-use Rattle.std.proofs.lemmas.Bool.{cases_Bool, cases_lt, le-leb, lt-leb}
-use Rattle.std.proofs.lemmas.List.{take_more, map-append}
+use Rattle.std.proofs.lemmas.Bool.{cases_Bool, le-leb, lt-leb}
 use Rattle.warg_tiles.specs.Tiles.{TileAt, tile_end}
 use Rattle.warg_tiles.specs.TilePaths.{tile_path}
 use Rattle.warg_tiles.specs.TileData.{Tiles}
 use Rattle.warg_folder.specs.Files.{File, Files, put, IsNameOf}
 use Rattle.warg_folder.specs.Names.{staged, is_staged}
 use Rattle.warg_folder.specs.Commits.{IsBeside}
+use Rattle.warg_store.specs.Log.{LogOf, tile_bytes}
 use Rattle.warg_store.specs.Staged.{staged_all, new_files}
+use Rattle.warg_store.proofs.ListLemmas.{next_mapped}
 use Rattle.warg_folder.proofs.ForCallers.{one_name, apart, staged_once, put_here, put_apart}
+
+-- the tiles of these digests
+abbrev pub tiles_of : Tiles → List TileAt
+tiles_of tiles = map (λ (x : TileAt × List (List ℕ)). x.0) tiles
+
+-- tiles with the bytes of a log's, of each of which R holds
+abbrev pub AreFilesOf : LogOf → (TileAt → Type 0) → Tiles → Type 0
+AreFilesOf log R tiles = AllByRecursion
+    (λ (x : TileAt × List (List ℕ)). R x.0 × (flat_map (λ digest. digest) x.1 ≡ tile_bytes log x.0)) tiles
+
+-- what a file that is staged changes at another staged name, and at one that isn't staged: nothing
+pub put_beside : (f : File) (s : Files) (n : List ℕ) → f.0 ≢ n → put (staged f.0, f.1) s (staged n) ≡ s (staged n)
+put_beside f s n differ = put_apart (staged f.0, f.1) s (staged n) (λ e. differ (staged_once f.0 n e))
+
+pub put_outside : (f : File) (s : Files) (n : List ℕ) → is_staged n ≡ false → put (staged f.0, f.1) s n ≡ s n
+put_outside f s n isnt = put_apart (staged f.0, f.1) s n (λ e. apart (ap is_staged e ∙ isnt))
 
 pub staged_all-append : (fs gs : List File) (s : Files) → staged_all (fs ++ gs) s ≡ staged_all gs (staged_all fs s)
 staged_all-append [] gs s = refl
@@ -30,12 +47,10 @@ pub one_more : (X : Type 0) (tile : X → TileAt × List (List ℕ)) (older : �
     → now ≡ staged_all (new_files older (map tile (take i xs))) s → new ≡ staged_all (new_files older (tile x ∷ [])) now
     → new ≡ staged_all (new_files older (map tile (take (i + 1) xs))) s
 one_more X tile older xs i x below is s now new so_far more =
-    let all : map tile (take (i + 1) xs) ≡ map tile (take i xs) ++ tile x ∷ [] =
-    ap (map tile) (take_more xs i x below ∙ ap (λ (y : X). take i xs ++ y ∷ []) (sym is))
-    ∙ map-append tile (take i xs) (x ∷ []) in
     more ∙ ap (staged_all (new_files older (tile x ∷ []))) so_far
     ∙ sym (ap (λ (fs : List File). staged_all fs s)
-    (ap (new_files older) all ∙ new_files-append older (map tile (take i xs)) (tile x ∷ []))
+    (ap (new_files older) (next_mapped tile xs i x below is)
+    ∙ new_files-append older (map tile (take i xs)) (tile x ∷ []))
     ∙ staged_all-append (new_files older (map tile (take i xs))) (new_files older (tile x ∷ [])) s)
 
 -- a tile that the older log has isn't staged, and one that it hasn't is
@@ -45,14 +60,12 @@ old_tile older t s old = rw (le-leb (tile_end t.0) older old) refl
 
 pub new_tile : (older : ℕ) (t : TileAt × List (List ℕ)) (s : Files) → (tile_end t.0 ≤ older → ⊥)
     → put (staged (tile_path t.0), flat_map (λ digest. digest) t.1) s ≡ staged_all (new_files older (t ∷ [])) s
-new_tile older t s new = rw (lt-leb (tile_end t.0) older
-    (elim (cases_lt older (tile_end t.0)) [ inl lt ↦ lt | inr le ↦ absurd (new le) ])) refl
+new_tile older t s new = rw (lt-leb (tile_end t.0) older (omega (arith, new))) refl
 
 -- nothing but staged names changes
 pub staged_outside : (fs : List File) (s : Files) (n : List ℕ) → is_staged n ≡ false → staged_all fs s n ≡ s n
 staged_outside [] s n isnt = refl
-staged_outside (f ∷ fs) s n isnt = staged_outside fs (put (staged f.0, f.1) s) n isnt ∙ put_apart (staged f.0, f.1) s n
-    (λ e. apart (ap is_staged e ∙ isnt))
+staged_outside (f ∷ fs) s n isnt = staged_outside fs (put (staged f.0, f.1) s) n isnt ∙ put_outside f s n isnt
 
 -- a file that is among them stands where it is staged
 pub staged_there : (fs : List File) (s : Files) (n b : List ℕ) → AllByRecursion (λ f. f.0 ≡ n → f.1 ≡ b) fs
@@ -62,7 +75,7 @@ staged_there (f ∷ fs) s n b same at = staged_there fs (put (staged f.0, f.1) s
   | inl here ↦ inr (subst (λ (m : List ℕ). put (staged f.0, f.1) s (staged m) ≡ Some b) here.1
       (put_here (staged f.0, f.1) s ∙ ap (λ (c : List ℕ). Some c) (same.0 here.1)))
   | inr other ↦ ⊎_elim (⊎_elim (λ e. absurd (other.1 e)) (λ rest. inl rest))
-      (λ e. inr (put_apart (staged f.0, f.1) s (staged n) (λ e. other.1 (staged_once f.0 n e)) ∙ e)) at
+      (λ e. inr (put_beside f s n other.1 ∙ e)) at
 ])
 
 -- what is staged is one of them, or was staged before
@@ -72,8 +85,7 @@ staged_from P [] s n each some = inl some
 staged_from P (f ∷ fs) s n each some = elim (staged_from P fs (put (staged f.0, f.1) s) n each.1 some) [
   | inl here ↦ elim (one_name f.0 n) [
     | inl same ↦ inr (f, each.0, same.1)
-    | inr other ↦ inl (subst IsSome (put_apart (staged f.0, f.1) s (staged n) (λ e. other.1 (staged_once f.0 n e)))
-        here)
+    | inr other ↦ inl (rw (put_beside f s n other.1) at here)
   ]
   | inr later ↦ inr later
 ]

@@ -1,10 +1,10 @@
 -- A folder's files, as the entries of their bundles are read back and the tiles over them used.
-use Rattle.std.proofs.Common.{◌≡◌, ◌≢◌, ◌⊎◌, inl, inr, ⊎_elim, ℕ, zero, suc, ◌+◌, ◌-◌, ◌*◌, ◌/◌, ◌^◌, ◌<◌, ◌≤◌, false, min, List, [], ◌∷◌, ◌++◌, length, map, take, drop, Some, refl, sym, ap, subst, ◌∙◌, arith}
-use Rattle.std.specs.List.{AllByRecursion, Contains, flat_map}
+use Rattle.std.proofs.Common.{◌≡◌, ◌≢◌, ◌↔◌, ◌⊎◌, inl, inr, ⊎_elim, ℕ, zero, suc, ◌+◌, ◌-◌, ◌*◌, ◌/◌, ◌^◌, ◌<◌, ◌≤◌, false, min, List, [], ◌∷◌, ◌++◌, length, drop, Some, refl, sym, ap, ◌∙◌, arith}
+use Rattle.std.specs.List.{Contains}
 use Rattle.std.proofs.lemmas.Bool.{cases_lt}
 use Rattle.std.proofs.lemmas.List.{length-append, length-map, take_all}
 use Rattle.std.proofs.lemmas.Nat.{pow_pos}
-use Rattle.std.proofs.Math.Nat.{zero-div, mul-le-mul_right}
+use Rattle.std.proofs.Math.Nat.{mul-le-mul_right}
 use Rattle.std.proofs.Math.Seq.{drop-append_seam}
 use Rattle.warg_crypto.specs.Digests.{sha256}
 use Rattle.warg_log.specs.Claims.{RootAndLength}
@@ -17,9 +17,8 @@ use Rattle.warg_tiles.specs.TileData.{Tiles}
 use Rattle.warg_tiles.specs.TileLog.{RightEdge, StandsFor, AreTilesOf, full_between, partial_tiles}
 use Rattle.warg_tiles.specs.TilePaths.{tile_path, entries_path}
 use Rattle.warg_tiles.proofs.ForCallers.{full_tiles, partial_of, low_level}
-use Rattle.warg_folder.specs.Files.{File, Files}
-use Rattle.warg_folder.specs.Names.{staged, is_staged}
-use Rattle.warg_folder.proofs.ForCallers.{served_not_staged}
+use Rattle.warg_folder.specs.Files.{Files}
+use Rattle.warg_folder.specs.Names.{is_staged}
 use Rattle.warg_store.specs.Audited.{log_of, ShowsLogAndOlder}
 use Rattle.warg_store.specs.Log.{LogOf, AreShort, Extends, IsTileIn, IsBundleIn, said_of, tile_bytes, bundle_bytes}
 use Rattle.warg_store.specs.Reading.{checkpoint_said}
@@ -28,12 +27,13 @@ use Rattle.warg_store.specs.Private.Compared.{HasTiles, IsNarrower, HasNarrowerB
 use Rattle.warg_store.specs.Private.Used.{place_of, AreUsed, HasUsed, HasUsedAll}
 use Rattle.warg_store.specs.declared.auditing.Use.{Use}
 use Rattle.warg_store.specs.declared.auditing.Use.TheVariants.{Compare, Stage}
-use Rattle.warg_store.proofs.GrowingLemmas.{ground, from_ground, full_stays, own_files, tile_there, apart_there}
+use Rattle.warg_store.proofs.GrowingLemmas.{ground, from_ground, full_stays, own_files, own_parts, tile_there, apart_there}
 use Rattle.warg_store.proofs.PathLemmas.{same_tile}
-use Rattle.warg_store.proofs.LeadLemmas.{width_at_most, bytes_kept, entries_kept, tile_kept, bundle_kept, tile_was, bundle_was}
+use Rattle.warg_store.proofs.LeadLemmas.{stands_length, no_tile, width_at_most, bytes_kept, entries_kept, tile_kept, bundle_kept, tile_was, bundle_was}
 use Rattle.warg_store.proofs.OptionLemmas.{one_value}
 use Rattle.warg_store.proofs.OlderLemmas.{IsPlaced, narrow_end, own_narrow, placed, same_or_narrower}
-use Rattle.warg_store.proofs.StagedLemmas.{staged_outside}
+use Rattle.warg_store.proofs.StagedLemmas.{tiles_of, AreFilesOf, staged_outside}
+use Rattle.warg_store.proofs.WholeLemmas.{same_said}
 
 -- a tile ends behind no entry
 ends_behind : (t : TileAt) → 0 < t.width → tile_end t ≤ 0 → ⊥
@@ -43,47 +43,38 @@ ends_behind t some none =
 
 -- a log's own tiles, which the files have, have its bytes there
 own_there : (log : LogOf) (R : TileAt → Type 0) (files : Files) (tiles : Tiles)
-    → AllByRecursion (λ (x : TileAt × List (List ℕ)). R x.0 × (flat_map (λ digest. digest) x.1 ≡ tile_bytes log x.0))
-    tiles
-    → HasTiles files tiles → (t : TileAt) → Contains (map (λ (x : TileAt × List (List ℕ)). x.0) tiles) t
+    → AreFilesOf log R tiles → HasTiles files tiles → (t : TileAt) → Contains (tiles_of tiles) t
     → files (tile_path t) ≡ Some (tile_bytes log t)
 own_there log R files [] own has t (k, low, is) = absurd (omega arith)
 own_there log R files (x ∷ xs) own has t (zero, low, is) =
-    subst (λ (u : TileAt). files (tile_path u) ≡ Some (tile_bytes log u)) is
-    (has.0 ∙ ap (λ (b : List ℕ). Some b) own.0.1)
+    rw (← is) (has.0 ∙ ap (λ (b : List ℕ). Some b) own.0.1)
 own_there log R files (x ∷ xs) own has t (suc k, low, is) =
     own_there log R files xs own.1 has.1 t (k, omega arith, is)
 
 -- Tiles of a log that are used: R says of each which one it is.
-module _ (log : LogOf) (R : TileAt → Type 0) (low : (t : TileAt) → R t → t.level < 8) (most : (t : TileAt) → R t
-    → t.width ≤ 256) (tiles : Tiles)
-    (own : AllByRecursion (λ (x : TileAt × List (List ℕ)). R x.0
-    × (flat_map (λ digest. digest) x.1 ≡ tile_bytes log x.0)) tiles) (old new : Files) where
+module _ (log : LogOf) (R : TileAt → Type 0) (exists : (t : TileAt) → R t → IsTileIn log t)
+    (tiles : Tiles)
+    (own : AreFilesOf log R tiles) (old new : Files) where
   -- each is at its place, and so is one that was there
   pub used_there : (how : Use) → AreUsed how tiles old new → (t : TileAt) → IsTileIn log t
-      → Contains (map (λ (x : TileAt × List (List ℕ)). x.0) tiles) t
+      → Contains (tiles_of tiles) t
       ⊎ (old (place_of how (tile_path t)) ≡ Some (tile_bytes log t))
       → new (place_of how (tile_path t)) ≡ Some (tile_bytes log t)
-  used_there Compare used t is (inl has) = ap (λ (f : Files). f (tile_path t)) used.0
-      ∙ own_there log R old tiles own used.1 t has
-  used_there Compare used t is (inr was) = ap (λ (f : Files). f (tile_path t)) used.0 ∙ was
-  used_there Stage used t is from = ap (λ (f : Files). f (staged (tile_path t))) used
-      ∙ tile_there log R low most 0 tiles own old t is.level (width_at_most (length log.entries) t is.exists)
-      (⊎_elim (λ has. inl (has, ends_behind t is.exists.some)) (λ was. inr was) from)
+  used_there Compare used t is from = rw used.0 (⊎_elim (own_there log R old tiles own used.1 t) (λ was. was) from)
+  used_there Stage used t is from = rw used (tile_there log R exists 0 tiles own old t is
+      (⊎_elim (λ has. inl (has, ends_behind t is.exists.some)) (λ was. inr was) from))
 
   -- and at the path of no other one anything changes
   pub used_apart : (how : Use) → AreUsed how tiles old new → (n : List ℕ) → ((t : TileAt) → R t → tile_path t ≢ n)
       → new (place_of how n) ≡ old (place_of how n)
-  used_apart Compare used n none = ap (λ (f : Files). f n) used.0
-  used_apart Stage used n none = ap (λ (f : Files). f (staged n)) used
-      ∙ apart_there log R low most 0 tiles own old n none
+  used_apart Compare used n none = rw used.0 refl
+  used_apart Stage used n none = rw used (apart_there log R exists 0 tiles own old n none)
 
 -- nothing but staged files changes
 used_outside : (how : Use) (tiles : Tiles) (old new : Files) → AreUsed how tiles old new → (n : List ℕ)
     → is_staged n ≡ false → new n ≡ old n
-used_outside Compare tiles old new used n isnt = ap (λ (f : Files). f n) used.0
-used_outside Stage tiles old new used n isnt = ap (λ (f : Files). f n) used
-    ∙ staged_outside (new_files 0 tiles) old n isnt
+used_outside Compare tiles old new used n isnt = rw used.0 refl
+used_outside Stage tiles old new used n isnt = rw used (staged_outside (new_files 0 tiles) old n isnt)
 
 -- no entry has files
 pub none_used : (how : Use) (files : Files) (edge : RightEdge) → edge.taken ≡ edge.len → StandsFor sha256 edge []
@@ -94,18 +85,15 @@ none_used how files edge taken stands = record {
   short = tt;
   stands = stands;
   taken = taken;
-  bundle = λ t is. absurd (none t is.exists);
-  tile = λ t is full. absurd (none t is.exists);
+  bundle = λ t is. absurd (no_tile t is.exists);
+  tile = λ t is full. absurd (no_tile t is.exists);
   older = λ compared. record {
-    tile = λ t newer bytes is. absurd (none newer is.exists);
-    bundle = λ t newer bytes is. absurd (none newer is.exists);
+    tile = λ t newer bytes is. absurd (no_tile newer is.exists);
+    bundle = λ t newer bytes is. absurd (no_tile newer is.exists);
   };
   other = λ n apart. refl;
   outside = λ n isnt. refl;
 }
-  where
-    none : (t : TileAt) → IsTileOf 0 t → ⊥
-    none t is = omega (arith, is.some, is.width, zero-div (2 ^ (8 * t.level)))
 
 -- One bundle more: its entries are pushed, and the tiles that they fill are taken and used.
 module _ (how : Use) (first before after : Files) (number size : ℕ) (old mid new : RightEdge) (xs : List (List ℕ))
@@ -132,43 +120,33 @@ module _ (how : Use) (first before after : Files) (number size : ℕ) (old mid n
   size_now : length all ≡ min (256 * number + 256) size
   size_now = omega (arith, length-append was.entries xs, count, was.count, inside)
 
-  old_len : mid.taken ≡ length was.entries
-  old_len = taken ∙ was.taken ∙ sym was.stands.count ∙ length-map was.entries (λ (e : List ℕ). sha256 (0 ∷ e))
-
   stand : StandsFor sha256 mid (leaves_of sha256 all)
   stand = pushed was.entries was.stands
 
-  new_len : mid.len ≡ length all
-  new_len = sym stand.count ∙ length-map all (λ (e : List ℕ). sha256 (0 ∷ e))
+  old_len : length was.entries ≡ mid.taken
+  old_len = stands_length was.entries was.stands ∙ sym (taken ∙ was.taken)
 
-  most : mid.len ≤ 2 ^ 63
-  most = omega (arith, new_len, size_now, fits)
+  own_now : AreTilesOf sha256 (leaves_of sha256 all) (full_between (length was.entries) (length all)) tiles
+  own_now = rw (old_len, stands_length all stand) (own (leaves_of sha256 all) stand)
 
-  each_full : (t : TileAt) → Contains (map (λ (x : TileAt × List (List ℕ)). x.0) tiles) t → IsFull t
-  each_full t has =
-      let is = ((full_tiles mid.taken mid.len most).exactly t).0
-      (subst (λ (l : List TileAt). Contains l t) (own (leaves_of sha256 all) stand).places has) in
-      (record { level = low_level mid.len t most is.1; exists = subst (λ n. IsTileOf n t) new_len is.1 }, is.0)
+  most : length all ≤ 2 ^ 63
+  most = omega (arith, size_now, fits)
 
-  own_full : AllByRecursion (λ (x : TileAt × List (List ℕ)). IsFull x.0
-      × (flat_map (λ digest. digest) x.1 ≡ tile_bytes (log_of all) x.0)) tiles
-  own_full = own_files (log_of all) IsFull tiles each_full (own (leaves_of sha256 all) stand).digests
+  exactly : (t : TileAt) → Contains (tiles_of tiles) t
+      ↔ ((t.width ≡ 256) × IsTileOf (length all) t × (IsTileOf (length was.entries) t → ⊥))
+  exactly t = rw own_now.places ((full_tiles (length was.entries) (length all) most).exactly t)
 
-  low : (t : TileAt) → IsFull t → t.level < 8
-  low t is = is.0.level
+  each_full : (t : TileAt) → Contains (tiles_of tiles) t → IsFull t
+  each_full t has = let is = (exactly t).0 has in
+      (record { level = low_level (length all) t most is.1; exists = is.1 }, is.0)
 
-  wide : (t : TileAt) → IsFull t → t.width ≤ 256
-  wide t is = omega (arith, is.1)
+  own_full : AreFilesOf (log_of all) IsFull tiles
+  own_full = own_files (log_of all) IsFull tiles each_full own_now.digests
 
   new_tile : (t : TileAt) → IsTileIn (log_of all) t → t.width ≡ 256 → (IsTileIn (log_of was.entries) t → ⊥)
-      → Contains (map (λ (x : TileAt × List (List ℕ)). x.0) tiles) t
+      → Contains (tiles_of tiles) t
   new_tile t is full fresh =
-      subst (λ (l : List TileAt). Contains l t) (sym (own (leaves_of sha256 all) stand).places)
-      (((full_tiles mid.taken mid.len most).exactly t).1 (
-        full,
-        subst (λ n. IsTileOf n t) (sym new_len) is.exists,
-        λ before. fresh (record { level = is.level; exists = subst (λ n. IsTileOf n t) old_len before }),
-      ))
+      (exactly t).1 (full, is.exists, λ before. fresh (record { level = is.level; exists = before }))
 
   full_kept : (t : TileAt) → IsTileIn (log_of was.entries) t → t.width ≡ 256 → IsFull t
   full_kept t is full =
@@ -190,26 +168,23 @@ module _ (how : Use) (first before after : Files) (number size : ℕ) (old mid n
       let same : t.number ≡ number = omega (arith, low, high) in
       same_tile t (filled 0 size number) is.level same (omega (arith, g.1, size_now, same, inside))
 
+  rest_is : drop (256 * number) all ≡ xs
+  rest_is = rw (← was.count) (drop-append_seam was.entries xs)
+
   new_bundle : first (entries_path (filled 0 size number)) ≡ Some (bundle_bytes (log_of all) (filled 0 size number))
-  new_bundle =
-      sym (was.outside (entries_path (filled 0 size number))
-      (served_not_staged (entries_path (filled 0 size number)) refl)) ∙ file
-      ∙ ap (λ (l : List (List ℕ)). Some (bundle_of l))
-      (sym (ap (λ n. take (min (size - 256 * number) 256) (drop n all)) (sym was.count)
-      ∙ ap (take (min (size - 256 * number) 256)) (drop-append_seam was.entries xs)
-      ∙ take_all (min (size - 256 * number) 256) xs (omega (arith, count))))
+  new_bundle = sym (was.outside (entries_path (filled 0 size number)) refl) ∙ file
+      ∙ rw (rest_is, take_all (min (size - 256 * number) 256) xs (omega (arith, count))) refl
 
   -- what is left in the places of the tiles that were compared, and of the bundle
   tile_left : how ≡ Compare → (t newer : TileAt) (bytes : List ℕ) → IsTileIn (log_of all) newer → newer.width ≡ 256
       → IsNarrower t newer → first (tile_path t) ≡ Some bytes → bytes ≡ tile_bytes (log_of all) t
   tile_left compared t newer bytes is full narrow there = ⊎_elim
       (λ had. (was.older compared).tile t newer bytes had full narrow there
-      ∙ sym (bytes_kept (log_of was.entries) (log_of all) grown t
+      ∙ sym (bytes_kept grown t
       (narrow_end (length was.entries) t newer had.exists narrow)))
-      (λ fresh. own_narrow (log_of all) before tiles (own (leaves_of sha256 all) stand).digests
-      (subst (λ (u : Use). AreUsed u tiles before after) compared used).2 newer (new_tile newer is full fresh) t bytes
-      narrow (was.outside (tile_path t) (served_not_staged (tile_path t) refl) ∙ there))
-      (tile_was (log_of was.entries) (log_of all) grown newer is)
+      (λ fresh. own_narrow (log_of all) before tiles own_now.digests (rw compared at used).2 newer
+      (new_tile newer is full fresh) t bytes narrow (was.outside (tile_path t) refl ∙ there))
+      (tile_was grown newer is)
 
   bundle_left : how ≡ Compare → (t newer : TileAt) (bytes : List ℕ) → IsBundleIn (log_of all) newer
       → IsNarrower t newer → first (entries_path t) ≡ Some bytes → bytes ≡ bundle_bytes (log_of all) t
@@ -217,22 +192,19 @@ module _ (how : Use) (first before after : Files) (number size : ℕ) (old mid n
       (λ had.
       let g = ground (length was.entries) newer had.level had.exists in
       (was.older compared).bundle t newer bytes had narrow there
-      ∙ sym (entries_kept (log_of was.entries) (log_of all) grown t
+      ∙ sym (entries_kept grown t
       (omega (arith, g.0, g.1, narrow.number, narrow.less))))
       (λ fresh.
       let same = the_bundle newer is fresh in
       let number_is : t.number ≡ number = narrow.number ∙ ap (λ (u : TileAt). u.number) same in
-      let start : 256 * t.number ≡ length was.entries = omega (arith, number_is, was.count) in
       older compared t bytes (record {
         is = narrow.is;
         level = narrow.level ∙ is.level;
         number = number_is;
         less = omega (arith, narrow.less, ap (λ (u : TileAt). u.width) same, count);
         partial = narrow.partial;
-      }) (was.outside (entries_path t) (served_not_staged (entries_path t) refl) ∙ there)
-      ∙ ap (λ (l : List (List ℕ)). bundle_of (take t.width l))
-      (sym (ap (λ n. drop n all) start ∙ drop-append_seam was.entries xs)))
-      (bundle_was (log_of was.entries) (log_of all) grown newer is)
+      }) (was.outside (entries_path t) refl ∙ there) ∙ rw (number_is, rest_is) refl)
+      (bundle_was grown newer is)
 
   pub bundle_more : HasUsed how first after (min (256 * number + 256) size) new
   bundle_more = record {
@@ -241,17 +213,13 @@ module _ (how : Use) (first before after : Files) (number size : ℕ) (old mid n
     short = all_append (λ (e : List ℕ). length e < 65536) was.entries xs was.short short;
     stands = stands (leaves_of sha256 all) stand;
     taken = ap (λ (e : RightEdge). e.taken) rest ∙ sym (ap (λ (e : RightEdge). e.len) rest);
-    bundle = λ t is. ⊎_elim
-        (λ had. was.bundle t had ∙ ap (λ (b : List ℕ). Some b)
-        (sym (bundle_kept (log_of was.entries) (log_of all) grown t had)))
-        (λ fresh. subst (λ (u : TileAt). first (entries_path u) ≡ Some (bundle_bytes (log_of all) u))
-        (sym (the_bundle t is fresh)) new_bundle) (bundle_was (log_of was.entries) (log_of all) grown t is);
-    tile = λ t is full. used_there (log_of all) IsFull low wide tiles own_full before after how used t is (⊎_elim
-        (λ had. inr (was.tile t had full ∙ ap (λ (b : List ℕ). Some b)
-        (sym (tile_kept (log_of was.entries) (log_of all) grown t had))))
-        (λ fresh. inl (new_tile t is full fresh)) (tile_was (log_of was.entries) (log_of all) grown t is));
+    bundle = λ t is. ⊎_elim (λ had. rw (bundle_kept grown t had) (was.bundle t had))
+        (λ fresh. rw (the_bundle t is fresh) new_bundle) (bundle_was grown t is);
+    tile = λ t is full. used_there (log_of all) IsFull (λ t is. is.0) tiles own_full before after how used t is (⊎_elim
+        (λ had. inr (rw (tile_kept grown t had) (was.tile t had full)))
+        (λ fresh. inl (new_tile t is full fresh)) (tile_was grown t is));
     older = λ compared. record { tile = tile_left compared; bundle = bundle_left compared };
-    other = λ n apart. used_apart (log_of all) IsFull low wide tiles own_full before after how used n
+    other = λ n apart. used_apart (log_of all) IsFull (λ t is. is.0) tiles own_full before after how used n
         (λ t is. apart t is.0 is.1)
         ∙ was.other n (λ t is full. let now = full_kept t is full in apart t now.0 full);
     outside = λ n isnt. used_outside how tiles before after used n isnt ∙ was.outside n isnt;
@@ -266,7 +234,7 @@ pub bundle_next : (how : Use) (first before after : Files) (number size : ℕ) (
 bundle_next how first before after number size old new inside step was =
     let now : min (256 * number) size ≡ 256 * number = omega (arith, inside) in
     let next : min (256 * number + 256) size ≡ min (256 * (number + 1)) size = omega arith in
-    subst (λ n. HasUsed how first after n new) next (step (subst (λ n. HasUsed how first before n old) now was))
+    rw (← next) (step (rw now at was))
 
 -- With the partial tiles all are used.
 module _ (how : Use) (first before after : Files) (count : ℕ) (edge : RightEdge) (tiles : Tiles) (most : count ≤ 2 ^ 63)
@@ -275,44 +243,33 @@ module _ (how : Use) (first before after : Files) (count : ℕ) (edge : RightEdg
   abbrev log : LogOf
   log = log_of has.entries
 
-  len : edge.len ≡ length has.entries
-  len = sym has.stands.count ∙ length-map has.entries (λ (e : List ℕ). sha256 (0 ∷ e))
+  own_parted : AreTilesOf sha256 (leaves_of sha256 log.entries) (partial_tiles (length has.entries)) tiles
+  own_parted = own_parts log edge tiles has.stands own
 
-  fits : edge.len ≤ 2 ^ 63
-  fits = omega (arith, len, has.count, most)
+  fits : length has.entries ≤ 2 ^ 63
+  fits = omega (arith, has.count, most)
 
-  each_part : (t : TileAt) → Contains (map (λ (x : TileAt × List (List ℕ)). x.0) tiles) t → IsTileIn log t
-  each_part t is =
-      let part = ((partial_of edge.len fits).exactly t).0
-      (subst (λ (l : List TileAt). Contains l t) (own (leaves_of sha256 has.entries) has.stands).places is) in
-      record { level = low_level edge.len t fits part.0; exists = subst (λ n. IsTileOf n t) len part.0 }
+  exactly_parts : (t : TileAt) → Contains (tiles_of tiles) t ↔ (IsTileOf (length has.entries) t × (t.width < 256))
+  exactly_parts t = rw own_parted.places ((partial_of (length has.entries) fits).exactly t)
 
-  own_parts : AllByRecursion (λ (x : TileAt × List (List ℕ)). IsTileIn log x.0
-      × (flat_map (λ digest. digest) x.1 ≡ tile_bytes log x.0)) tiles
-  own_parts = own_files log (IsTileIn log) tiles each_part (own (leaves_of sha256 has.entries) has.stands).digests
-
-  part_low : (t : TileAt) → IsTileIn log t → t.level < 8
-  part_low t is = is.level
-
-  part_wide : (t : TileAt) → IsTileIn log t → t.width ≤ 256
-  part_wide t is = width_at_most (length has.entries) t is.exists
+  part_files : AreFilesOf log (IsTileIn log) tiles
+  part_files = own_files log (IsTileIn log) tiles (λ t is. let part = (exactly_parts t).0 is in
+      record { level = low_level (length has.entries) t fits part.0; exists = part.0 }) own_parted.digests
 
   part_there : (t : TileAt) → IsTileIn log t → t.width < 256
-      → Contains (map (λ (x : TileAt × List (List ℕ)). x.0) tiles) t
-  part_there t is part = subst (λ (l : List TileAt). Contains l t)
-      (sym (own (leaves_of sha256 has.entries) has.stands).places)
-      (((partial_of edge.len fits).exactly t).1 (subst (λ n. IsTileOf n t) (sym len) is.exists, part))
+      → Contains (tiles_of tiles) t
+  part_there t is part = (exactly_parts t).1 (is.exists, part)
 
   tile_now : (t : TileAt) → IsTileIn log t → after (place_of how (tile_path t)) ≡ Some (tile_bytes log t)
-  tile_now t is = used_there log (IsTileIn log) part_low part_wide tiles own_parts before after how used t is
+  tile_now t is = used_there log (IsTileIn log) (λ t is. is) tiles part_files before after how used t is
       (elim (cases_lt t.width 256) [
         | inl part ↦ inl (part_there t is part)
-        | inr over ↦ inr (has.tile t is (omega (arith, over, part_wide t is)))
+        | inr over ↦ inr (has.tile t is (omega (arith, over, width_at_most _ t is.exists)))
       ])
 
   placed_in : (m : ℕ) (t : TileAt) → m ≤ length has.entries → t.level < 8 → IsTileOf m t
       → IsPlaced (length has.entries) t (filled t.level (length has.entries / 2 ^ (8 * t.level)) t.number)
-  placed_in m t longer level of = placed m (length has.entries) t longer (omega (arith, has.count, most)) level of
+  placed_in m t longer level of = placed m (length has.entries) t longer fits level of
 
   -- what is left of older tiles and bundles
   older_tile : how ≡ Compare → (m : ℕ) (t : TileAt) (bytes : List ℕ) → m ≤ length has.entries → t.level < 8
@@ -321,18 +278,16 @@ module _ (how : Use) (first before after : Files) (count : ℕ) (edge : RightEdg
       let newer : TileAt = filled t.level (length has.entries / 2 ^ (8 * t.level)) t.number in
       let at = placed_in m t longer level of in
       let is : IsTileIn log newer = record { level = level; exists = at.of } in
-      let used_so = subst (λ (u : Use). AreUsed u tiles before after) compared used in
-      let same : before (tile_path t) ≡ first (tile_path t) =
-      has.outside (tile_path t) (served_not_staged (tile_path t) refl) in
+      let used_so = rw compared at used in
+      let same : before (tile_path t) ≡ first (tile_path t) = has.outside (tile_path t) refl in
       ⊎_elim
-      (λ one. one_value there
-      (sym same ∙ sym (ap (λ (f : Files). f (tile_path t)) used_so.0)
-      ∙ subst (λ (u : Use). after (place_of u (tile_path t)) ≡ Some (tile_bytes log t)) compared
-      (tile_now t (subst (IsTileIn log) (sym one) is))))
+      (λ one. let now = rw compared at (tile_now t (rw one is)) in
+      one_value there (sym same ∙ (rw used_so.0 at now)))
       (λ narrow. elim (cases_lt newer.width 256) [
-        | inl part ↦ own_narrow log before tiles (own (leaves_of sha256 has.entries) has.stands).digests used_so.2 newer
+        | inl part ↦ own_narrow log before tiles own_parted.digests used_so.2 newer
             (part_there newer is part) t bytes narrow (same ∙ there)
-        | inr full ↦ (has.older compared).tile t newer bytes is (omega (arith, full, part_wide newer is)) narrow there
+        | inr full ↦ (has.older compared).tile t newer bytes is
+            (omega (arith, full, width_at_most _ newer is.exists)) narrow there
       ])
       (same_or_narrower (length has.entries) t newer at)
 
@@ -343,8 +298,7 @@ module _ (how : Use) (first before after : Files) (count : ℕ) (edge : RightEdg
       let at = placed_in m t longer (omega (arith, level)) of in
       let is : IsBundleIn log newer = record { level = level; exists = at.of } in
       ⊎_elim
-      (λ one. one_value there
-      (has.bundle t (subst (IsBundleIn log) (sym one) is)))
+      (λ one. one_value there (has.bundle t (rw one is)))
       (λ narrow. (has.older compared).bundle t newer bytes is narrow there)
       (same_or_narrower (length has.entries) t newer at)
 
@@ -356,7 +310,7 @@ module _ (how : Use) (first before after : Files) (count : ℕ) (edge : RightEdg
     bundle = has.bundle;
     tile = tile_now;
     older = λ compared. record { tile = older_tile compared; bundle = older_bundle compared };
-    other = λ n apart. used_apart log (IsTileIn log) part_low part_wide tiles own_parts before after how used n apart
+    other = λ n apart. used_apart log (IsTileIn log) (λ t is. is) tiles part_files before after how used n apart
         ∙ has.other n (λ t is full. apart t is);
     outside = λ n isnt. used_outside how tiles before after used n isnt ∙ has.outside n isnt;
   }
@@ -367,15 +321,7 @@ pub said_by : (entries : List (List ℕ)) (edge : RightEdge) (found : RootAndLen
     → StandsFor sha256 edge (leaves_of sha256 entries) → found ≡ checkpoint_said (said_of (log_of entries))
 said_by entries edge found same stands =
     let is = same (leaves_of sha256 entries) stands in
-    of_parts found.root (root_of sha256 (leaves_of sha256 entries)) found.length (length entries) is.1
-    (is.0 ∙ length-map entries (λ (e : List ℕ). sha256 (0 ∷ e)))
-  where
-    of_parts : (a b : List ℕ) (m n : ℕ) → a ≡ b → m ≡ n
-        → ◌≡◌ {A = RootAndLength} (record { root = a; length = m }) (record { root = b; length = n })
-    of_parts a b m n root count = cc
-
-no_page : (f : File) → Contains [] f → ⊥
-no_page f (k, low, is) = omega arith
+    same_said found (said_of (log_of entries)) is.1 (is.0 ∙ length-map entries (λ (e : List ℕ). sha256 (0 ∷ e)))
 
 -- where all tiles were compared, the files have a log with the checkpoint, and of older ones no other bytes
 pub shown : (files now : Files) (edge : RightEdge) (found : RootAndLength) → now ≡ files
@@ -386,9 +332,9 @@ shown files now edge found still same has = (
   said_by has.entries edge found same has.stands,
   has.short,
   record {
-    tile = λ t is. sym (ap (λ (f : Files). f (tile_path t)) still) ∙ has.tile t is;
+    tile = λ t is. (rw still at (has.tile t is));
     bundle = has.bundle;
-    page = λ f is. absurd (no_page f is);
+    page = λ f (k, low, is). absurd (omega arith);
   },
   has.older refl,
 )

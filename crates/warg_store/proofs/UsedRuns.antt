@@ -1,5 +1,5 @@
 -- Folders that are used, one time after the other.
-use Rattle.std.proofs.Common.{◌≡◌, ℕ, ◌≤◌, refl, sym, subst, ◌∙◌}
+use Rattle.std.proofs.Common.{◌≡◌, ℕ, ◌≤◌, refl, ◌∙◌}
 use Rattle.warg_tiles.specs.TilePaths.{entries_path}
 use Rattle.warg_folder.specs.Files.{Files}
 use Rattle.warg_folder.specs.Moments.{IsRead}
@@ -45,7 +45,7 @@ module _ {D : Type 0} (seen : D → Files) (may_leave : D → Files → Type 0) 
   -- and has enough for it
   pub used_enough : (how : Use) (log : LogOf) (old new : D) → IsUsed how seen may_leave moment left_since old new
       → IsEnough how log (seen old) → IsEnough how log (seen new)
-  used_enough Compare log old new used enough = subst (IsEnough Compare log) (sym used.found) enough
+  used_enough Compare log old new used enough = rw used.found enough
   used_enough Stage log old new used enough =
       let now = in_end moment left_since may_leave counts old new (IsBeside (seen old)) used.run (seen new) (stays new)
       in

@@ -1,5 +1,5 @@
 -- What is read of a log's own files is never at fault.
-use Rattle.std.proofs.Common.{◌≡◌, ◌⊎◌, inl, inr, ⊎_elim, ℕ, ◌+◌, ◌*◌, ◌^◌, ◌<◌, ◌≤◌, List, [], ◌∷◌, length, take, drop, map, ◌==◌, ◌&&◌, nat_eq, Bor, true, Option, Some, None, IsSome, Result, Ok, Err, refl, sym, ap, subst, ◌∙◌, arith}
+use Rattle.std.proofs.Common.{◌≡◌, ◌⊎◌, inl, inr, ⊎_elim, ℕ, ◌*◌, ◌^◌, ◌<◌, ◌≤◌, List, [], ◌∷◌, length, take, drop, map, ◌==◌, ◌&&◌, nat_eq, Bor, true, Option, Some, None, IsSome, Result, Ok, Err, refl, sym, ap, ◌∙◌, arith}
 use Rattle.std.specs.Prelude.{option_map, option_copied, unwrap_or, IfErr, MatchResult}
 use Rattle.std.specs.Result.{IsErrAnd}
 use Rattle.std.specs.Cmp.Lexicographic.{pointwise, bytes_decides}
@@ -20,28 +20,28 @@ use Rattle.warg_store.specs.Refusals.{IsNoFault}
 use Rattle.warg_store.specs.declared.error.LogError.{LogError}
 use Rattle.warg_store.specs.declared.error.LogError.TheVariants as refused
 use Rattle.warg_folder.specs.Files.{Files}
-use Rattle.warg_folder.specs.Names.{checkpoint, state, mark}
+use Rattle.warg_folder.specs.Names.{state, mark}
 use Rattle.warg_folder.specs.Commits.{opened, opened_by}
-use Rattle.warg_store.specs.Log.{LogOf, Extends, Serves, Keeps, HasLog, HasState, IsOneOf, IsBundleIn, bundle_bytes, said_of, checkpoint_of}
+use Rattle.warg_store.specs.Log.{LogOf, Extends, Serves, Keeps, HasLog, HasState, IsOneOf, IsBundleIn, bundle_bytes, said_of}
 use Rattle.warg_store.specs.Reading.{checkpoint_said}
-use Rattle.warg_store.proofs.LeadLemmas.{end_inside, extends_length, file_served, same_kept}
-use Rattle.warg_folder.proofs.ForCallers.{served_not_staged}
+use Rattle.warg_store.proofs.LeadLemmas.{extends_length, bundle_inside, keeps_beside}
+use Rattle.warg_store.proofs.OptionLemmas.{one_value, no_value}
 use Rattle.warg_store.proofs.ServeLemmas.{opened_idle}
 use Rattle.warg_store.proofs.GrowingLemmas.{same_length}
 
 -- what holds of an error holds of a result that is this error
 pub err_same : {X E : Type 0} (P : E → Type 0) (e : E) (r : Result X E) → IsErrAnd r (λ f. f ≡ e) → P e → IfErr r P
 err_same P e (Ok x) is holds = tt
-err_same P e (Err f) is holds = subst P (sym is) holds
+err_same P e (Err f) is holds = rw is holds
 
 pub err_and : {X E : Type 0} (P : E → Type 0) (e : E) (r : Result X E) → IsErrAnd r (λ f. f ≡ e) → P e → IsErrAnd r P
 err_and P e (Ok x) is holds = absurd is
-err_and P e (Err f) is holds = subst P (sym is) holds
+err_and P e (Err f) is holds = rw is holds
 
 pub err_match : {X E : Type 0} (Q : X → Type 0) (P : E → Type 0) (e : E) (r : Result X E) → IsErrAnd r (λ f. f ≡ e) → P
     e → MatchResult r Q P
 err_match Q P e (Ok x) is holds = absurd is
-err_match Q P e (Err f) is holds = subst P (sym is) holds
+err_match Q P e (Err f) is holds = rw is holds
 
 -- a refusal for no fault is one, whatever else may be refused
 pub no_fault_more : (beyond : Type 0) (e : LogError) → IsNoFault ⊥ e → IsNoFault beyond e
@@ -70,7 +70,7 @@ tile_none : (t : TileAt) → tile_fault t t ≡ None
 tile_none t = rw (eq-eqb t.level t.level refl, eq-eqb t.number t.number refl, eq-eqb t.width t.width refl) refl
 
 pub tiles_none : (wanted given : List TileAt) → given ≡ wanted → tiles_fault wanted given ≡ None
-tiles_none wanted given is = subst (λ (g : List TileAt). tiles_fault wanted g ≡ None) (sym is) (same wanted)
+tiles_none wanted given is = rw is (same wanted)
   where
     same : (ts : List TileAt) → tiles_fault ts ts ≡ None
     same [] = refl
@@ -95,12 +95,8 @@ pub bundle_count : (log : LogOf) (t : TileAt) (es : List (List ℕ)) → IsBundl
     → bundle_of es ≡ bundle_bytes log t → length es ≡ t.width
 bundle_count log t es is same =
     let behind = drop (256 * t.number) log.entries in
-    let one : 2 ^ (8 * t.level) ≡ 1 = ap (λ l. 2 ^ (8 * l)) is.level in
-    let end : (256 * t.number + t.width) * 2 ^ (8 * t.level) ≤ length log.entries =
-    end_inside (length log.entries) t is.exists in
-    let inside : 256 * t.number + t.width ≤ length log.entries = omega (arith, rw one at end) in
     ap length (bundle_same es (take t.width behind) same) ∙ length-take-le t.width behind
-    (omega (arith, length-drop (256 * t.number) log.entries, inside))
+    (omega (arith, length-drop (256 * t.number) log.entries, bundle_inside t is.level is.exists))
 
 -- a text that says something has no fault, but that memory is refused
 pub text_no_fault : (said : Said) (behind : Option (List ℕ)) (bytes : List ℕ) (error : CheckpointTextError)
@@ -116,7 +112,7 @@ text_no_fault said behind bytes text.Memory can is fault = refl
 -- a log that continues another and has no more entries is that one
 pub extends_same : (first log : LogOf) → Extends first log → length log.entries ≤ length first.entries → log ≡ first
 extends_same first log extends short =
-    sym (same_length first log extends (omega (arith, short, extends_length first log extends)))
+    sym (same_length first log extends (omega (arith, short, extends_length extends)))
 
 -- the text of a commit that stands is that of the log once the folder has been opened
 pub mark_fits : (served log : LogOf) (files : Files) (text : List ℕ) → files mark ≡ Some text
@@ -124,15 +120,13 @@ pub mark_fits : (served log : LogOf) (files : Files) (text : List ℕ) → files
 mark_fits served log files text stands has = by_state has (ap (λ (o : Option (List ℕ)). opened_by o files state) stands)
   where
     by_state : HasLog served log (opened files) → opened files state ≡ Some text → length text ≤ 2 ^ 20
-    by_state (inl keeps) is = let both : Some text ≡ Some (checkpoint_of log) = sym is ∙ keeps.state in
-        let same : text ≡ checkpoint_of log = cc in omega (arith, ap length same, keeps.can.text)
-    by_state (inr (same, none, serves)) is = absurd (let both : ◌≡◌ {A = Option (List ℕ)} (Some text) None = sym is
-        ∙ none in cc)
+    by_state (inl keeps) is = omega (arith, ap length (one_value is keeps.state), keeps.can.text)
+    by_state (inr (same, none, serves)) is = absurd (no_value none is)
 
 -- who has a log serves one
 pub has_serves : (served log : LogOf) (files : Files) → HasLog served log files → Serves served files
 has_serves served log files (inl keeps) = keeps.serves
-has_serves served log files (inr (same, none, serves)) = subst (λ (l : LogOf). Serves l files) (sym same) serves
+has_serves served log files (inr (same, none, serves)) = rw same serves
 
 -- what is served is older than the log, or the log
 pub served_is : (first log : LogOf) (files : Files) → Keeps first log files
@@ -163,10 +157,7 @@ one_kept served old next files one none = ⊎_elim (λ keeps. (served, old, kept
     (λ (first, which, keeps). (first, next, kept first next keeps)) one.opened
   where
     kept : (first log : LogOf) → Keeps first log (opened files) → Keeps first log files
-    kept first log keeps = same_kept first log (opened files) files
-        (λ n is. sym (opened_idle files n none
-        (served_not_staged n (⊎_elim (λ one. file_served log n one) (λ other. file_served first n other) is))))
-        (sym (opened_idle files checkpoint none refl)) (sym (opened_idle files state none refl)) keeps
+    kept first log keeps = keeps_beside files (λ n isnt. sym (opened_idle files n none isnt)) keeps
 
 -- so the state that was read is a log's, which the folder keeps where no commit stands
 pub one_newest : (served old next : LogOf) (files now : Files) (said : Said) → now ≡ files → IsOneOf served old next
@@ -180,15 +171,13 @@ one_newest served old next files now said same one says = by_mark (files mark) r
         let kept = one_kept served old next files one none in (
           kept.0,
           kept.1,
-          λ idle. subst (Keeps kept.0 kept.1) (sym same) kept.2,
-          says kept.1
-              (record { can = kept.2.can; text = kept.2.state }),
+          λ idle. rw same kept.2,
+          says kept.1 (record { can = kept.2.can; text = kept.2.state }),
         )
     by_mark (Some text) stands =
         let is = one_state served old next files one in (
           is.0,
           is.0,
-          λ idle. absurd (let both : ◌≡◌ {A = Option (List ℕ)} (Some text) None = sym stands
-              ∙ sym (ap (λ (f : Files). f mark) same) ∙ idle in cc),
+          λ idle. absurd (no_value idle (rw (← same) at stands)),
           says is.0 is.1,
         )

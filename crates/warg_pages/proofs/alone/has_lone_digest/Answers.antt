@@ -1,4 +1,4 @@
-use Rattle.std.proofs.Common.{◌≡◌, List, ℕ, Some, sym, ap, ◌∙◌, subst}
+use Rattle.std.proofs.Common.{◌≡◌, List, ℕ, Some, sym, ap, ◌∙◌}
 use Rattle.warg_pages.specs.Slots.{SlotAt}
 use Rattle.warg_pages.specs.Pages.{slot_height}
 use Rattle.warg_pages.specs.Private.Descents.{lone_root}
@@ -19,9 +19,7 @@ returns-in-Some-lone g c =
     let root : c.lone_tree.result ≡ lone_root H lone.0 lone.1 (slot_height c.args.depth) =
     rw key at (c.lone_tree.ensures lone.1 (leaf ∙ lone_root-none H c.lone.inside.key lone.1)) in
     let decide = hashes_decide _ _ _ c.eq.ensures in
-    let P : List ℕ × List ℕ → Type 0 = λ l. lone_root H l.0 l.1 (slot_height c.args.depth)
-    ≡ c.in-Some.slot.now.digest in
     rw c.in-Some.is (
-      λ t other is. subst P (some_same (sym there ∙ is)) (sym root ∙ decide.0 t ∙ digest),
+      λ t other is. rw (some_same (sym there ∙ is)) at (sym root ∙ decide.0 t ∙ digest),
       λ h. decide.1 (root ∙ h lone there ∙ sym digest),
     )

@@ -1,4 +1,4 @@
-use Rattle.std.proofs.Common.{◌≡◌, ◌∙◌, ◌++◌, [], ◌∷◌, List, ℕ, Some, true, false, length, take, sym, ap}
+use Rattle.std.proofs.Common.{◌≡◌, ◌∙◌, ◌++◌, [], ◌∷◌, List, ℕ, Some, length, ap}
 use Rattle.std.specs.Prelude.{slice_index}
 use Rattle.warg_pages.specs.Slots.{SlotAt}
 use Rattle.warg_pages.specs.Pages.{slot_height}
@@ -9,8 +9,8 @@ use Rattle.warg_pages.proofs.below.one_down.Goals as goal
 pub returns-then-not-begins_with-clause-err : goal.returns-then-not-begins_with-clause-err
 returns-then-not-begins_with-clause-err g c = λ e.
     let key : c.lone.inside.key ≡ c.args.lone.now.0 = ap (λ (l : List ℕ × List ℕ). l.0) c.lone.view_is in
-    let yes = c.begins_with.ensures.1 (ap (take (length c.args.prefix.now)) (c.bytes.ensures.value ∙ key) ∙ e) in
-    let no : true ≡ false = sym yes ∙ c.if-not-begins_with.true in cc
+    let yes = c.begins_with.ensures.1 (rw (c.bytes.ensures.value ∙ key) e) in
+    cc
 
 pub returns-clause-ok : goal.returns-clause-ok
 returns-clause-ok g c =

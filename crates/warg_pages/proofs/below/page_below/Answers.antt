@@ -1,8 +1,6 @@
-use Rattle.std.proofs.Common.{◌≡◌, ◌∙◌, refl, Option, Some, None, sym, ap, subst}
+use Rattle.std.proofs.Common.{◌≡◌, ◌∙◌, refl, Some, None, sym, ap}
 use Rattle.std.specs.Option.{option_copied}
-use Rattle.warg_pages.specs.Prefixes.{bits_of_bytes}
 use Rattle.warg_pages.specs.Slots.{SlotAt}
-use Rattle.warg_pages.specs.Private.Updates.{IsOwnBelow}
 use Rattle.warg_pages.proofs.Refused.{way_refused, of_source, if_ok_both, if_err}
 use Rattle.warg_pages.proofs.OwnBelow.{nothing_below, own_lone_below, own_page_below, own_page_refused}
 use Rattle.warg_pages.proofs.below.page_below.Goals as goal
@@ -10,49 +8,40 @@ use Rattle.warg_pages.proofs.below.page_below.Goals as goal
 pub returns-in_default-clause-ok : goal.returns-in_default-clause-ok
 returns-in_default-clause-ok g c = λ known is_known es own.
     let H = g.D.SupportedDigest.digest in
-    c.new.ensures ∙ sym (nothing_below H es (bits_of_bytes c.args.prefix.now) own.byte _ refl
-    (sym (ap option_copied c.in_default.is) ∙ own.is_slot))
+    c.new.ensures ∙ sym (nothing_below H es _ own.byte _ refl (sym (ap option_copied c.in_default.is) ∙ own.is_slot))
 
 pub returns-in_err-one_down-in-Some-lone-clause-err : goal.returns-in_err-one_down-in-Some-lone-clause-err
 returns-in_err-one_down-in-Some-lone-clause-err g c =
-    let H = g.D.SupportedDigest.digest in
     let there : c.in-Some.slot.now.lone ≡ Some c.in-Some-lone.lone = sym (ap (λ (x : SlotAt). x.lone) c.slot.view_is)
     ∙ c.in-Some-lone.is in
     way_refused c.from_residual.result c.in_err-one_down-in-Some-lone.field-0.0 c.from_residual.ensures.1
     (λ fault known es is_known own.
-    let P : Option SlotAt → Type 0 = λ o. IsOwnBelow H (g.P.Pages.bytes_at known) c.args.prefix.now o es in
-    fault (own_lone_below g.met.D.SupportedDigest.is_digest (subst P (ap option_copied c.in-Some.is) own) c.requires
+    fault (own_lone_below g.met.D.SupportedDigest.is_digest (rw (ap option_copied c.in-Some.is) at own) c.requires
     there).begins)
     c.in_err-one_down-in-Some-lone.ensures.err
 
 pub returns-in_ok-one_down-in-Some-lone-clause-ok : goal.returns-in_ok-one_down-in-Some-lone-clause-ok
 returns-in_ok-one_down-in-Some-lone-clause-ok g c = λ known is_known es own.
-    let H = g.D.SupportedDigest.digest in
     let there : c.in-Some.slot.now.lone ≡ Some c.in-Some-lone.lone = sym (ap (λ (x : SlotAt). x.lone) c.slot.view_is)
     ∙ c.in-Some-lone.is in
-    let P : Option SlotAt → Type 0 = λ o. IsOwnBelow H (g.P.Pages.bytes_at known) c.args.prefix.now o es in
     c.in_ok-one_down-in-Some-lone.ensures.ok
-    ∙ sym (own_lone_below g.met.D.SupportedDigest.is_digest (subst P (ap option_copied c.in-Some.is) own) c.requires
+    ∙ sym (own_lone_below g.met.D.SupportedDigest.is_digest (rw (ap option_copied c.in-Some.is) at own) c.requires
     there).page
 
 pub returns-in-None-clause-ok : goal.returns-in-None-clause-ok
 returns-in-None-clause-ok g c =
-    let H = g.D.SupportedDigest.digest in
     let none : c.in-Some.slot.now.lone ≡ None = sym (ap (λ (x : SlotAt). x.lone) c.slot.view_is) ∙ c.in-None.is in
     let number : c.slot.inside.version ≡ c.in-Some.slot.now.version = ap (λ (x : SlotAt). x.version) c.slot.view_is in
     if_ok_both c.read_page.result _ _ _ (rw number at c.read_page.ensures.ok) c.read_page.ensures.page
     (λ page at is known is_known es own.
-    let P : Option SlotAt → Type 0 = λ o. IsOwnBelow H (g.P.Pages.bytes_at known) c.args.prefix.now o es in
-    own_page_below g.met.D.SupportedDigest.is_digest (subst P (ap option_copied c.in-Some.is) own) c.requires is
+    own_page_below g.met.D.SupportedDigest.is_digest (rw (ap option_copied c.in-Some.is) at own) c.requires is
     (at known is_known) none)
 
 pub returns-in-None-clause-err : goal.returns-in-None-clause-err
 returns-in-None-clause-err g c =
-    let H = g.D.SupportedDigest.digest in
     let none : c.in-Some.slot.now.lone ≡ None = sym (ap (λ (x : SlotAt). x.lone) c.slot.view_is) ∙ c.in-None.is in
     let number : c.slot.inside.version ≡ c.in-Some.slot.now.version = ap (λ (x : SlotAt). x.version) c.slot.view_is in
     if_err c.read_page.result _ _ (rw number at c.read_page.ensures.err) (λ e. of_source e
     (λ fault known es is_known own.
-    let P : Option SlotAt → Type 0 = λ o. IsOwnBelow H (g.P.Pages.bytes_at known) c.args.prefix.now o es in
-    own_page_refused g.met.D.SupportedDigest.is_digest (subst P (ap option_copied c.in-Some.is) own) c.requires
+    own_page_refused g.met.D.SupportedDigest.is_digest (rw (ap option_copied c.in-Some.is) at own) c.requires
     (λ slots. fault known slots is_known) none))

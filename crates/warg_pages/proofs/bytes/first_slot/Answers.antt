@@ -22,7 +22,7 @@ returns g c =
     let version = rw rest at c.in_ok-version.ensures.cases in
     let digest = c.in_ok-digest.ensures in
     let lone = c.in_ok-lone.ensures in
-    let long : 8 ≤ length (drop 2 bytes) = omega (arith, version.2) in
+    let long : 8 ≤ length (drop 2 bytes) = omega arith in
     whole_slot bytes c.in_ok-version.version.now c.in_ok-version.rest.now c.in_ok-digest.digest c.in_ok-lone.rest.now
     c.from_be_bytes.result c.in_ok-lone.lone c.in_ok-digest.rest.now
     (λ i. omega (arith, c.type_inv.bytes i)) c.in-len2-up.len_at_least long version.0 version.1 c.from_be_bytes.ensures

@@ -10,7 +10,6 @@ loop-height-preserved g c =
         c.side_at.ensures,
         c.loop-height.invariant.empty,
         c.loop-height.invariant.value leaf is,
-      )
-          (lone_root-more H c.args.key.now leaf c.loop-height.height (omega arith));
+      ) (lone_root-more H _ leaf c.loop-height.height (omega arith));
       empty = c.empty_above-empty.ensures;
     }

@@ -12,7 +12,7 @@ use Rattle.warg_pages.proofs.descent.+descend.Goals.{After-bytes, In-Some}
 
 -- a page above the last byte of the key digest
 is_above : (g : _) (t : _) (c : After-bytes g t) → c.args.depth < 32
-is_above g t c = let le = c.requires in let ne = c.if-depth-eq32.false in omega arith
+is_above g t c = omega arith
 
 is_key : (g : _) (t : _) (c : After-bytes g t) → IsDigest c.args.key.now
 is_key g t c = rw c.bytes.ensures.value at c.bytes.ensures.digest
@@ -52,7 +52,7 @@ returns-in_default-clause-ok g t c =
     ∙ ap option_copied c.in_default.is in (
       page_peers H c.args.depth c.in_ok-page.page c.args.key.now,
       c.in_ok-slot.ensures.peers,
-      missing_way H c.args.key.now c.args.digest.now c.args.depth c.in_ok-page.page lt c.in_ok-slot.ensures.value none,
+      missing_way H _ _ c.args.depth c.in_ok-page.page lt c.in_ok-slot.ensures.value none,
       λ known es is_known own. missing_own g.met.D.SupportedDigest.is_digest own lt (is_key g t in_page)
           c.pass_page.ensures.page (at known is_known) none,
     )

@@ -16,11 +16,11 @@ use Rattle.warg_pages.proofs.descent.pass_page.Goals.{in-Some, in-None, After-sp
 own_part : (g : _) (c : After-split_at g) → c.split_at.result.1.now
     ≡ page_peers g.D.SupportedDigest.digest c.args.depth c.args.page.now c.args.key.now
 own_part g c =
-    let own = page_peers g.D.SupportedDigest.digest c.args.depth c.args.page.now c.args.key.now in
+    let own = page_peers g.D.SupportedDigest.digest c.args.depth _ _ in
     let before = c.as_slice-before.result.now in
     let pushed = rw (c.slots.ensures.value, c.bytes.ensures.value) at c.in_ok-push_page_peers.ensures.ok in
     c.split_at.ensures.back ∙ ap (drop (length before)) (c.as_slice.ensures.value ∙ pushed)
-    ∙ drop_at c.args.peers.now.items own (length before) (ap length (sym c.as_slice-before.ensures.value))
+    ∙ drop_at _ own _ (ap length (sym c.as_slice-before.ensures.value))
 
 -- and with the digest of the slot they give the page's value
 value_is : (g : _) (c : After-value_of_page g) → c.split_at.result.1.now
@@ -31,7 +31,7 @@ value_is g c part =
     let height = slot_height c.args.depth in
     let byte = get_or c.args.key.now c.args.depth 0 in
     let at = rw c.bytes.ensures.value at c.slot-slot.ensures in
-    let as_digest = digest_at-slot H height c.args.page.now byte in
+    let as_digest = digest_at-slot H height _ byte in
     let foot : c.match-slot.foot ≡ digest_at H height c.args.page.now byte = elim c.match-slot.branch [
       | in-Some w ↦ w.foot-is ∙ w.copied-foot.ensures ∙ ap (λ (x : SlotAt). x.digest) w.slot.view_is
           ∙ sym (as_digest ∙ ap (digest_of H height) (sym at ∙ ap option_copied w.in-Some.is))
@@ -43,8 +43,8 @@ value_is g c part =
 
 pub value_of_page-requires-clause-eight : goal.value_of_page-requires-clause-eight
 value_of_page-requires-clause-eight g c =
-    ap length (own_part g (goal.at.value_of_page-requires-clause-eight g c).After-split_at)
-    ∙ eight_peers g.D.SupportedDigest.digest c.args.depth c.args.page.now (get_or c.args.key.now c.args.depth 0) 8
+    rw (own_part g (goal.at.value_of_page-requires-clause-eight g c).After-split_at)
+    (eight_peers g.D.SupportedDigest.digest c.args.depth _ _ 8)
 
 pub returns-then-ne-clause-err : goal.returns-then-ne-clause-err
 returns-then-ne-clause-err g c = λ same.

@@ -14,11 +14,10 @@ returns-then-depth-eq32-clause-refused g t c = λ known digest all is tells from
 
 pub returns-in_err-page-clause-refused : goal.returns-in_err-page-clause-refused
 returns-in_err-page-clause-refused g t c =
-    let lt : c.args.depth < 32 = let le = c.requires in let ne = c.if-depth-eq32.false in omega arith in
+    let lt : c.args.depth < 32 = omega arith in
     source_refused c.from_residual.result c.in_err-page.field-0.0 c.from_residual.ensures.1
-    (λ none known digest all is tells from. way.page_there g.D.SupportedDigest.digest (g.P.Pages.bytes_at known)
-    (g.P.Pages.tells_all known) c.args.key.now c.args.depth c.args.version digest all lt
-    (λ slots. none known slots is) tells from)
+    (λ none known digest all is tells from. way.page_there g.D.SupportedDigest.digest _ _ _ c.args.depth c.args.version
+    digest all lt (λ slots. none known slots is) tells from)
     (rw c.bytes-bytes.ensures.value at c.in_err-page.ensures.err)
 
 -- the page that was read there, of a visit that begins there
@@ -30,7 +29,7 @@ is_read : (g : _) (t : _) (c : After-slot g t) (known : g.P.Pages.Known) (digest
     c.args.depth c.args.version digest all c.in_ok-page.page
 is_read g t c known digest all is tells from = record {
   is_key = rw c.bytes-bytes.ensures.value at c.bytes-bytes.ensures.digest;
-  above = (let le = c.requires in let ne = c.if-depth-eq32.false in omega arith);
+  above = omega arith;
   is_page = c.in_ok-page.ensures.page;
   stands = (let at = rw c.bytes-bytes.ensures.value at c.in_ok-page.ensures.ok in at known is);
   tells = tells;

@@ -13,8 +13,7 @@ below_slot : (g : _) (c : After-lone_tree g) → c.lone_tree.result
     ≡ lone_root g.D.SupportedDigest.digest c.args.key.now c.args.lone.now.1 (slot_height c.args.depth)
 below_slot g c =
     let leaf : c.lone.inside.leaf ≡ c.args.lone.now.1 = ap (λ (l : List ℕ × List ℕ). l.1) c.lone.view_is in
-    c.lone_tree.ensures c.args.lone.now.1
-    (leaf ∙ lone_root-none g.D.SupportedDigest.digest c.args.key.now c.args.lone.now.1)
+    c.lone_tree.ensures c.args.lone.now.1 (leaf ∙ lone_root-none g.D.SupportedDigest.digest _ _)
 
 pub returns-then-ne-clause-err : goal.returns-then-ne-clause-err
 returns-then-ne-clause-err g c =

@@ -17,7 +17,7 @@ key_is g c = ap (λ (l : List ℕ × List ℕ). l.0) c.lone.view_is
 below_parting : (g : _) (c : After-lone_tree-other g) → c.lone_tree-other.result
     ≡ lone_root g.D.SupportedDigest.digest c.lone.inside.key c.args.lone.now.1 (255 - c.args.shared)
 below_parting g c = c.lone_tree-other.ensures c.args.lone.now.1 (ap (λ (l : List ℕ × List ℕ). l.1) c.lone.view_is
-    ∙ lone_root-none g.D.SupportedDigest.digest c.lone.inside.key c.args.lone.now.1)
+    ∙ lone_root-none g.D.SupportedDigest.digest _ _)
 
 -- where the two keys part
 parting : (g : _) (c : After-lone_tree-other g) → Parting c.args.key.now c.args.lone.now.0 c.args.depth c.args.shared
@@ -51,7 +51,7 @@ returns-clause-ok g c =
     let root = rw (key_is g at) at (c.lone_tree.ensures c.args.lone.now.1 tree) in
     let digest : c.slot.inside.digest ≡ c.args.slot.now.digest = ap (λ (x : SlotAt). x.digest) c.slot.view_is in
     let same = same_hashes _ _ _ c.ne.ensures c.if-ne.false in
-    let end : c.loop-bit._bit ≡ c.args.shared = let below = c.requires.below in omega arith in (
+    let end : c.loop-bit._bit ≡ c.args.shared = omega arith in (
       parting_peers (c.args.shared - (8 * c.args.depth + 8)) c.lone_tree-other.result,
       rw (c.in_ok-push-2.ensures.items, c.loop-bit.invariant, end)
           (append_assoc c.args.peers.now.items (replicate (c.args.shared - (8 * c.args.depth + 8)) None)

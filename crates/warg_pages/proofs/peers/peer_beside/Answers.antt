@@ -1,4 +1,4 @@
-use Rattle.std.proofs.Common.{◌≡◌, ◌+◌, ◌*◌, ◌%◌, ◌^◌, length, true, false, Some, sym, ap, ◌∙◌, arith}
+use Rattle.std.proofs.Common.{◌≡◌, ◌+◌, ◌*◌, ◌%◌, ◌^◌, length, true, false, sym, ap, ◌∙◌, arith}
 use Rattle.std.proofs.lemmas.Bool.{eqb-true}
 use Rattle.std.specs.Bool.{then_some}
 use Rattle.warg_pages.specs.Pages.{digest_at, root_over, slot_height}
@@ -26,11 +26,9 @@ returns-then-is_empty g c =
     let xs = c.args.slots.now in
     let high : first + 1 * 2 ^ k % 2 ^ 64 ≡ first + 2 ^ k = ap (λ x. first + x) (shifted k c.requires.height) in
     let above = rw (high, c.split_at.ensures.back) at c.count_below-2.ensures.above in
-    let none : length c.split_at-2.result.0.now ≡ 0 = eqb-true (length c.split_at-2.result.0.now) 0
-    (sym c.is_empty.ensures ∙ c.if-is_empty.true) in
+    let none : length c.split_at-2.result.0.now ≡ 0 = eqb-true _ 0 (sym c.is_empty.ensures ∙ c.if-is_empty.true) in
     let there = rw (c.split_at-2.ensures.front, c.split_at.ensures.back) at none in
-    let no : stands_among xs first k ≡ false = none_among first k c.count_below.result c.count_below-2.result xs
-    c.count_below.ensures.below above there in
+    let no : stands_among xs first k ≡ false = none_among first k _ _ xs c.count_below.ensures.below above there in
     sym (ap (λ t. then_some t (page_peer H c.args.depth xs c.args.byte k)) (rw c.start_beside-first.ensures at no))
 
 pub returns : goal.returns
@@ -43,14 +41,12 @@ returns g c =
     let above = rw (high, c.split_at.ensures.back) at c.count_below-2.ensures.above in
     let below = rw (high, c.split_at.ensures.back) at c.count_below-2.ensures.below in
     let from = c.count_below.ensures.above in
-    let some = some_slots c.split_at-2.result.0.now (sym c.is_empty.ensures ∙ c.if-is_empty.false) in
+    let some = some_slots _ (sym c.is_empty.ensures ∙ c.if-is_empty.false) in
     let there = rw (c.split_at-2.ensures.front, c.split_at.ensures.back) at some in
-    let yes : stands_among xs first k ≡ true = some_among first k c.count_below.result c.count_below-2.result xs from
-    below there c.count_below.ensures.below in
+    let yes : stands_among xs first k ≡ true = some_among first k _ _ xs from below there c.count_below.ensures.below in
     let root : c.root_of_range.result ≡ page_peer H c.args.depth xs c.args.byte k =
     rw (c.root_of_range.ensures, c.split_at-2.ensures.front, c.split_at.ensures.back) (
-    root_over-part H (slot_height c.args.depth) first k c.count_below.result c.count_below-2.result xs
-    c.count_below.ensures.below above
+    root_over-part H _ first k _ _ xs c.count_below.ensures.below above
     ∙ ap (λ f. root_over H (digest_at H (slot_height c.args.depth) xs) f k) c.start_beside-first.ensures) in
-    ap Some root ∙ sym (ap (λ t. then_some t (page_peer H c.args.depth xs c.args.byte k))
-    (rw c.start_beside-first.ensures at yes))
+    rw root (sym (ap (λ t. then_some t (page_peer H c.args.depth xs c.args.byte k))
+    (rw c.start_beside-first.ensures at yes)))

@@ -8,17 +8,16 @@ use Rattle.warg_pages.proofs.root.+root_of_range.Goals as goal
 pub returns-then-is_empty : goal.returns-then-is_empty
 returns-then-is_empty g t c =
     let H = g.D.SupportedDigest.digest in
-    let none : length c.args.slots.now ≡ 0 = eqb-true (length c.args.slots.now) 0
-    (sym c.is_empty.ensures ∙ c.if-is_empty.true) in
-    c.empty_tree.ensures ∙ sym (root_over-empty H c.args.height c.args.first c.args.levels c.args.slots.now none)
+    let none : length c.args.slots.now ≡ 0 = eqb-true _ 0 (sym c.is_empty.ensures ∙ c.if-is_empty.true) in
+    c.empty_tree.ensures ∙ sym (root_over-empty H c.args.height c.args.first c.args.levels _ none)
 
 pub returns-then-levels-eq0 : goal.returns-then-levels-eq0
 returns-then-levels-eq0 g t c =
     let H = g.D.SupportedDigest.digest in
     let some = some_slots c.args.slots.now (sym c.is_empty.ensures ∙ c.if-is_empty.false) in
     c.copied.ensures ∙ ap (λ (x : SlotAt). x.digest) (c.slot.view_is ∙ c.index-slots-0.is)
-    ∙ sym (root_over-one H c.args.height c.args.first c.args.levels c.args.slots.now c.index-slots-0.result some
-    c.if-levels-eq0.true c.requires.from c.requires.to)
+    ∙ sym (root_over-one H c.args.height c.args.first c.args.levels _ _ some c.if-levels-eq0.true c.requires.from
+    c.requires.to)
 
 pub root_of_range-requires : goal.root_of_range-requires
 root_of_range-requires g t c κs within =

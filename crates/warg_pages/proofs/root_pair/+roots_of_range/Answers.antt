@@ -4,11 +4,11 @@ use Rattle.warg_pages.proofs.root_pair.+roots_of_range.Goals as goal
 
 pub halves-requires-clause-top : goal.halves-requires-clause-top
 halves-requires-clause-top g t c = let half = halved c.args.levels c.if-levels-eq0.false in
-    let top = c.requires.range in omega arith
+    omega arith
 
 pub halves-requires-2-clause-top : goal.halves-requires-2-clause-top
 halves-requires-2-clause-top g t c = let half = halved c.args.levels c.if-levels-eq0.false in
-    let top = c.requires.range in omega arith
+    omega arith
 
 pub roots_of_range-left-requires : goal.roots_of_range-left-requires
 roots_of_range-left-requires g t c κs within =

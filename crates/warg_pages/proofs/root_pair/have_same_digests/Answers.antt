@@ -20,4 +20,4 @@ pub returns : goal.returns
 returns g c = λ t.
     let front = take_all c.loop-at.at c.args.before.now (omega arith) in
     let back = take_all c.loop-at.at c.args.after.now (omega arith) in
-    same_digests c.args.before.now c.args.after.now (rw (front, back) at c.loop-at.invariant)
+    same_digests _ _ (rw (front, back) at c.loop-at.invariant)

@@ -3,11 +3,9 @@ use Rattle.std.proofs.Common.{ap, arith, append_assoc}
 use Rattle.std.proofs.lemmas.List.{append-nil, get_or-set_other}
 use Rattle.std.proofs.lemmas.List.Elements.{All-nil, All-cons, All-append}
 use Rattle.std.specs.List.{All, cons_option}
-use Rattle.warg_pages.specs.Prefixes.{bits_of_bytes}
-use Rattle.warg_pages.specs.Slots.{SlotAt, slot_of, numbers}
+use Rattle.warg_pages.specs.Slots.{SlotAt, numbers}
 use Rattle.warg_pages.specs.Pages.{page_digest}
 use Rattle.warg_pages.specs.ChangedPages.{ChangedPageAt, ChangesWhatStood}
-use Rattle.warg_pages.specs.Private.Updates.{GoesBelow}
 use Rattle.warg_pages.proofs.Refused.{source_refused}
 use Rattle.warg_pages.proofs.HashEquality.{same_hashes, other_hashes}
 use Rattle.warg_pages.proofs.ChangedAmong.{none_among, next_among}
@@ -65,8 +63,7 @@ update_page-loop-byte-init g t c =
         sym (append-nil c.args.changed.now.items),
         λ known old more is_known own. (
           none,
-          none_among H old more (GoesBelow c.args.update.prefix.items 0)
-              (λ prefix kind changes. let low = kind.2 in omega arith),
+          none_among H old more _ (λ prefix kind changes. let low = kind.2 in omega arith),
         ),
         λ root count more are stood. All-nil
             (ChangesWhatStood H root more),
@@ -85,16 +82,14 @@ update_page-loop-byte-preserved g t c =
     let before = c.loop-byte.invariant.changed in
     let step = c.in_ok-slot.ensures.ok in record {
       known = λ known is. c.slot_after.ensures.known known (c.loop-byte.invariant.known known is);
-      below = rw put (slots_below c.loop-byte.page c.in_ok-slot.slot byte c.loop-byte.invariant.below
-          c.in_ok-slot.ensures.byte);
+      below = rw put (slots_below c.loop-byte.page _ byte c.loop-byte.invariant.below c.in_ok-slot.ensures.byte);
       changed = (
         before.0 ++ step.0,
-        step.1 ∙ ap (λ l. l ++ step.0) before.1 ∙ append_assoc c.args.changed.now.items before.0 step.0,
+        step.1 ∙ ap (λ l. l ++ step.0) before.1 ∙ append_assoc _ before.0 step.0,
         λ known old more is_known own.
             let front = before.2 known old more is_known own in
             let here = step.2 known old more (c.loop-byte.invariant.known known is_known) own.own in (
-              put ∙ (λ i. front.0 i ++ cons_option (here.is_slot i) [])
-                  ∙ sym (slots-more (slot_of H (old ++ more) (bits_of_bytes prefix)) byte),
+              put ∙ (λ i. front.0 i ++ cons_option (here.is_slot i) []) ∙ sym (slots-more _ byte),
               next_among H old more prefix byte before.0 step.0 front.1 here.changed,
             ),
         λ root count more are stood. All-append (ChangesWhatStood H root more) before.0 step.0
@@ -105,9 +100,8 @@ update_page-loop-byte-preserved g t c =
         λ s low lt d. let other : s ≢ byte = omega arith in rw get_or-set_other
             (c.loop-byte.invariant.split.1 s (omega arith) lt d),
       );
-      kept = rw put (kept_more c.args.update.page c.loop-byte.page c.in_ok-slot.slot byte
-          (length prefix) c.args.update.changes.items c.loop-byte.invariant.below c.in_ok-slot.ensures.byte
-          c.loop-byte.invariant.kept c.in_ok-slot.ensures.kept);
+      kept = rw put (kept_more c.args.update.page c.loop-byte.page _ byte _ _ c.loop-byte.invariant.below
+          c.in_ok-slot.ensures.byte c.loop-byte.invariant.kept c.in_ok-slot.ensures.kept);
     }
 
 -- a slot goes behind those of lower bytes
@@ -118,8 +112,8 @@ behind None slots byte is below = tt
 behind (Some x) slots byte is below = rw is below
 
 pub update_page-put_behind-requires : goal.update_page-put_behind-requires
-update_page-put_behind-requires g t c = behind c.in_ok-slot.slot c.loop-byte.page c.loop-byte.byte
-    c.in_ok-slot.ensures.byte c.loop-byte.invariant.below
+update_page-put_behind-requires g t c = behind _ c.loop-byte.page c.loop-byte.byte c.in_ok-slot.ensures.byte
+    c.loop-byte.invariant.below
 
 pub update_page-returns-in_err-slot-clause-err : goal.update_page-returns-in_err-slot-clause-err
 update_page-returns-in_err-slot-clause-err g t c =

@@ -1,4 +1,4 @@
-use Rattle.std.proofs.Common.{◌≡◌, ◌↔◌, ◌∙◌, IsTrue, None, ◌<◌, ◌++◌, List, [], ◌∷◌, Some, length, refl, sym, ap}
+use Rattle.std.proofs.Common.{◌≡◌, ◌↔◌, ◌∙◌, IsTrue, ◌<◌, ◌++◌, List, [], ◌∷◌, Some, length, refl, sym, ap}
 use Rattle.std.proofs.Common.{arith, inl, inr, length-append}
 use Rattle.std.proofs.lemmas.Bool.{cases_lt, iff_false}
 use Rattle.std.specs.Option.{option_copied}
@@ -16,8 +16,8 @@ last_there : (g : _) (c : After-last g)
     → last_of (filter (goes_to (length c.args.update.now.prefix.items) c.args.byte) c.args.update.now.changes.items)
     ≡ option_copied c.last.result
 last_there g c =
-    ap last_of (sym c.requires.there) ∙ sym (last_of-get c.args.there.items)
-    ∙ sym (rw c.as_slice.ensures.value at c.last.ensures.value)
+    rw (← c.requires.there) (sym (last_of-get c.args.there.items)
+    ∙ sym (rw c.as_slice.ensures.value at c.last.ensures.value))
 
 pub returns-in_default-clause-ok : goal.returns-in_default-clause-ok
 returns-in_default-clause-ok g c =
@@ -42,7 +42,7 @@ returns-in_err-slot-clause-err g c =
 
 -- so there are changes there
 none_differs : {X : Type 0} {xs : List X} {x : X} → last_of xs ≡ Some x → xs ≡ [] → ⊥
-none_differs {X} {xs} {x} is none = let no : None ≡ Some x = sym (ap last_of none) ∙ is in cc
+none_differs {X} {xs} {x} is none = cc
 
 -- whether its key digest stands alone there
 stays_alone : (g : _) (c : After-stays_alone g)
@@ -91,8 +91,7 @@ returns-clause-ok g c =
     let byte = c.args.byte in
     let is = last_there g (goal.at.returns-clause-ok g c).After-last ∙ ap option_copied c.in-Some.is in
     let ok = rw (c.as_slice-prefix.ensures.value, c.slot-slot.ensures) at c.in_ok-below.ensures.ok in
-    let few : length (prefix ++ byte ∷ []) < 32 = let n = length-append prefix (byte ∷ []) in let low = ok.0 in
-    omega arith in
+    let few : length (prefix ++ byte ∷ []) < 32 = let n = length-append prefix (byte ∷ []) in omega arith in
     rw (ok.1, ok.3, ok.4, c.requires.there) (refl, few, refl, refl, none_differs is)
 
 pub returns-clause-own : goal.returns-clause-own

@@ -10,8 +10,7 @@ returns-in_err-page-clause-err g c =
 
 pub returns-clause-ok : goal.returns-clause-ok
 returns-clause-ok g c =
-    let low : length c.args.prefix.now < 31 = let short = c.requires in let last = c.if-prefix-eq31.false in omega arith
-    in (
+    let low : length c.args.prefix.now < 31 = omega arith in (
       low,
       c.in_ok-below.ensures.ok,
       refl,

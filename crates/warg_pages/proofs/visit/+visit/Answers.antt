@@ -17,15 +17,13 @@ visit_from-returns-then-prefix-eq32-clause-refused g t c = λ known es is_known 
 
 pub visit_from-returns-in_err-page-clause-refused : goal.visit_from-returns-in_err-page-clause-refused
 visit_from-returns-in_err-page-clause-refused g t c =
-    let H = g.D.SupportedDigest.digest in
-    let lt : length c.args.prefix.now < 32 = let le = c.requires in let ne = c.if-prefix-eq32.false in omega arith in
+    let lt : length c.args.prefix.now < 32 = omega arith in
     source_refused c.from_residual.result c.in_err-page.field-0.0 c.from_residual.ensures.1
     (λ none known es is_known own. own_refused g.met.D.SupportedDigest.is_digest own lt
     (λ slots. none known slots is_known)) c.in_err-page.ensures.err
 
 pub visit_from-returns-then-ne-clause-refused : goal.visit_from-returns-then-ne-clause-refused
 visit_from-returns-then-ne-clause-refused g t c = λ known es is_known own.
-    let H = g.D.SupportedDigest.digest in
     let lt : length c.args.prefix.now < 32 = let le = c.requires in let ne = c.if-prefix-eq32.false in omega arith in
     other_hashes _ _ _ c.ne.ensures c.if-ne.true (c.digest.ensures ∙ own_digest g.met.D.SupportedDigest.is_digest
     own lt c.in_ok-page.ensures.page (c.in_ok-page.ensures.ok known is_known))
@@ -42,7 +40,6 @@ visit_from-slots-init g t c = record {
 
 pub visit_from-returns-in_err-visit_slot-clause-refused : goal.visit_from-returns-in_err-visit_slot-clause-refused
 visit_from-returns-in_err-visit_slot-clause-refused g t c =
-    let H = g.D.SupportedDigest.digest in
     let lt : length c.args.prefix.now < 32 = let le = c.requires in let ne = c.if-prefix-eq32.false in omega arith in
     source_refused c.from_residual-in_err-visit_slot.result c.in_err-visit_slot.field-0.0
     c.from_residual-in_err-visit_slot.ensures.1
@@ -50,8 +47,7 @@ visit_from-returns-in_err-visit_slot-clause-refused g t c =
     let page = own_page g.met.D.SupportedDigest.is_digest own lt c.in_ok-page.ensures.page
     (c.in_ok-page.ensures.ok known is_known) in
     none known es (c.slots.invariant.known known is_known)
-    (own_slot own (c.slots-slot-items.ensures.value ∙ page) c.slots.slot-index c.slot-item.result c.slots-test.true
-    c.slot-item.is))
+    (own_slot own (c.slots-slot-items.ensures.value ∙ page) c.slots.slot-index _ c.slots-test.true c.slot-item.is))
     c.in_err-visit_slot.ensures.refused
 
 pub visit_from-slots-preserved : goal.visit_from-slots-preserved
@@ -83,7 +79,7 @@ pub visit_from-returns-clause-seen : goal.visit_from-returns-clause-seen
 visit_from-returns-clause-seen g t c = λ before has.
     let H = g.D.SupportedDigest.digest in
     let prefix = c.args.prefix.now in
-    let lt : length prefix < 32 = let le = c.requires in let ne = c.if-prefix-eq32.false in omega arith in
+    let lt : length prefix < 32 = omega arith in
     let items = c.slots-slot-items.result.now in
     let page : ChangedPageAt = record { prefix = prefix; version = c.args.version; page = c.in_ok-page.page } in
     let first = c.in_ok-see.ensures.ok before has in
@@ -106,7 +102,6 @@ visit_from-returns-clause-seen g t c = λ before has.
 
 pub visit_slot-returns-in_err-check_lone-in-Some-clause-refused : goal.visit_slot-returns-in_err-check_lone-in-Some-clause-refused
 visit_slot-returns-in_err-check_lone-in-Some-clause-refused g t c =
-    let H = g.D.SupportedDigest.digest in
     let lone : c.args.slot.now.lone ≡ Some c.in-Some.lone = sym (ap (λ (x : SlotAt). x.lone) c.slot.view_is)
     ∙ c.in-Some.is in
     way_refused c.from_residual.result c.in_err-check_lone-in-Some.field-0.0 c.from_residual.ensures.1
@@ -115,7 +110,6 @@ visit_slot-returns-in_err-check_lone-in-Some-clause-refused g t c =
 
 pub visit_slot-returns-in_ok-check_lone-in-Some-clause-seen : goal.visit_slot-returns-in_ok-check_lone-in-Some-clause-seen
 visit_slot-returns-in_ok-check_lone-in-Some-clause-seen g t c = λ before has.
-    let H = g.D.SupportedDigest.digest in
     let lone : c.args.slot.now.lone ≡ Some c.in-Some.lone = sym (ap (λ (x : SlotAt). x.lone) c.slot.view_is)
     ∙ c.in-Some.is in (
       [],
@@ -125,7 +119,6 @@ visit_slot-returns-in_ok-check_lone-in-Some-clause-seen g t c = λ before has.
 
 pub visit_slot-returns-in_ok-below-in-None-clause-refused : goal.visit_slot-returns-in_ok-below-in-None-clause-refused
 visit_slot-returns-in_ok-below-in-None-clause-refused g t c =
-    let H = g.D.SupportedDigest.digest in
     let none : c.args.slot.now.lone ≡ None = sym (ap (λ (x : SlotAt). x.lone) c.slot.view_is) ∙ c.in-None.is in
     let byte : c.slot.inside.byte ≡ c.args.slot.now.byte = ap (λ (x : SlotAt). x.byte) c.slot.view_is in
     let digest : c.slot.inside.digest ≡ c.args.slot.now.digest = ap (λ (x : SlotAt). x.digest) c.slot.view_is in
@@ -137,7 +130,6 @@ visit_slot-returns-in_ok-below-in-None-clause-refused g t c =
 
 pub visit_slot-returns-in_ok-below-in-None-clause-seen : goal.visit_slot-returns-in_ok-below-in-None-clause-seen
 visit_slot-returns-in_ok-below-in-None-clause-seen g t c =
-    let H = g.D.SupportedDigest.digest in
     let prefix = c.args.prefix.now in
     let x = c.args.slot.now in
     let none : x.lone ≡ None = sym (ap (λ (y : SlotAt). y.lone) c.slot.view_is) ∙ c.in-None.is in

@@ -1,4 +1,4 @@
-use Rattle.std.proofs.Common.{◌≡◌, ◌∙◌, ◌+◌, ◌++◌, [], ◌∷◌, List, ℕ, length, take, get_or, sym, ap, subst, arith, add-one}
+use Rattle.std.proofs.Common.{◌≡◌, ◌∙◌, ◌+◌, ◌++◌, [], ◌∷◌, List, ℕ, length, take, get_or, sym, ap, arith, add-one}
 use Rattle.std.proofs.Math.Seq.{take-suc}
 use Rattle.warg_crypto.specs.Digests.{IsDigest}
 use Rattle.warg_pages.specs.Slots.{SlotAt}
@@ -15,7 +15,7 @@ returns-then-ne-clause-err g c below =
     let lone = c.args.lone.now in
     let depth = length c.args.prefix.now in
     let key : c.lone.inside.key ≡ lone.0 = ap (λ (l : List ℕ × List ℕ). l.0) c.lone.view_is in
-    let is : IsDigest lone.0 = subst IsDigest (c.bytes-key.ensures.value ∙ key) c.bytes-key.ensures.digest in
+    let is : IsDigest lone.0 = rw (c.bytes-key.ensures.value ∙ key) at c.bytes-key.ensures.digest in
     let leaf : c.lone.inside.leaf ≡ lone.1 = ap (λ (l : List ℕ × List ℕ). l.1) c.lone.view_is in
     let digest : c.slot.inside.digest ≡ c.args.slot.now.digest = ap (λ (x : SlotAt). x.digest) c.slot.view_is in
     let root : c.lone_tree.result ≡ lone_root H lone.0 lone.1 (slot_height depth) =
@@ -31,19 +31,18 @@ returns-clause-ok g c =
     let depth = length c.args.prefix.now in
     let key : c.lone.inside.key ≡ lone.0 = ap (λ (l : List ℕ × List ℕ). l.0) c.lone.view_is in
     let bytes : c.bytes-key.result.now ≡ lone.0 = c.bytes-key.ensures.value ∙ key in
-    let is : IsDigest lone.0 = subst IsDigest bytes c.bytes-key.ensures.digest in
+    let is : IsDigest lone.0 = rw bytes at c.bytes-key.ensures.digest in
     let leaf : c.lone.inside.leaf ≡ lone.1 = ap (λ (l : List ℕ × List ℕ). l.1) c.lone.view_is in
     let digest : c.slot.inside.digest ≡ c.args.slot.now.digest = ap (λ (x : SlotAt). x.digest) c.slot.view_is in
     let byte : c.slot.inside.byte ≡ c.args.slot.now.byte = ap (λ (x : SlotAt). x.byte) c.slot.view_is in
     let root : c.lone_tree.result ≡ lone_root H lone.0 lone.1 (slot_height depth) =
     rw key at (c.lone_tree.ensures lone.1 (leaf ∙ lone_root-none H c.lone.inside.key lone.1)) in
     let all = is.has_32 in
-    let lt = c.requires in
     let front = c.begins_with.ensures.0 c.if-not-begins_with.false in
     let next = c.if-key-depth.false in
     let begins : take (depth + 1) lone.0 ≡ c.args.prefix.now ++ c.args.slot.now.byte ∷ [] =
-    ap (λ n. take n lone.0) (add-one depth) ∙ take-suc lone.0 depth 0 (omega arith)
-    ∙ (λ i. (ap (take depth) (sym bytes) ∙ front) i ++ (ap (λ k. get_or k depth 0) (sym bytes) ∙ next ∙ byte) i ∷ []) in
+    rw (add-one depth) (take-suc lone.0 depth 0 (omega arith)
+    ∙ (λ i. (ap (take depth) (sym bytes) ∙ front) i ++ (ap (λ k. get_or k depth 0) (sym bytes) ∙ next ∙ byte) i ∷ [])) in
     record {
       begins = begins;
       digest = sym digest ∙ sym (same_hashes _ _ _ c.ne.ensures c.if-ne.false) ∙ root

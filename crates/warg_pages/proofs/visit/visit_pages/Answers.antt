@@ -1,7 +1,6 @@
-use Rattle.std.proofs.Common.{◌≡◌, List, [], sym, subst, ◌∙◌, arith}
+use Rattle.std.proofs.Common.{◌≡◌, [], sym, ◌∙◌, arith}
 use Rattle.std.proofs.lemmas.List.{append-nil}
 use Rattle.std.proofs.lemmas.Result.{on_ok_weaker}
-use Rattle.warg_pages.specs.ChangedPages.{ChangedPageAt}
 use Rattle.warg_pages.proofs.HashEquality.{same_hashes, other_hashes}
 use Rattle.warg_pages.proofs.Refused.{if_err, of_source}
 use Rattle.warg_pages.proofs.FinalPeers.{no_empty_way}
@@ -14,12 +13,12 @@ returns-then-version-ne0-clause-refused g c =
     let some : ¬ (c.args.version ≡ 0) = λ z. c.if-version-ne0.true z in
     if_err c.visit_from.result _ _ c.visit_from.ensures.refused
     (λ e. of_source e (λ fault known es is_known own. fault known es is_known
-    (own_root H _ c.args.root.now c.args.version es (omega arith) some own)))
+    (own_root H _ _ c.args.version es (omega arith) some own)))
 
 pub returns-then-ne-clause-refused : goal.returns-then-ne-clause-refused
 returns-then-ne-clause-refused g c = λ known es is_known own.
     let H = g.D.SupportedDigest.digest in
-    let none : c.args.version ≡ 0 = let z = c.if-version-ne0.false in omega arith in
+    let none : c.args.version ≡ 0 = omega arith in
     no_empty_way H _ c.args.root.now c.args.version es none
     (λ e. other_hashes _ _ _ c.ne.ensures c.if-ne.true (e ∙ sym c.empty_tree.ensures)) own
 
@@ -35,10 +34,9 @@ returns-then-version-ne0-clause-seen g c =
 
 pub returns-clause-seen : goal.returns-clause-seen
 returns-clause-seen g c = λ before has.
-    let none : c.args.version ≡ 0 = let z = c.if-version-ne0.false in omega arith in
-    let P : List ChangedPageAt → Type 0 = λ pages. g.V.PageVisitor.HasSeen c.args.visitor.now pages in (
+    let none : c.args.version ≡ 0 = omega arith in (
       [],
-      subst P (sym (append-nil before)) has,
+      rw (append-nil before) has,
       λ known is. all_of_none g.D.SupportedDigest.digest _ _ c.args.root.now c.args.version none
           (same_hashes _ _ _ c.ne.ensures c.if-ne.false ∙ c.empty_tree.ensures),
     )

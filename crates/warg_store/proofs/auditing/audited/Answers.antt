@@ -10,15 +10,14 @@ use Rattle.warg_store.specs.Log.{LogOf}
 use Rattle.warg_store.specs.Private.Used.{IsEnough}
 use Rattle.warg_store.specs.declared.auditing.Use.TheVariants.{Compare}
 use Rattle.warg_store.specs.Reading.{AreOfLog}
-use Rattle.warg_store.specs.Refusals.{IsNoFault}
 use Rattle.warg_store.proofs.WholeLemmas.{err_same}
 use Rattle.warg_store.proofs.UsedLemmas.{shown}
 use Rattle.warg_store.proofs.auditing.audited.Goals as goal
 
 pub returns-clause-files : goal.returns-clause-files
 returns-clause-files g c = λ faithful. IfOk-weaker c.same_root.result _ _
-    (λ found same. shown (g.F.Folder.seen c.args.folder.now) (g.F.Folder.seen c.replayed.new.folder) c.in_ok-log.log
-    found (c.replayed.ensures.used faithful).found same (c.in_ok-log.ensures.files faithful)) c.same_root.ensures.same
+    (λ found same. shown _ _ c.in_ok-log.log found (c.replayed.ensures.used faithful).found same
+    (c.in_ok-log.ensures.files faithful)) c.same_root.ensures.same
 
 -- a log's files are enough to compare them, with what is left of older lengths
 enough_of : (log : LogOf) (checkpoint : RootAndLength) (files : Files) → AreOfLog log checkpoint files
@@ -32,17 +31,15 @@ enough_of log checkpoint files are older = record {
 
 pub returns-in_err-log-clause-whole : goal.returns-in_err-log-clause-whole
 returns-in_err-log-clause-whole g c = λ faithful log are older.
-    err_same (IsNoFault ⊥) c.in_err-log.field-0.0 c.from_residual.result c.from_residual.ensures.1
+    err_same _ _ _ c.from_residual.ensures.1
     (c.in_err-log.ensures.whole faithful log
-    (enough_of log c.args.checkpoint.now (g.F.Folder.seen c.args.folder.now) are older)
-    (sym (ap (λ (k : RootAndLength). k.length) are.said) ∙ sym c.length.ensures))
+    (enough_of log _ _ are older) (sym (ap (λ (k : RootAndLength). k.length) are.said) ∙ sym c.length.ensures))
 
 pub returns-clause-whole : goal.returns-clause-whole
 returns-clause-whole g c = λ faithful log are older.
     let ds = leaves_of sha256 log.entries in
     c.same_root.ensures.whole ds
     (c.in_ok-log.ensures.own faithful log
-    (enough_of log c.args.checkpoint.now (g.F.Folder.seen c.args.folder.now) are older)
-    (sym (ap (λ (k : RootAndLength). k.length) are.said) ∙ sym c.length.ensures))
+    (enough_of log _ _ are older) (sym (ap (λ (k : RootAndLength). k.length) are.said) ∙ sym c.length.ensures))
     (ap (λ (k : RootAndLength). k.length) are.said ∙ sym (length-map log.entries (λ (e : List ℕ). sha256 (0 ∷ e))))
     (ap (λ (k : RootAndLength). k.root) are.said)

@@ -1,11 +1,9 @@
-use Rattle.std.proofs.Common.{◌≡◌, List, ℕ, true, false, Some, refl, sym, ap, subst, ◌∙◌}
+use Rattle.std.proofs.Common.{◌≡◌, List, ℕ, true, false, Some, refl, sym, ap, ◌∙◌}
 use Rattle.std.proofs.lemmas.Result.{on_ok_weaker}
 use Rattle.warg_tiles.specs.TilePaths.{tile_path}
 use Rattle.warg_folder.specs.Files.{Files}
 use Rattle.std.specs.List.{flat_map}
 use Rattle.warg_folder.proofs.ForCallers.{read_then}
-use Rattle.warg_store.specs.Audited.{HasOlder}
-use Rattle.warg_store.specs.Refusals.{IsNoFault}
 use Rattle.warg_store.proofs.WholeLemmas.{err_same}
 use Rattle.warg_store.proofs.AuditLemmas.{ok_holds}
 use Rattle.warg_store.proofs.ReadLemmas.{digests_decide}
@@ -32,13 +30,13 @@ returns-then-eq-clause-read g c = λ faithful.
 
 pub returns-in_err-found-clause-whole : goal.returns-in_err-found-clause-whole
 returns-in_err-found-clause-whole g c = λ faithful log whole own.
-    err_same (IsNoFault ⊥) c.in_err-found.field-0.0 c.from_residual.result c.from_residual.ensures.1
+    err_same _ _ _ c.from_residual.ensures.1
     (c.in_err-found.ensures.whole faithful log (whole.holds.tile c.args.stored.now.tile own.0))
 
 pub returns-then-eq-clause-whole : goal.returns-then-eq-clause-whole
 returns-then-eq-clause-whole g c = λ faithful log whole own.
     c.compare_older.ensures.whole faithful log whole.short own
-    (subst (HasOlder log) (sym (c.read_tile.ensures.read faithful).found) whole.older)
+    (rw (c.read_tile.ensures.read faithful).found whole.older)
 
 pub returns-clause-whole : goal.returns-clause-whole
 returns-clause-whole g c = λ faithful log whole own.

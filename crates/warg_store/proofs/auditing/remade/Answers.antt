@@ -1,4 +1,4 @@
-use Rattle.std.proofs.Common.{inl, List, ℕ, ◌∷◌, None, sym, ap, subst, ◌∙◌}
+use Rattle.std.proofs.Common.{inl, List, ℕ, ◌∷◌, None, sym, ap, ◌∙◌}
 use Rattle.std.proofs.lemmas.List.{length-map}
 use Rattle.warg_crypto.specs.Digests.{sha256}
 use Rattle.warg_log.specs.Tree.{leaves_of}
@@ -7,10 +7,8 @@ use Rattle.warg_folder.specs.Files.{Files}
 use Rattle.warg_folder.specs.Moments.{LeavesOnly}
 use Rattle.warg_folder.proofs.ForCallers.{leaves_weaker}
 use Rattle.warg_store.specs.Log.{LogOf, HasState, said_of}
-use Rattle.warg_store.specs.Opening.{CanBeServed}
-use Rattle.warg_store.specs.Rebuilt.{HasBundlesOf, IsRebuilt}
+use Rattle.warg_store.specs.Rebuilt.{HasBundlesOf}
 use Rattle.warg_store.specs.Private.Used.{IsEnough, IsRemaking}
-use Rattle.warg_store.specs.Refusals.{IsNoFault}
 use Rattle.warg_store.specs.declared.auditing.Use.TheVariants.{Stage}
 use Rattle.warg_store.proofs.OpenLemmas.{kept_said}
 use Rattle.warg_store.proofs.RebuiltLemmas.{rebuilt, state_says, remaking}
@@ -30,35 +28,30 @@ enough_of log files has bundles = record {
 
 pub returns-clause-said : goal.returns-clause-said
 returns-clause-said g c = c.in_ok-found.ensures.said
-    ∙ same_said c.checkpoint-checkpoint.result c.args.state.now c.checkpoint-checkpoint.ensures.root
-    c.checkpoint-checkpoint.ensures.length
+    ∙ same_said _ c.args.state.now c.checkpoint-checkpoint.ensures.root c.checkpoint-checkpoint.ensures.length
 
 pub returns-clause-made : goal.returns-clause-made
 returns-clause-made g c = λ faithful.
     let has = c.in_ok-log.ensures.files faithful in
-    subst (IsRebuilt c.args.state.now (g.F.Folder.seen c.args.folder.now))
-    (sym (c.in_ok-commit_state.ensures.committed faithful))
-    (rebuilt (g.F.Folder.seen c.args.folder.now) (g.F.Folder.seen c.replayed.new.folder) c.in_ok-log.log
-    c.args.state.now (c.requires.empty faithful) (c.requires.stated faithful) has
-    (state_says c.checkpoint-checkpoint.result c.in_ok-found.found c.args.state.now has.entries c.in_ok-log.log
-    c.in_ok-found.ensures.said c.checkpoint-checkpoint.ensures.root c.checkpoint-checkpoint.ensures.length
-    c.in_ok-found.ensures.same has.stands))
+    rw (c.in_ok-commit_state.ensures.committed faithful)
+    (rebuilt _ _ c.in_ok-log.log c.args.state.now (c.requires.empty faithful) (c.requires.stated faithful) has
+    (state_says _ _ c.args.state.now has.entries _ c.in_ok-found.ensures.said c.checkpoint-checkpoint.ensures.root
+    c.checkpoint-checkpoint.ensures.length c.in_ok-found.ensures.same has.stands))
 
 pub returns-in_err-log-clause-whole : goal.returns-in_err-log-clause-whole
 returns-in_err-log-clause-whole g c = λ faithful log has bundles.
     let said = c.requires.stated faithful (said_of log) None (kept_said log has.can) has.text in
-    err_same (IsNoFault ⊥) c.in_err-log.field-0.0 c.from_residual.result c.from_residual.ensures.1
-    (c.in_err-log.ensures.whole faithful log (enough_of log (g.F.Folder.seen c.args.folder.now) has bundles)
+    err_same _ _ _ c.from_residual.ensures.1
+    (c.in_err-log.ensures.whole faithful log (enough_of log _ has bundles)
     (sym (c.length.ensures ∙ c.checkpoint-checkpoint.ensures.length ∙ ap (λ (s : Said). s.length) said)))
 
 pub returns-in_err-found-clause-whole : goal.returns-in_err-found-clause-whole
 returns-in_err-found-clause-whole g c = λ faithful log has bundles.
     let said = c.requires.stated faithful (said_of log) None (kept_said log has.can) has.text in
     let length = c.checkpoint-checkpoint.ensures.length ∙ ap (λ (s : Said). s.length) said in
-    err_same (IsNoFault ⊥) c.in_err-found.field-0.0 c.from_residual-in_err-found.result
-    c.from_residual-in_err-found.ensures.1
+    err_same _ _ _ c.from_residual-in_err-found.ensures.1
     (c.in_err-found.ensures.whole (leaves_of sha256 log.entries)
-    (c.in_ok-log.ensures.own faithful log (enough_of log (g.F.Folder.seen c.args.folder.now) has bundles)
+    (c.in_ok-log.ensures.own faithful log (enough_of log _ has bundles)
     (sym (c.length.ensures ∙ length)))
     (length ∙ sym (length-map log.entries (λ (e : List ℕ). sha256 (0 ∷ e))))
     (c.checkpoint-checkpoint.ensures.root ∙ ap (λ (s : Said). s.root) said))
@@ -66,9 +59,8 @@ returns-in_err-found-clause-whole g c = λ faithful log has bundles.
 pub returns-in_err-commit_state-clause-whole : goal.returns-in_err-commit_state-clause-whole
 returns-in_err-commit_state-clause-whole g c = λ faithful log has bundles.
     let said = c.requires.stated faithful (said_of log) None (kept_said log has.can) has.text in
-    err_same (IsNoFault ⊥) c.in_err-commit_state.field-0.0 c.from_residual-in_err-commit_state.result
-    c.from_residual-in_err-commit_state.ensures.1
-    (c.in_err-commit_state.ensures.whole (subst CanBeServed (sym said) (kept_said log has.can)))
+    err_same _ _ _ c.from_residual-in_err-commit_state.ensures.1
+    (c.in_err-commit_state.ensures.whole (rw said (kept_said log has.can)))
 
 pub returns-in_err-log-clause-any_moment : goal.returns-in_err-log-clause-any_moment
 returns-in_err-log-clause-any_moment g c = λ faithful.
@@ -84,11 +76,10 @@ committed : (g : _) (c : After-commit_state g) → g.F.Folder.IsFaithful → Lea
     (IsRemaking c.args.state.now (g.F.Folder.seen c.args.folder.now))
 committed g c faithful =
     let has = c.in_ok-log.ensures.files faithful in
-    remaking g.F.Folder.seen g.F.Folder.may_leave _ _ _ _ _ c.in_ok-log.log c.args.state.now
+    remaking _ _ _ _ _ _ _ c.in_ok-log.log c.args.state.now
     (c.requires.empty faithful) (c.requires.stated faithful) has
-    (state_says c.checkpoint-checkpoint.result c.in_ok-found.found c.args.state.now has.entries c.in_ok-log.log
-    c.in_ok-found.ensures.said c.checkpoint-checkpoint.ensures.root c.checkpoint-checkpoint.ensures.length
-    c.in_ok-found.ensures.same has.stands) (c.replayed.ensures.used faithful)
+    (state_says _ _ c.args.state.now has.entries _ c.in_ok-found.ensures.said c.checkpoint-checkpoint.ensures.root
+    c.checkpoint-checkpoint.ensures.length c.in_ok-found.ensures.same has.stands) (c.replayed.ensures.used faithful)
     (g.met.F.Folder.seen_may_stay c.replayed.new.folder) (c.commit_state.ensures.any_moment faithful)
 
 pub returns-in_err-commit_state-clause-any_moment : goal.returns-in_err-commit_state-clause-any_moment

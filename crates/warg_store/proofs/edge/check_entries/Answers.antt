@@ -7,7 +7,6 @@ use Rattle.warg_crypto.specs.Tree.{leaf_digest}
 use Rattle.warg_log.specs.Tree.{root_of, leaves_of, leaves_below}
 use Rattle.warg_tiles.specs.Tiles.{TileAt, node_in}
 use Rattle.warg_tiles.specs.TileLog.{tile_digests}
-use Rattle.warg_tiles.specs.EntryBundles.{bundle_of}
 use Rattle.warg_tiles.proofs.ForCallers.{bundle_same}
 use Rattle.warg_store.proofs.EnoughLemmas.{tile_leaf}
 use Rattle.warg_store.proofs.WholeLemmas.{got}
@@ -23,8 +22,7 @@ returns-then-not-is_leaf-clause-whole c = λ log short is same digests.
     let entry : List ℕ = (get_or slice place none).now in
     let part : List (List ℕ) = take t.width (drop (256 * t.number) log.entries) in
     let here : es ≡ part = bundle_same es part
-    (ap (λ (l : List (Bor (List ℕ))). bundle_of (map (λ e. e.now) l)) c.as_slice-entry-items.ensures.value
-    ∙ sym c.in_ok-entries.ensures.entries ∙ same) in
+    (rw c.as_slice-entry-items.ensures.value (sym c.in_ok-entries.ensures.entries ∙ same)) in
     let inside : place < length slice = omega (arith, c.entries-test.true, c.as_slice-entry-items.ensures.len) in
     let wide : place < t.width = omega (
       arith,
@@ -37,8 +35,7 @@ returns-then-not-is_leaf-clause-whole c = λ log short is same digests.
     let own : entry ≡ get_or part place [] = sym (get_or-map (λ (e : Bor (List ℕ)). e.now) slice place none [] inside)
     ∙ ap (λ (l : List (List ℕ)). get_or l place []) here in
     let leaf : get_or c.as_slice.result.now place [] ≡ leaf_digest sha256 entry =
-    ap (λ (l : List (List ℕ)). get_or l place []) all ∙ tile_leaf log t place is wide
-    ∙ ap (leaf_digest sha256) (sym own) in
+    rw (all, own) (tile_leaf log t place is wide) in
     let held : place < length c.as_slice.result.now = omega (
       arith,
       wide,

@@ -18,8 +18,8 @@ pub returns-clause-stands : goal.returns-clause-stands
 returns-clause-stands c = λ kept size are.
     c.in-Ok.ensures.stands (leaves_of sha256 kept.entries) (length-map kept.entries (λ (e : List ℕ). sha256 (0 ∷ e))
     ∙ sym size ∙ sym c.length.ensures)
-    (all_made (λ (x : TileAt × List (List ℕ)). IsTileBy (own_digest sha256 (leaves_of sha256 kept.entries)) x.0 x.1)
-    (λ (t : StoredTile Sha256 Global). (t.tile, t.digests.items)) c.args.edge.now are.digests)
+    (all_made (λ (x : TileAt × List (List ℕ)). IsTileBy (own_digest sha256 (leaves_of sha256 kept.entries)) x.0 x.1) _
+    c.args.edge.now are.digests)
 
 pub returns-in-Err-clause-whole : goal.returns-in-Err-clause-whole
 returns-in-Err-clause-whole c = λ kept says are.
@@ -27,8 +27,8 @@ returns-in-Err-clause-whole c = λ kept says are.
     ap (λ (r : RootAndLength). r.length) says in
     let none : tiles_fault (partial_tiles c.length.result)
     (map (λ (t : StoredTile Sha256 Global). t.tile) c.args.edge.now) ≡ None =
-    tiles_none (partial_tiles c.length.result) (map (λ (t : StoredTile Sha256 Global). t.tile) c.args.edge.now)
-    (sym (places_of (λ (t : StoredTile Sha256 Global). t.tile) (λ (t : StoredTile Sha256 Global). t.digests.items)
+    tiles_none _ _ (sym (places_of (λ (t : StoredTile Sha256 Global). t.tile)
+    (λ (t : StoredTile Sha256 Global). t.digests.items)
     c.args.edge.now) ∙ are.places ∙ ap partial_tiles (sym (c.length.ensures ∙ count))) in
     c.refused_edge.ensures.memory (only_memory c.in-Err.error (λ e. cc (c.in-Err.ensures.count.0 e, none))
     (λ e. cc (c.in-Err.ensures.place.0 e, none)) (λ e. cc (c.in-Err.ensures.width.0 e, none)))
@@ -40,12 +40,11 @@ returns-then-ne-clause-whole c = λ kept says are.
     ap (λ (r : RootAndLength). r.length) says in
     let stands = c.in-Ok.ensures.stands ds (length-map kept.entries (λ (e : List ℕ). sha256 (0 ∷ e)) ∙ sym size
     ∙ sym c.length.ensures)
-    (all_made (λ (x : TileAt × List (List ℕ)). IsTileBy (own_digest sha256 ds) x.0 x.1)
-    (λ (t : StoredTile Sha256 Global). (t.tile, t.digests.items)) c.args.edge.now are.digests) in
+    (all_made (λ (x : TileAt × List (List ℕ)). IsTileBy (own_digest sha256 ds) x.0 x.1) _ c.args.edge.now are.digests)
+    in
     let root : c.checkpoint.result.root ≡ c.args.checkpoint.now.root = c.checkpoint.ensures.root ds stands
     ∙ sym (ap (λ (r : RootAndLength). r.root) says) in
     let count : c.checkpoint.result.length ≡ c.args.checkpoint.now.length = c.checkpoint.ensures.length
     ∙ c.in-Ok.ensures.length.0 ∙ c.length.ensures in
-    let equal = same_checkpoint c.checkpoint.result.root c.args.checkpoint.now.root c.checkpoint.result.length
-    c.args.checkpoint.now.length root count in
+    let equal = same_checkpoint _ _ _ _ root count in
     absurd (apart (c.if-ne.ensures ∙ ap not equal))

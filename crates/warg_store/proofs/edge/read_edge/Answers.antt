@@ -1,17 +1,11 @@
-use Rattle.std.proofs.Common.{◌≡◌, ℕ, ◌*◌, ◌/◌, ◌%◌, ◌^◌, ◌+◌, ◌<◌, ◌≤◌, refl, List, [], ◌∷◌, ◌++◌, length, map, Vec, sym, ap, subst, ◌∙◌, arith}
+use Rattle.std.proofs.Common.{◌≡◌, ℕ, ◌*◌, ◌/◌, ◌%◌, ◌^◌, ◌<◌, refl, List, [], ◌∷◌, length, map, arith}
 use Rattle.std.proofs.lemmas.List.{map-append}
 use Rattle.std.specs.declared.alloc.Global.{Global}
-use Rattle.warg_crypto.specs.Digests.{sha256}
 use Rattle.warg_crypto.specs.declared.hash.Sha256.{Sha256}
-use Rattle.warg_log.specs.Tree.{leaves_of}
 use Rattle.warg_tiles.specs.Tiles.{TileAt}
-use Rattle.warg_tiles.specs.TileLog.{last_tile, tile_digests}
 use Rattle.warg_tiles.specs.declared.stored.StoredTile.{StoredTile}
-use Rattle.warg_store.specs.Log.{HasFiles}
-use Rattle.warg_store.specs.Refusals.{IsNoFault}
-use Rattle.warg_folder.specs.Moments.{IsRead}
 use Rattle.warg_folder.proofs.ForCallers.{read_is, read_then}
-use Rattle.warg_store.proofs.OpenLemmas.{ArePartsTo, part_none, part_some, level_there}
+use Rattle.warg_store.proofs.OpenLemmas.{part_none, part_some, level_there}
 use Rattle.warg_store.proofs.WholeLemmas.{err_same}
 use Rattle.warg_store.proofs.edge.read_edge.Goals.{then-count-ne0+in_ok-read_tile+in_ok-push, else-count-ne0}
 use Rattle.warg_store.proofs.edge.read_edge.Goals as goal
@@ -20,57 +14,43 @@ pub levels-init : goal.levels-init
 levels-init g c = record {
   faults = omega arith;
   read = λ faithful. read_is _ _ _ _ _;
-  edge = λ faithful log size has. subst (λ (l : List (StoredTile Sha256 Global)). ArePartsTo log 0
-      (map (λ (t : StoredTile Sha256 Global). (t.tile, t.digests.items)) l)) (sym c.new-edge.ensures.items)
-      (record { places = refl; digests = tt });
+  edge = λ faithful log size has. rw c.new-edge.ensures.items (record { places = refl; digests = tt });
 }
 
 pub levels-preserved : goal.levels-preserved
 levels-preserved g c =
     let level = c.levels.level in
     let with_digests : StoredTile Sha256 Global → TileAt × List (List ℕ) = λ t. (t.tile, t.digests.items) in
-    let seen = g.F.Folder.seen in
     elim c.if-count-ne0.branch [
       | then-count-ne0+in_ok-read_tile+in_ok-push w ↦ record {
-        faults = subst (λ (f : g.row.F.Denot). g.F.Folder.faults c.args.folder.now ≤ g.F.Folder.faults f)
-            (sym w.folder-is) (omega (arith, c.levels.invariant.faults, w.in_ok-read_tile.ensures.cause.later));
-        read = λ faithful. subst (λ (f : g.row.F.Denot). IsRead seen g.F.Folder.may_leave g.F.Folder.moment
-            g.F.Folder.left_since c.args.folder.now f) (sym w.folder-is)
-            (read_then _ _ _ _ _ _ _ (g.met.F.Folder.counts_now c.args.folder.now) (c.levels.invariant.read faithful)
-            (w.read_tile.ensures.read faithful));
+        faults = rw w.folder-is (omega (arith, c.levels.invariant.faults, w.in_ok-read_tile.ensures.cause.later));
+        read = λ faithful. rw w.folder-is (read_then _ _ _ _ _ _ _ (g.met.F.Folder.counts_now c.args.folder.now)
+            (c.levels.invariant.read faithful) (w.read_tile.ensures.read faithful));
         edge = λ faithful log size has.
             let read = w.in_ok-read_tile.field-0 in
-            let some : 0 < length log.entries / 2 ^ (8 * level) % 256 = subst (λ n. 0 < n / 2 ^ (8 * level) % 256) size
-            (omega (arith, w.if-count-ne0.true)) in
-            let there = level_there log (seen c.levels.folder) c.args.log_length level w.new-tile.result
+            let there = level_there log (g.F.Folder.seen c.levels.folder) c.args.log_length level w.new-tile.result
             c.levels-test.true size w.new-tile.ensures.level w.new-tile.ensures.number w.new-tile.ensures.width
-            (omega (arith, w.if-count-ne0.true))
-            (subst (HasFiles log) (sym (c.levels.invariant.read faithful).found) has) in
-            let tile = there.0 in
-            let digests : read.digests.items ≡ tile_digests sha256 (leaves_of sha256 log.entries)
-            (last_tile (length log.entries) level) =
-            w.in_ok-read_tile.ensures.own faithful log there.1
-            ∙ ap (tile_digests sha256 (leaves_of sha256 log.entries)) tile in
-            subst (λ l. ArePartsTo log (level + 1) l)
-            (sym (ap (λ (v : Vec (StoredTile Sha256 Global) Global). map with_digests v.items) w.edge-is
-            ∙ ap (map with_digests) w.in_ok-push.ensures.items ∙ map-append with_digests c.levels.edge.items
-            (read ∷ [])
-            ∙ ap (λ (t : TileAt). map with_digests c.levels.edge.items ++ (t, read.digests.items) ∷ [])
-            (w.in_ok-read_tile.ensures.tile ∙ tile)))
-            (part_some log level (map with_digests c.levels.edge.items) read.digests.items some digests
+            (omega (arith, w.if-count-ne0.true)) (rw (c.levels.invariant.read faithful).found has) in
+            rw (
+              w.edge-is,
+              w.in_ok-push.ensures.items,
+              map-append with_digests c.levels.edge.items (read ∷ []),
+              w.in_ok-read_tile.ensures.tile,
+              there.0,
+            )
+            (part_some log level (map with_digests c.levels.edge.items) read.digests.items
+            (rw size at (let some : 0 < c.args.log_length / 2 ^ (8 * level) % 256 =
+            omega (arith, w.if-count-ne0.true) in some))
+            (rw there.0 at (w.in_ok-read_tile.ensures.own faithful log there.1))
             (c.levels.invariant.edge faithful log size has));
       }
       | else-count-ne0 w ↦ record {
-        faults = subst (λ (f : g.row.F.Denot). g.F.Folder.faults c.args.folder.now ≤ g.F.Folder.faults f)
-            (sym w.folder-is) c.levels.invariant.faults;
-        read = λ faithful. subst (λ (f : g.row.F.Denot). IsRead seen g.F.Folder.may_leave g.F.Folder.moment
-            g.F.Folder.left_since c.args.folder.now f) (sym w.folder-is) (c.levels.invariant.read faithful);
+        faults = rw w.folder-is c.levels.invariant.faults;
+        read = λ faithful. rw w.folder-is (c.levels.invariant.read faithful);
         edge = λ faithful log size has.
-            let none : length log.entries / 2 ^ (8 * level) % 256 ≡ 0 = subst (λ n. n / 2 ^ (8 * level) % 256 ≡ 0) size
-            (omega (arith, w.if-count-ne0.false)) in
-            subst (λ (v : Vec (StoredTile Sha256 Global) Global). ArePartsTo log (level + 1) (map with_digests v.items))
-            (sym w.edge-is)
-            (part_none log level (map with_digests c.levels.edge.items) none
+            let none : length log.entries / 2 ^ (8 * level) % 256 ≡ 0 =
+            rw (← size) (omega (arith, w.if-count-ne0.false)) in
+            rw w.edge-is (part_none log level (map with_digests c.levels.edge.items) none
             (c.levels.invariant.edge faithful log size has));
       }
     ]
@@ -79,8 +59,8 @@ pub returns-in_err-read_tile-clause-whole : goal.returns-in_err-read_tile-clause
 returns-in_err-read_tile-clause-whole g c = λ faithful log size has.
     let there = level_there log (g.F.Folder.seen c.levels.folder) c.args.log_length c.levels.level c.new-tile.result
     c.levels-test.true size c.new-tile.ensures.level c.new-tile.ensures.number c.new-tile.ensures.width
-    (omega (arith, c.if-count-ne0.true)) (subst (HasFiles log) (sym (c.levels.invariant.read faithful).found) has) in
-    err_same (IsNoFault ⊥) c.in_err-read_tile.field-0.0 c.from_residual.result c.from_residual.ensures.1
+    (omega (arith, c.if-count-ne0.true)) (rw (c.levels.invariant.read faithful).found has) in
+    err_same _ _ _ c.from_residual.ensures.1
     (c.in_err-read_tile.ensures.whole faithful log there.1)
 
 pub returns-in_err-read_tile-clause-read : goal.returns-in_err-read_tile-clause-read

@@ -1,17 +1,14 @@
-use Rattle.std.proofs.Common.{◌≡◌, ◌∷◌, List, ℕ, length, map, ap, subst, ◌∙◌, arith}
-use Rattle.std.specs.List.{AllByRecursion}
+use Rattle.std.proofs.Common.{◌≡◌, ◌∷◌, List, ℕ, length, map, ap, ◌∙◌, arith}
 use Rattle.std.specs.declared.alloc.Global.{Global}
 use Rattle.warg_crypto.specs.declared.hash.Sha256.{Sha256}
 use Rattle.warg_crypto.specs.Digests.{sha256}
-use Rattle.warg_log.specs.Tree.{leaves_of, own_digest}
+use Rattle.warg_log.specs.Tree.{leaves_of}
 use Rattle.warg_tiles.specs.Tiles.{TileAt}
-use Rattle.warg_tiles.specs.TileData.{IsTileBy}
 use Rattle.warg_tiles.specs.TileLog.{tile_digests}
 use Rattle.warg_tiles.specs.declared.stored.StoredTile.{StoredTile}
 use Rattle.warg_tiles.proofs.ForCallers.{own_tile}
 use Rattle.warg_store.specs.Growing.{ArePartsOf}
 use Rattle.warg_store.specs.Log.{LogOf, CanBeKept, IsBundleIn}
-use Rattle.warg_store.specs.Refusals.{IsNoFault}
 use Rattle.warg_store.proofs.LeadLemmas.{width_at_most}
 use Rattle.warg_store.proofs.WholeLemmas.{err_same}
 use Rattle.warg_store.proofs.OpenLemmas.{part_of, last_bundle_is, no_last_bundle, front_is, bundles_full}
@@ -65,15 +62,14 @@ module _ (log : LogOf) (edge front : List (StoredTile Sha256 Global)) (stored : 
 
   own_digests : stored.digests.items ≡ tile_digests sha256 (leaves_of sha256 log.entries) stored.tile
   own_digests = own_tile sha256 (leaves_of sha256 log.entries) stored.digests.items stored.tile
-      (subst (AllByRecursion (λ (x : TileAt × List (List ℕ)). IsTileBy
-      (own_digest sha256 (leaves_of sha256 log.entries)) x.0 x.1)) (ap (map with_digests) first) are.digests).0
+      (rw (ap (map with_digests) first) at are.digests).0
 
 pub returns-in_err-bytes-in-Some-clause-whole : goal.returns-in_err-bytes-in-Some-clause-whole
 returns-in_err-bytes-in-Some-clause-whole g c = λ faithful log can has are.
     let stored = c.in-Some.stored.now in
     let front = front_is c.args.edge.now stored c.in-Some.ensures.value in
     let level : stored.tile.level ≡ 0 = omega (arith, c.level.ensures.value, c.if-level-eq0.true) in
-    err_same (IsNoFault ⊥) c.in_err-bytes-in-Some.field-0.0 c.from_residual.result c.from_residual.ensures.1
+    err_same _ _ _ c.from_residual.ensures.1
     (c.in_err-bytes-in-Some.ensures.whole faithful log
     (has.bundle stored.tile (bundle_in log c.args.edge.now front.0 stored front.1 can are level)))
 
@@ -85,7 +81,6 @@ returns-in_err-check_entries-in-Some-clause-whole g c = λ faithful log can has 
     let is = bundle_in log c.args.edge.now front.0 stored front.1 can are level in
     let bytes = c.in_ok-bytes-in-Some.ensures.own faithful log can.short
     (width_at_most (length log.entries) stored.tile is.exists) (has.bundle stored.tile is) in
-    err_same (IsNoFault ⊥) c.in_err-check_entries-in-Some.field-0.0 c.from_residual-in_err-check_entries-in-Some.result
-    c.from_residual-in_err-check_entries-in-Some.ensures.1
+    err_same _ _ _ c.from_residual-in_err-check_entries-in-Some.ensures.1
     (c.in_err-check_entries-in-Some.ensures.whole log can.short is (c.as_slice.ensures.value ∙ bytes)
     (own_digests log c.args.edge.now front.0 stored front.1 can are))

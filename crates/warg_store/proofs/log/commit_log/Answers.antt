@@ -1,6 +1,4 @@
-use Rattle.std.proofs.Common.{subst, sym}
 use Rattle.std.proofs.lemmas.Result.{on_ok_weaker}
-use Rattle.warg_store.specs.Log.{Keeps}
 use Rattle.warg_folder.proofs.ForCallers.{leaves_weaker}
 use Rattle.warg_store.proofs.LeadLemmas.{next_keeps, between_committing}
 use Rattle.warg_store.proofs.log.commit_log.Goals as goal
@@ -18,5 +16,5 @@ returns-clause-next g c = λ faithful. on_ok_weaker c.commit.result
     (λ is served old next keeps extends are_staged says named.
     let first = g.F.Folder.seen c.args.folder.now in
     let found = next_keeps served old next first keeps extends are_staged c.args.text.now says named in
-    (found.0, found.1, subst (Keeps found.0 next) (sym is) found.2))
+    (found.0, found.1, rw is found.2))
     (c.commit.ensures.committed faithful)

@@ -1,5 +1,4 @@
-use Rattle.std.proofs.Common.{◌≡◌, ◌++◌, List, ℕ, true, false, Some, length, take, drop, sym, ap, ◌∙◌, arith}
-use Rattle.std.specs.List.{flat_map}
+use Rattle.std.proofs.Common.{◌≡◌, ◌++◌, List, ℕ, true, false, length, take, drop, sym, ap, ◌∙◌, arith}
 use Rattle.std.proofs.Math.Seq.{take-append_seam}
 use Rattle.std.proofs.lemmas.Slice.Eq.{starts_is}
 use Rattle.warg_crypto.specs.Digests.{sha256}
@@ -15,10 +14,9 @@ returns-clause-whole g c = λ faithful log own level number less there.
     let ds = leaves_of sha256 log.entries in
     let newer = c.args.newer.now.tile in
     let rest : List (List ℕ) = drop c.args.tile.width (tile_digests sha256 ds newer) in
-    let begins : c.as_slice.result.now ≡ c.as_slice-2.result.now ++ rest = c.as_slice.ensures.value ∙ own.1
-    ∙ older_digests ds c.args.tile newer level number less
-    ∙ ap (λ (l : List (List ℕ)). l ++ rest) (sym (c.as_slice-2.ensures.value
-    ∙ c.in_ok-older.ensures.own faithful log there)) in
+    let begins : c.as_slice.result.now ≡ c.as_slice-2.result.now ++ rest =
+    rw (c.as_slice.ensures.value, own.1, c.as_slice-2.ensures.value, c.in_ok-older.ensures.own faithful log there)
+    (older_digests ds c.args.tile newer level number less) in
     let is : c.starts_with.result ≡ true = (starts_is digest_decides c.as_slice.result.now c.as_slice-2.result.now
     c.starts_with.result c.starts_with.ensures.value).1 rest begins in
     absurd (let no : true ≡ false = sym is ∙ c.if-starts_with.false in cc)
@@ -38,8 +36,5 @@ returns-then-starts_with-clause-file g c = λ faithful.
       ap (λ (ds : List (List ℕ)). length ds) c.as_slice-2.ensures.value,
     ) in
     let are : take c.args.tile.width c.args.newer.now.digests.items ≡ older.digests.items =
-    ap (λ n. take n c.args.newer.now.digests.items) wide
-    ∙ ap (take (length first)) (sym c.as_slice.ensures.value ∙ begins)
-    ∙ take-append_seam first behind ∙ c.as_slice-2.ensures.value in
-    c.in_ok-older.ensures.file faithful
-    ∙ ap (λ (ds : List (List ℕ)). Some (flat_map (λ digest. digest) ds)) (sym are)
+    rw (wide, ← c.as_slice.ensures.value, begins) (take-append_seam first behind ∙ c.as_slice-2.ensures.value) in
+    rw are (c.in_ok-older.ensures.file faithful)

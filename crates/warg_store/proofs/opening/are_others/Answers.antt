@@ -1,6 +1,5 @@
-use Rattle.std.proofs.Common.{◌≡◌, ◌<◌, ℕ, List, true, false, length, get_or, sym, ap, subst, ◌∙◌, arith, string_bytes}
+use Rattle.std.proofs.Common.{◌≡◌, ◌<◌, false, length, get_or, sym, ◌∙◌, arith, string_bytes}
 use Rattle.std.proofs.lemmas.List.{get_or_default, take_all}
-use Rattle.std.specs.List.{All}
 use Rattle.std.proofs.lemmas.List.Elements.{All-more}
 use Rattle.std.specs.declared.string.String.{String}
 use Rattle.std.specs.declared.alloc.Global.{Global}
@@ -11,9 +10,7 @@ pub names-preserved : goal.names-preserved
 names-preserved c = record {
   others = All-more (λ (x : String Global). is_of_log (string_bytes x) ≡ false) c.args.names.now
       c.names.name-index c.name-item.result (omega arith) c.names.invariant.others
-      (subst (λ (n : List ℕ). is_of_log n ≡ false)
-      (c.as_str.ensures.value ∙ ap (λ (x : String Global). string_bytes x) c.name-item.is)
-      (sym c.is_of_log.ensures ∙ c.if-is_of_log.false));
+      (rw (← c.name-item.is, ← c.as_str.ensures.value) (sym c.is_of_log.ensures ∙ c.if-is_of_log.false));
 }
 
 pub returns-then-is_of_log-clause-found : goal.returns-then-is_of_log-clause-found
@@ -26,12 +23,9 @@ returns-then-is_of_log-clause-found c = λ none.
       name,
       within,
       get_or_default names at name c.name-item.result within,
-      subst (λ (n : List ℕ). is_of_log n ≡ true)
-          (c.as_str.ensures.value ∙ ap (λ (x : String Global). string_bytes x) c.name-item.is)
-          (sym c.is_of_log.ensures ∙ c.if-is_of_log.true),
+      rw (← c.name-item.is, ← c.as_str.ensures.value) (sym c.is_of_log.ensures ∙ c.if-is_of_log.true),
     )
 
 pub returns-clause-others : goal.returns-clause-others
 returns-clause-others c = λ others.
-    subst (All (λ (x : String Global). is_of_log (string_bytes x) ≡ false))
-    (take_all c.names.name-index c.args.names.now (omega arith)) c.names.invariant.others
+    rw (take_all c.names.name-index c.args.names.now (omega arith)) at c.names.invariant.others

@@ -5,8 +5,7 @@ use Rattle.warg_store.proofs.RemoveLemmas.{gone_here}
 use Rattle.warg_store.proofs.pages.remove_one.Goals as goal
 
 pub returns-then-not-is_page-clause-time : goal.returns-then-not-is_page-clause-time
-returns-then-not-is_page-clause-time g c = λ faithful. elapses_none g.F.Folder.moment g.F.Folder.left_since
-    g.F.Folder.may_leave c.args.folder.now
+returns-then-not-is_page-clause-time g c = λ faithful. elapses_none _ _ _ _
 
 pub returns-then-not-is_page-clause-crash : goal.returns-then-not-is_page-clause-crash
 returns-then-not-is_page-clause-crash g c = λ faithful e left. (e, left, inl refl)

@@ -1,5 +1,4 @@
-use Rattle.std.proofs.Common.{sym, subst, ◌∙◌, arith}
-use Rattle.warg_tiles.specs.Between.{IsTileOf}
+use Rattle.std.proofs.Common.{sym, ◌∙◌, arith}
 use Rattle.warg_store.specs.Pruned.{full_of}
 use Rattle.warg_folder.proofs.ForCallers.{apart}
 use Rattle.warg_store.proofs.PathLemmas.{same_tile}
@@ -11,8 +10,8 @@ returns c =
     (c.new.ensures.number ∙ c.number.ensures.value) c.new.ensures.width in (
       λ yes. (
         omega arith,
-        subst (IsTileOf c.args.kept) same (c.is_tile_of-2.ensures.0 yes),
+        rw same at (c.is_tile_of-2.ensures.0 yes),
         λ is. apart (sym (c.is_tile_of.ensures.1 is) ∙ c.if-is_tile_of.false),
       ),
-      λ all. c.is_tile_of-2.ensures.1 (subst (IsTileOf c.args.kept) (sym same) all.1),
+      λ all. c.is_tile_of-2.ensures.1 (rw same all.1),
     )

@@ -1,14 +1,13 @@
-use Rattle.std.proofs.Common.{◌≡◌, ◌+◌, ℕ, List, Bool, true, false, None, get_or, ⊎_elim, string_bytes, refl, sym, ap, subst, ◌∙◌, arith}
+use Rattle.std.proofs.Common.{◌≡◌, ◌+◌, ℕ, List, Bool, true, false, None, get_or, ⊎_elim, string_bytes, refl, ap, ◌∙◌, arith}
 use Rattle.std.specs.Bool.{if◌then◌else◌}
-use Rattle.std.specs.List.{All}
 use Rattle.std.specs.declared.string.String.{String}
 use Rattle.std.specs.declared.alloc.Global.{Global}
 use Rattle.std.proofs.lemmas.List.{take_all}
 use Rattle.std.proofs.lemmas.List.Elements.{All-more, All-weaker}
 use Rattle.warg_folder.specs.Files.{Files, without}
-use Rattle.warg_store.specs.Pruned.{AreGone, IsSpare}
+use Rattle.warg_store.specs.Pruned.{IsSpare}
 use Rattle.warg_store.proofs.PruneLemmas.{spare_still, staged_stays, gone_if_spare, prunes_none, prunes_then}
-use Rattle.warg_store.proofs.GoneLemmas.{AreLeft, gone_more, left_behind, left_after, first_left}
+use Rattle.warg_store.proofs.GoneLemmas.{gone_more, left_behind, left_after, first_left}
 use Rattle.warg_store.proofs.pruning.prune_each.Goals.{then-branch, else-branch}
 use Rattle.warg_folder.proofs.ForCallers.{without_either}
 use Rattle.warg_store.proofs.pruning.prune_each.Goals as goal
@@ -27,7 +26,7 @@ still_none name n false old new e none = ap (λ (f : Files). f n) e ∙ none
 pub names-init : goal.names-init
 names-init g c = record {
   faults = omega arith;
-  run = λ faithful. prunes_none _ _ _ g.met.F.Folder.only_now c.args.kept c.args.served c.args.folder.now;
+  run = λ faithful. prunes_none _ _ _ g.met.F.Folder.only_now _ _ _;
   staged = λ faithful n is. refl;
   gone = λ faithful apart there. (refl, λ k d behind inside. there k d inside);
   few = omega arith;
@@ -37,15 +36,12 @@ names-init g c = record {
 pub names-preserved : goal.names-preserved
 names-preserved g c = record {
   faults = omega (arith, c.names.invariant.faults, c.prune_one.ensures.cause.later);
-  run = λ faithful. prunes_then _ _ _ g.met.F.Folder.only_now c.args.kept c.args.served c.args.folder.now c.names.folder
-      c.prune_one.new.folder
+  run = λ faithful. prunes_then _ _ _ g.met.F.Folder.only_now _ _ _ _ _
       (c.names.invariant.run faithful) (c.prune_one.ensures.run faithful);
-  staged = λ faithful n is. staged_stays c.args.kept c.args.served (g.F.Folder.seen c.names.folder)
-      (g.F.Folder.seen c.prune_one.new.folder) c.as_str.result.now c.in_ok-prune_one.field-0 n
+  staged = λ faithful n is. staged_stays c.args.kept c.args.served _ _ c.as_str.result.now _ n
       (c.in_ok-prune_one.ensures.gone faithful) (c.in_ok-prune_one.ensures.spare faithful).0 is
       ∙ c.names.invariant.staged faithful n is;
   gone = λ faithful apart there.
-      let first = g.F.Folder.seen c.args.folder.now in
       let old = g.F.Folder.seen c.names.folder in
       let new = g.F.Folder.seen c.prune_one.new.folder in
       let name = c.as_str.result.now in
@@ -55,25 +51,16 @@ names-preserved g c = record {
       elim c.if-branch.branch [
         | then-branch w ↦
             let gone : new ≡ without name old = rw w.if-branch.true at is in
-            let one : c.names.removed + 1 ≡ c.if-branch.removed = omega (
-              arith,
-              w.removed-is,
-              w.saturating_add-removed.ensures,
-              c.names.invariant.few,
-              c.names-test.true,
-            ) in (
-              subst (λ n. AreGone n first new) one (gone_more c.names.removed first old new name was.0
-                  (first_left c.args.names.now i c.name-item.result name old (omega arith) c.name-item.is
-                  c.as_str.ensures.value was.1) gone),
+            let one : c.if-branch.removed ≡ c.names.removed + 1 =
+            omega (arith, w.removed-is, w.saturating_add-removed.ensures, c.names.invariant.few, c.names-test.true) in (
+              rw one (gone_more _ _ old new name was.0 (first_left c.args.names.now i c.name-item.result name old
+                  (omega arith) c.name-item.is c.as_str.ensures.value was.1) gone),
               left_behind c.args.names.now i c.name-item.result name old new (omega arith) c.name-item.is
                   c.as_str.ensures.value apart was.1 gone,
             )
         | else-branch w ↦
-            let same : old ≡ new = sym (rw w.if-branch.false at is) in (
-              subst (λ n. AreGone n first new) (sym w.removed-is)
-                  (subst (λ (f : Files). AreGone c.names.removed first f) same was.0),
-              subst (λ (f : Files). AreLeft (i + 1) c.args.names.now f) same (left_after c.args.names.now i old was.1),
-            )
+            let same : new ≡ old = rw w.if-branch.false at is in
+            (rw (w.removed-is, same) was.0, rw same (left_after c.args.names.now i old was.1))
       ];
   few = elim c.if-branch.branch [
     | then-branch w ↦ omega (arith, w.removed-is, w.saturating_add-removed.ensures, c.names.invariant.few)
@@ -88,23 +75,19 @@ names-preserved g c = record {
       All-more (IsGone c.args.kept c.args.served s new) c.args.names.now c.names.name-index c.name-item.result
       (omega arith)
       (All-weaker (IsGone c.args.kept c.args.served s old) (IsGone c.args.kept c.args.served s new)
-      (λ x gone spare. still_none c.as_str.result.now (string_bytes x) c.in_ok-prune_one.field-0 old new
+      (λ x gone spare. still_none c.as_str.result.now _ _ old new
       (c.in_ok-prune_one.ensures.gone faithful) (gone spare)) _ (c.names.invariant.all faithful s before))
-      (λ spare. subst (λ (n : List ℕ). new n ≡ None) text (gone_if_spare c.args.kept c.args.served old new
-      c.as_str.result.now c.in_ok-prune_one.field-0 (c.in_ok-prune_one.ensures.gone faithful)
-      (c.in_ok-prune_one.ensures.spare faithful).1
-      (spare_still c.args.kept c.args.served s old c.as_str.result.now here
-      (subst (IsSpare c.args.kept c.args.served s) (sym text) spare))));
+      (λ spare. rw (← text) (gone_if_spare c.args.kept c.args.served old new c.as_str.result.now _
+      (c.in_ok-prune_one.ensures.gone faithful) (c.in_ok-prune_one.ensures.spare faithful).1
+      (spare_still c.args.kept c.args.served s old c.as_str.result.now here (rw text spare))));
 }
 
 pub returns-in_err-prune_one-clause-run : goal.returns-in_err-prune_one-clause-run
 returns-in_err-prune_one-clause-run g c = λ faithful.
-    prunes_then _ _ _ g.met.F.Folder.only_now c.args.kept c.args.served c.args.folder.now c.names.folder
-    c.prune_one.new.folder
+    prunes_then _ _ _ g.met.F.Folder.only_now _ _ _ _ _
     (c.names.invariant.run faithful) (c.prune_one.ensures.run faithful)
 
 pub returns-clause-all : goal.returns-clause-all
 returns-clause-all g c = λ faithful s before.
-    subst (All (IsGone c.args.kept c.args.served s (g.F.Folder.seen c.names.folder)))
-    (take_all c.names.name-index c.args.names.now (omega (arith, c.names-test.false)))
+    rw (take_all c.names.name-index c.args.names.now (omega (arith, c.names-test.false))) at
     (c.names.invariant.all faithful s before)

@@ -1,8 +1,7 @@
-use Rattle.std.proofs.Common.{◌≡◌, ◌<◌, true, length, sym, ap, subst, ◌∙◌, arith}
+use Rattle.std.proofs.Common.{◌≡◌, ◌<◌, true, length, sym, ap, ◌∙◌, arith}
 use Rattle.warg_crypto.specs.Digests.{sha256}
 use Rattle.warg_crypto.specs.Tree.{leaf_digest}
 use Rattle.warg_log.specs.Claims.{RootAndLength}
-use Rattle.warg_store.specs.Log.{HasFiles}
 use Rattle.warg_store.proofs.EnoughLemmas.{entry_leaf, inclusion_leads, whole_root}
 use Rattle.warg_store.proofs.reading.entry.Goals as goal
 
@@ -13,7 +12,7 @@ returns-clause-whole g c = λ faithful log of.
     let below : c.args.index < c.length-length.result = omega (arith, c.if-index-length.false) in
     let path = c.in_ok-path.ensures.own faithful log of.holds (sym (ap (λ (r : RootAndLength). r.length) of.said)) in
     let entry = c.in_ok-entry.ensures.own faithful log
-    (subst (HasFiles log) (sym (c.inclusion.ensures.seen faithful)) of.holds) of.can.short (sym count) in
+    (rw (c.inclusion.ensures.seen faithful) of.holds) of.can.short (sym count) in
     let leads = inclusion_leads log c.args.index c.length-length.result (leaf_digest sha256 c.in_ok-entry.entry.items)
     c.in_ok-path.path.items below (omega (arith, count))
     (entry_leaf log c.args.index c.in_ok-entry.entry.items entry) path in

@@ -1,4 +1,4 @@
-use Rattle.std.proofs.Common.{◌≡◌, ℕ, List, Option, Some, refl, sym, ap, ◌∙◌}
+use Rattle.std.proofs.Common.{◌≡◌, ℕ, List, Some, refl, sym, ap, ◌∙◌}
 use Rattle.std.specs.Prelude.{◌&&◌, nat_eq, true}
 use Rattle.std.specs.Cmp.Lexicographic.{pointwise, bytes_decides}
 use Rattle.warg_crypto.specs.Digests.{sha256}
@@ -11,29 +11,14 @@ use Rattle.warg_store.proofs.OptionLemmas.{one_value, no_value}
 use Rattle.warg_store.proofs.reading.new_root.Goals.{After-roots_of_consistency}
 use Rattle.warg_store.proofs.reading.new_root.Goals as goal
 
--- the root that was given is the one, and so are both roots by way of it
-given_once : {R : Type 0} (at : R → Option (List ℕ)) (r s : R) (a b : List ℕ) → Some a ≡ at r → r ≡ s → at s ≡ Some b
-    → a ≡ b
-given_once at r s a b first same second = one_value (sym (first ∙ ap at same)) second
-
-both_roots : (given : Option (List ℕ × List ℕ)) (old new : ℕ) (path : List (List ℕ)) (a b : List ℕ)
-    (to : List ℕ × List ℕ) → given ≡ consistency_roots sha256 old new a path → a ≡ b
-    → consistency_roots sha256 old new b path ≡ Some to → given ≡ Some to
-both_roots given old new path a b to is same leads =
-    is ∙ ap (λ (x : List ℕ). consistency_roots sha256 old new x path) same ∙ leads
-
 -- where the path leads from the root that the tiles have, the call returns that root and the new one
 returned : (c : After-roots_of_consistency) (from to : List ℕ)
     → old_over sha256 (digest_by sha256 c.args.tiles.now) (leaves_from 0 c.args.old) ≡ Some from
     → consistency_roots sha256 c.args.old c.args.new from c.args.path.now ≡ Some (from, to)
     → (c.in_ok-from.from ≡ from) × (c.roots_of_consistency.result ≡ Some (from, to))
 returned c from to old leads =
-    let same : c.in_ok-from.from ≡ from = given_once (old_over sha256 (digest_by sha256 c.args.tiles.now))
-    c.new.result (leaves_from 0 c.args.old) c.in_ok-from.from from c.in_ok-from.ensures.root c.new.ensures old in (
-      same,
-      both_roots c.roots_of_consistency.result c.args.old c.args.new c.args.path.now c.in_ok-from.from from
-          (from, to) c.roots_of_consistency.ensures same leads,
-    )
+    let same = one_value (sym (rw c.new.ensures at c.in_ok-from.ensures.root)) old in
+    (same, rw same at c.roots_of_consistency.ensures ∙ leads)
 
 pub returns-in_err-old_root-clause-whole : goal.returns-in_err-old_root-clause-whole
 returns-in_err-old_root-clause-whole c = λ from to old leads.
@@ -51,8 +36,7 @@ pub returns-clause-whole : goal.returns-clause-whole
 returns-clause-whole c = λ from to old leads.
     let roots = returned (goal.at.returns-clause-whole c).After-roots_of_consistency from to old leads in
     let first : c.in_ok-old_root.old_root ≡ c.in_ok-from.from = ap (λ (p : List ℕ × List ℕ). p.0)
-    (one_value
-    c.in_ok-old_root.was roots.1) ∙ sym roots.0 in
+    (one_value c.in_ok-old_root.was roots.1) ∙ sym roots.0 in
     let equal : (pointwise nat_eq c.in_ok-old_root.old_root c.in_ok-from.from && true) ≡ true =
     rw ((bytes_decides c.in_ok-old_root.old_root c.in_ok-from.from).1 first) refl in
     absurd (apart (sym equal ∙ sym c.if-eq.ensures))

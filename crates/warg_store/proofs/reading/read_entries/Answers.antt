@@ -1,8 +1,7 @@
-use Rattle.std.proofs.Common.{◌≡◌, ◌≤◌, ◌*◌, List, ℕ, Bor, Some, length, map, sym, ap, subst, ◌∙◌, arith}
+use Rattle.std.proofs.Common.{◌≡◌, ◌≤◌, ◌*◌, List, ℕ, Bor, length, map, sym, ap, ◌∙◌, arith}
 use Rattle.warg_tiles.specs.Tiles.{TileAt}
 use Rattle.warg_tiles.specs.EntryBundles.{bundle_of}
-use Rattle.warg_tiles.specs.TilePaths.{entries_path}
-use Rattle.warg_store.specs.Log.{AreShort, bundle_bytes}
+use Rattle.warg_store.specs.Log.{bundle_bytes}
 use Rattle.std.proofs.lemmas.List.{length-map}
 use Rattle.warg_store.proofs.FetchedLemmas.{bundle_tile, own_bundle}
 use Rattle.warg_store.proofs.OpenLemmas.{bundle_size}
@@ -14,8 +13,8 @@ returns-clause-own g c = λ faithful log files short count.
     let is = bundle_tile log t c.args.bundle c.args.log_length count c.requires c.bundle_tile-tile.ensures in
     let read = c.in_ok-bytes.ensures.own faithful log short is.most (files t is.is_in) in
     let es : List (List ℕ) = map (λ (e : Bor (List ℕ)). e.now) c.as_slice-2.result.now in
-    let bytes : bundle_of es ≡ bundle_bytes log t = ap (λ (l : List (Bor (List ℕ))). bundle_of (map (λ e. e.now) l))
-    c.as_slice-2.ensures.value ∙ sym c.in_ok-entries.ensures.entries ∙ c.as_slice.ensures.value ∙ read in
+    let bytes : bundle_of es ≡ bundle_bytes log t = rw c.as_slice-2.ensures.value
+    (sym c.in_ok-entries.ensures.entries ∙ c.as_slice.ensures.value ∙ read) in
     c.in_ok-copies.ensures.copies ∙ own_bundle log t c.args.bundle c.args.log_length es count c.bundle_tile-tile.ensures
     bytes
 
@@ -32,12 +31,9 @@ returns-clause-file g c = λ faithful.
       c.in_ok-entries.ensures.count,
       ap (λ (t : TileAt). t.width) c.bundle_tile-tile.ensures,
     ) in
-    subst (λ (t : TileAt). g.F.Folder.seen c.args.folder.now (entries_path t) ≡ Some bytes) c.bundle_tile-tile.ensures
-    (c.in_ok-bytes.ensures.file faithful size)
-    ∙ ap (λ (b : List ℕ). Some b) are
-    ∙ ap (λ (l : List (List ℕ)). Some (bundle_of l)) (sym (c.in_ok-copies.ensures.copies
-    ∙ ap (λ (l : List (Bor (List ℕ))). map (λ e. e.now) l) c.as_slice-2.ensures.value))
+    rw (c.in_ok-copies.ensures.copies, c.as_slice-2.ensures.value, ← are)
+    (rw c.bundle_tile-tile.ensures at (c.in_ok-bytes.ensures.file faithful size))
 
 pub returns-clause-short : goal.returns-clause-short
-returns-clause-short g c = subst AreShort (sym (c.in_ok-copies.ensures.copies
-    ∙ ap (λ (l : List (Bor (List ℕ))). map (λ e. e.now) l) c.as_slice-2.ensures.value)) c.in_ok-entries.ensures.short
+returns-clause-short g c =
+    rw (c.in_ok-copies.ensures.copies, c.as_slice-2.ensures.value) c.in_ok-entries.ensures.short

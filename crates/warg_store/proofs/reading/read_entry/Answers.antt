@@ -6,7 +6,6 @@ use Rattle.std.proofs.lemmas.Option.{slice_get-map, slice_get_read}
 use Rattle.warg_tiles.specs.Tiles.{TileAt}
 use Rattle.warg_tiles.specs.EntryBundles.{bundle_of}
 use Rattle.warg_store.specs.Log.{bundle_bytes}
-use Rattle.warg_store.specs.Refusals.{IsNoFault}
 use Rattle.warg_store.proofs.FetchedLemmas.{own_entry, entry_tile}
 use Rattle.warg_store.proofs.WholeLemmas.{err_same}
 use Rattle.warg_store.proofs.reading.read_entry.Goals as goal
@@ -25,8 +24,8 @@ returns-in-Some-clause-own g c faithful log files short count =
     (length slice) place c.in-Some.entry.now refl found.3.0 found.1 in
     let got : slice_get es place ≡ Some entry = slice_get-map (λ (e : Bor (List ℕ)). e.now) slice place
     ∙ ap (option_map (λ (e : Bor (List ℕ)). e.now)) at in
-    let bytes : bundle_of es ≡ bundle_bytes log t = ap (λ (l : List (Bor (List ℕ))). bundle_of (map (λ e. e.now) l))
-    c.as_slice-2.ensures.value ∙ sym c.in_ok-entries.ensures.entries ∙ c.as_slice.ensures.value ∙ read in
+    let bytes : bundle_of es ≡ bundle_bytes log t = rw c.as_slice-2.ensures.value
+    (sym c.in_ok-entries.ensures.entries ∙ c.as_slice.ensures.value ∙ read) in
     let width : length es ≡ t.width = length-map slice (λ (e : Bor (List ℕ)). e.now)
     ∙ ap (λ (l : List (Bor (List ℕ))). length l) c.as_slice-2.ensures.value ∙ c.in_ok-entries.ensures.count in
     ap (slice_get log.entries) (sym bounds.place) ∙ own_entry log t es place entry bounds.fits bytes width got
@@ -36,7 +35,7 @@ pub returns-in_err-bytes-clause-whole : goal.returns-in_err-bytes-clause-whole
 returns-in_err-bytes-clause-whole g c = λ faithful log files short count.
     let t : TileAt = c.bundle_tile-tile.result in
     let bounds = entry_tile log t c.args.index c.args.log_length count c.requires c.bundle_tile-tile.ensures in
-    err_same (IsNoFault ⊥) c.in_err-bytes.field-0.0 c.from_residual.result c.from_residual.ensures.1
+    err_same _ _ _ c.from_residual.ensures.1
     (c.in_err-bytes.ensures.whole faithful log (files.bundle t bounds.is_in))
 
 pub returns-in_err-entries-clause-whole : goal.returns-in_err-entries-clause-whole
@@ -44,6 +43,5 @@ returns-in_err-entries-clause-whole g c = λ faithful log files short count.
     let t : TileAt = c.bundle_tile-tile.result in
     let bounds = entry_tile log t c.args.index c.args.log_length count c.requires c.bundle_tile-tile.ensures in
     let read = c.in_ok-bytes.ensures.own faithful log short bounds.most (files.bundle t bounds.is_in) in
-    err_same (IsNoFault ⊥) c.in_err-entries.field-0.0 c.from_residual-in_err-entries.result
-    c.from_residual-in_err-entries.ensures.1
+    err_same _ _ _ c.from_residual-in_err-entries.ensures.1
     (c.in_err-entries.ensures.whole log short bounds.is_in (c.as_slice.ensures.value ∙ read))

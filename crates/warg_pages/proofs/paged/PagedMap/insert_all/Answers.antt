@@ -1,9 +1,9 @@
-use Rattle.std.proofs.Common.{◌≡◌, ◌∙◌, ◌+◌, ◌<◌, ◌^◌, ◌++◌, List, [], ℕ, length, sym, ap, subst, arith}
+use Rattle.std.proofs.Common.{◌≡◌, ◌∙◌, ◌+◌, ◌<◌, ◌^◌, ◌++◌, List, [], ℕ, length, sym, ap, arith}
 use Rattle.std.proofs.lemmas.Bool.{eqb-true, eqb-false}
 use Rattle.std.proofs.lemmas.List.{length-map}
 use Rattle.std.proofs.lemmas.List.Elements.{All-nil}
 use Rattle.warg_map.specs.Sparse.{pair_bytes}
-use Rattle.warg_pages.specs.ChangedPages.{ChangedPageAt, AreChangedPages, ChangesWhatStood}
+use Rattle.warg_pages.specs.ChangedPages.{ChangesWhatStood}
 use Rattle.warg_pages.specs.ProvedKeys.{IsOwnSource}
 use Rattle.warg_pages.specs.Private.Updates.{IsOwnUpdate}
 use Rattle.warg_pages.proofs.Refused.{source_refused}
@@ -15,9 +15,9 @@ pub returns-then-is_empty-clause-pages : goal.returns-then-is_empty-clause-pages
 returns-then-is_empty-clause-pages g c = λ known old is_known own.
     let H = g.D.SupportedDigest.digest in
     let more = pair_bytes g.K.VisitBytes.bytes g.V.VisitBytes.bytes c.args.insertions.now in
-    let none : length more ≡ 0 = length-map c.args.insertions.now _ ∙ eqb-true (length c.args.insertions.now) 0
+    let none : length more ≡ 0 = length-map c.args.insertions.now _ ∙ eqb-true _ 0
     (sym c.is_empty.ensures ∙ c.if-is_empty.true) in
-    none_changed H old more c.new-changed.result.items none c.new-changed.ensures.items
+    none_changed H old more _ none c.new-changed.ensures.items
 
 -- the first page, which the insertions change
 own_update : (g : _) (c : In_ok-changes g) (known : g.P.Pages.Known) (old : List (List ℕ × List ℕ))
@@ -33,7 +33,7 @@ own_update g c known old is_known own =
     let more = pair_bytes g.K.VisitBytes.bytes g.V.VisitBytes.bytes c.args.insertions.now in
     let count = c.args.self.now.version in
     let size : length more ≡ length c.args.insertions.now = length-map c.args.insertions.now _ in
-    let no = eqb-false (length c.args.insertions.now) 0 (sym c.is_empty.ensures ∙ c.if-is_empty.false) in
+    let no = eqb-false _ 0 (sym c.is_empty.ensures ∙ c.if-is_empty.false) in
     let some : 0 < length more = omega arith in
     let fits : count + length more < 2 ^ 64 = let all = c.requires in omega arith in
     let number : count + length c.args.insertions.now ≡ count + length more = omega arith in
@@ -57,8 +57,7 @@ returns-clause-pages g c = λ known old is_known own.
     let updated = done.2 known old more (c.first_page.ensures.known known is_known)
     (own_update g (goal.at.returns-clause-pages g c).In_ok-changes known old is_known own) in
     let are : c.update_page.new.changed.items ≡ done.0 = done.1 ∙ ap (λ l. l ++ done.0) c.new-changed.ensures.items in
-    let P : List ChangedPageAt → Type 0 = λ l. AreChangedPages H old more l in
-    subst P (sym are) (all_changed H old more c.in_ok-self.field-0 done.0 updated)
+    rw are (all_changed H old more _ done.0 updated)
 
 pub returns-clause-root : goal.returns-clause-root
 returns-clause-root g c = λ known old is_known own.

@@ -1,65 +1,48 @@
-use Rattle.std.proofs.Common.{◌≡◌, ◌≢◌, ◌<◌, ℕ, sym, ap, subst, ◌∙◌, arith}
-use Rattle.warg_folder.specs.Files.{Files}
-use Rattle.warg_folder.specs.Moments.{LeavesOnly}
-use Rattle.warg_folder.specs.Commits.{IsStaging}
-use Rattle.warg_store.specs.Log.{LogOf, IsCommitting, said_of}
+use Rattle.std.proofs.Common.{◌<◌, sym, subst, arith}
+use Rattle.warg_store.specs.Log.{LogOf, said_of}
 use Rattle.warg_store.specs.Growing.{LogIn, Has}
 use Rattle.warg_store.proofs.GrowingLemmas.{idle, noted}
 use Rattle.warg_store.proofs.log_folder.LogFolder.commit_lines.Goals.{After-put}
 use Rattle.warg_store.proofs.log_folder.LogFolder.commit_lines.Goals as goal
 
--- a log that has another length than what it keeps has grown
-grown : {F : Type 0} (seen : F → Files) (may_leave : F → Files → Type 0) (served old next : LogOf) (l m : LogIn F)
-    (len kept : ℕ) → m ≡ l → len ≡ m.edge.len → kept ≡ m.text.length → len ≢ kept
-    → Has seen may_leave served old next l → l.text.length < l.edge.len
-grown {F = F} seen may_leave served old next l m len kept same is says differ has =
-    omega (
-      arith,
-      ap (λ (x : LogIn F). x.edge.len) same,
-      ap (λ (x : LogIn F). x.text.length) same,
-      is,
-      says,
-      differ,
-      has.since,
-      has.order,
-    )
-
--- so what is put has grown
+-- a log that is put has another length than what it keeps, so it has grown
 has_more : (g : _) (c : After-put g) (served old next : LogOf)
     → Has g.F.Folder.seen g.F.Folder.may_leave served old next c.args.self.now
     → c.args.self.now.text.length < c.args.self.now.edge.len
-has_more g c served old next has = grown _ _ served old next c.args.self.now _ c.length.result c.length-3.result
-    c.self.view_is c.length.ensures.value (c.length-3.ensures ∙ c.checkpoint.ensures.length) c.if-length.false has
+has_more g c served old next has =
+    let inside = rw (← c.self.view_is) at has in
+    rw (← c.self.view_is) (omega (
+      arith,
+      inside.since,
+      inside.order,
+      c.length.ensures.value,
+      c.length-3.ensures,
+      c.checkpoint.ensures.length,
+      c.if-length.false,
+    ))
 
 pub returns-then-length-clause-any_moment : goal.returns-then-length-clause-any_moment
 returns-then-length-clause-any_moment g c = λ faithful served old next has same.
-    idle _ _ _ _ served old next c.args.self.now (g.met.F.Folder.only_now c.args.self.now.folder) has
+    idle _ _ _ _ served old next _ (g.met.F.Folder.only_now c.args.self.now.folder) has
 
 pub returns-in_err-end-clause-any_moment : goal.returns-in_err-end-clause-any_moment
 returns-in_err-end-clause-any_moment g c = λ faithful served old next has same.
-    idle _ _ _ _ served old next c.args.self.now (g.met.F.Folder.only_now c.args.self.now.folder) has
+    idle _ _ _ _ served old next _ (g.met.F.Folder.only_now c.args.self.now.folder) has
 
 pub returns-in-Ok-clause-ready : goal.returns-in-Ok-clause-ready
 returns-in-Ok-clause-ready g c = λ faithful is_open.
-    subst (λ (l : LogIn g.row.F.Denot). IsStaging (g.F.Folder.seen l.folder) (g.F.Folder.may_leave l.folder))
-    (sym c.self-2.view_is) (c.in-Ok.ensures.ready faithful)
+    rw (← c.self-2.view_is) at (c.in-Ok.ensures.ready faithful)
 
 pub returns-in-Ok-clause-any_moment : goal.returns-in-Ok-clause-any_moment
 returns-in-Ok-clause-any_moment g c = λ faithful served old next has same.
-    let first = c.args.self.now.folder in
-    let P = IsCommitting served old next (g.F.Folder.seen first) in
     let more = has_more g (goal.at.returns-in-Ok-clause-any_moment g c).After-put served old next has in
-    subst (λ (l : LogIn g.row.F.Denot). LeavesOnly g.F.Folder.moment g.F.Folder.left_since first l.folder P)
-    (sym c.self-2.view_is)
+    rw (← c.self-2.view_is) at
     (c.put.ensures.any_moment faithful served old next has more (c.in_ok-end.ensures.is served old next has same))
 
 pub returns-in-Err-clause-any_moment : goal.returns-in-Err-clause-any_moment
 returns-in-Err-clause-any_moment g c = λ faithful served old next has same.
-    let first = c.args.self.now.folder in
-    let P = IsCommitting served old next (g.F.Folder.seen first) in
     let more = has_more g (goal.at.returns-in-Err-clause-any_moment g c).After-put served old next has in
-    subst (λ (l : LogIn g.row.F.Denot). LeavesOnly g.F.Folder.moment g.F.Folder.left_since first l.folder P)
-    (sym c.self-2.view_is)
+    rw (← c.self-2.view_is) at
     (c.put.ensures.any_moment faithful served old next has more (c.in_ok-end.ensures.is served old next has same))
 
 pub returns-in-Ok-clause-committed : goal.returns-in-Ok-clause-committed
@@ -71,7 +54,7 @@ returns-in-Ok-clause-committed g c = λ faithful served old next has same.
     Has g.F.Folder.seen g.F.Folder.may_leave put.0 next next (record l { text = said_of next }) in (
       put.0,
       put.1,
-      noted g.F.Folder.seen g.F.Folder.may_leave put.0 next
+      noted _ _ put.0 next
           (record {
             folder = c.self-2.inside.folder;
             text = c.self-2.inside.text;

@@ -1,11 +1,8 @@
-use Rattle.std.proofs.Common.{◌≡◌, ℕ, List, length, map, true, IfErr, Vec, Global, sym, ap, subst, refl, ◌∙◌, arith}
-use Rattle.warg_tiles.specs.CheckpointText.{Said, text_of}
-use Rattle.warg_tiles.specs.TileLog.{RightEdge}
+use Rattle.std.proofs.Common.{◌≡◌, ℕ, length, map, IfErr, Vec, Global, ap, subst, refl, ◌∙◌, arith}
+use Rattle.warg_tiles.specs.CheckpointText.{text_of}
 use Rattle.warg_folder.specs.Names.{checkpoint}
-use Rattle.warg_folder.specs.Commits.{committed}
 use Rattle.warg_store.specs.Opening.{HasLogFile}
 use Rattle.warg_store.specs.Log.{Keeps, CanBeKept, said_of, checkpoint_of, no_entries_with}
-use Rattle.warg_store.specs.Growing.{LogIn, IsReady, Has}
 use Rattle.warg_store.specs.declared.opening.CreateError.{CreateError}
 use Rattle.warg_store.specs.declared.opening.CreateError.TheVariants.{Exists}
 use Rattle.warg_store.proofs.CreateLemmas.{created, has_none}
@@ -18,7 +15,6 @@ returns-clause-has g c = λ faithful.
     let lines = map (λ (l : Vec ℕ Global). l.items) c.args.lines.now in
     let none = no_entries_with c.args.origin.now lines in
     let said : c.in_ok-text.text ≡ said_of none = c.in_ok-text.ensures.said in
-    let before = seen c.args.folder in
     let text : c.as_slice.result.now ≡ checkpoint_of none = c.as_slice.ensures.value ∙ c.in_ok-bytes.ensures
     ∙ ap text_of said in
     let named : CanBeKept none = record {
@@ -29,44 +25,22 @@ returns-clause-has g c = λ faithful.
       text = omega (arith, ap length (c.in_ok-bytes.ensures ∙ ap text_of said));
     } in
     let keeps : Keeps none none (seen c.put_first.new.folder) =
-    subst (Keeps none none) (sym (c.in_ok-put_first.ensures.committed faithful
-    ∙ ap (λ (b : List ℕ). committed b before) text))
-    (created c.args.origin.now lines named before (c.in_ok-put_first.ensures.fresh faithful checkpoint refl)) in
-    subst (Has seen g.F.Folder.may_leave none none none) (sym c.with.ensures)
-    (subst (λ (t : Said). Has seen g.F.Folder.may_leave none none none (record {
-      folder = c.put_first.new.folder;
-      text = t;
-      is_open = true;
-      edge = c.new.result;
-      bundle = c.new-2.result.items;
-      held = 0;
-    })) (sym said)
-    (subst (λ (b : List ℕ). Has seen g.F.Folder.may_leave none none none (record {
-      folder = c.put_first.new.folder;
-      text = said_of none;
-      is_open = true;
-      edge = c.new.result;
-      bundle = b;
-      held = 0;
-    })) (sym c.new-2.ensures.items)
-    (has_none seen g.F.Folder.may_leave c.args.origin.now lines c.put_first.new.folder c.new.result
-    c.new.ensures.value c.new.ensures.stands keeps
-    (c.in_ok-put_first.ensures.empty faithful) (c.in_ok-put_first.ensures.ready faithful))))
+    rw (c.in_ok-put_first.ensures.committed faithful, text)
+    (created c.args.origin.now lines named (seen c.args.folder)
+    (c.in_ok-put_first.ensures.fresh faithful checkpoint refl)) in
+    rw (c.with.ensures, said, c.new-2.ensures.items)
+    (has_none _ _ c.args.origin.now lines _ _ c.new.ensures.value c.new.ensures.stands keeps
+    (c.in_ok-put_first.ensures.empty faithful) (c.in_ok-put_first.ensures.ready faithful))
 
 pub returns-clause-ready : goal.returns-clause-ready
-returns-clause-ready g c = λ faithful.
-    subst (IsReady g.F.Folder.seen g.F.Folder.may_leave) (sym c.with.ensures)
-    (λ is. c.in_ok-put_first.ensures.ready faithful)
+returns-clause-ready g c = λ faithful. rw c.with.ensures (λ is. c.in_ok-put_first.ensures.ready faithful)
 
 pub returns-clause-empty : goal.returns-clause-empty
-returns-clause-empty g c = (
-  ap (λ (l : LogIn g.row.F.Denot). l.edge.len) c.with.ensures ∙ ap (λ (e : RightEdge). e.len) c.new.ensures.value,
-  ap (λ (l : LogIn g.row.F.Denot). l.text.origin) c.with.ensures
-      ∙ ap (λ (s : Said). s.origin) c.in_ok-text.ensures.said,
-)
+returns-clause-empty g c =
+    (rw (c.with.ensures, c.new.ensures.value), rw (c.with.ensures, c.in_ok-text.ensures.said))
 
 pub returns-in_err-text-clause-exists : goal.returns-in_err-text-clause-exists
 returns-in_err-text-clause-exists g c = λ faithful exists.
     let P : CreateError → Type 0 = λ e. e ≡ Exists → HasLogFile (g.F.Folder.seen c.args.folder) in
-    subst (λ r. IfErr r P) exists (err_same P c.in_err-text.field-0.0 c.from_residual.result
-    c.from_residual.ensures.1 (λ e. absurd (c.in_err-text.ensures.not_there e))) refl
+    subst (λ r. IfErr r P) exists
+    (err_same P _ _ c.from_residual.ensures.1 (λ e. absurd (c.in_err-text.ensures.not_there e))) refl

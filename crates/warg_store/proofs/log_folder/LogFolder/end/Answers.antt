@@ -1,17 +1,15 @@
 use Rattle.std.specs.Prelude.{map, option_map, unwrap_or}
-use Rattle.std.proofs.Common.{◌≡◌, ℕ, ◌∷◌, List, length, sym, ap, subst, ◌∙◌, arith}
-use Rattle.std.specs.List.{AllByRecursion}
+use Rattle.std.proofs.Common.{◌≡◌, ℕ, ◌∷◌, List, length, sym, ap, ◌∙◌, arith}
 use Rattle.std.proofs.lemmas.List.{length-map}
 use Rattle.warg_crypto.specs.Digests.{sha256}
-use Rattle.warg_tiles.specs.CheckpointText.{Said, IsLine, text_of}
+use Rattle.warg_tiles.specs.CheckpointText.{Said, text_of}
 use Rattle.warg_store.specs.Log.{said_of}
-use Rattle.warg_store.specs.Growing.{Has}
 use Rattle.warg_store.proofs.GrowingLemmas.{own_parts}
 use Rattle.warg_store.proofs.log_folder.LogFolder.end.Goals as goal
 
 pub returns-clause-is : goal.returns-clause-is
 returns-clause-is g c = λ served old next has same.
-    let inside = subst (Has g.F.Folder.seen g.F.Folder.may_leave served old next) (sym c.self.view_is) has in
+    let inside = rw (← c.self.view_is) at has in
     let origin : c.args.self.now.text.origin ≡ next.origin =
     ap (λ (s : Said). s.origin) has.text ∙ sym has.extends.origin in
     let lines = c.lines_or.ensures.these
@@ -23,8 +21,8 @@ returns-clause-is g c = λ served old next has same.
     sym (length-map next.entries (λ (e : List ℕ). sha256 (0 ∷ e))) ∙ has.edge.count in
     record {
       can = record {
-        origin = subst IsLine origin c.in_ok-text.ensures.line;
-        lines = subst (AllByRecursion IsLine) lines c.lines_or.ensures.each;
+        origin = rw origin at c.in_ok-text.ensures.line;
+        lines = rw lines at c.lines_or.ensures.each;
         most = omega (arith, size, c.in_ok-text.ensures.fits);
         short = has.short;
         text = omega (arith, ap length bytes);

@@ -1,13 +1,8 @@
-use Rattle.std.proofs.Common.{◌⊎◌, inl, inr, ⊎_elim, Err, sym, ap, subst, ◌∙◌, arith}
+use Rattle.std.proofs.Common.{◌⊎◌, inl, inr, ⊎_elim, Err, ap, ◌∙◌, arith}
 use Rattle.warg_tiles.specs.CheckpointText.{Said}
 use Rattle.warg_folder.specs.Files.{Files}
-use Rattle.warg_folder.specs.Moments.{LeavesOnly}
-use Rattle.warg_folder.specs.Names.{checkpoint}
-use Rattle.warg_store.specs.Opening.{AgreesWith, IsOpening, IsTakenOver}
-use Rattle.warg_folder.specs.Commits.{NothingStaged}
-use Rattle.warg_store.specs.Log.{Keeps, HasLog}
-use Rattle.warg_store.specs.Growing.{LogIn, IsReady, Has}
-use Rattle.warg_folder.proofs.ForCallers.{leaves_weaker, leaves_then, then_reads, read_leaves}
+use Rattle.warg_store.specs.Opening.{IsOpening}
+use Rattle.warg_folder.proofs.ForCallers.{in_end, leaves_weaker, leaves_then, then_reads, read_leaves}
 use Rattle.warg_store.proofs.OpenLemmas.{opened_has, beside_state}
 use Rattle.warg_store.proofs.ReadyRuns.{staging_kept}
 use Rattle.warg_store.proofs.WholeLemmas.{mark_fits}
@@ -15,19 +10,15 @@ use Rattle.warg_store.proofs.log_folder.LogFolder.open.Goals as goal
 
 pub returns-clause-has : goal.returns-clause-has
 returns-clause-has g c = λ faithful served kept has.
-    let seen = g.F.Folder.seen in
-    let found = c.in_ok-text.ensures.text faithful served kept
-    (subst (HasLog served kept) (sym (c.in_default.ensures.opened faithful)) has) in
-    let keeps = found.1 in
+    let found = c.in_ok-text.ensures.text faithful served kept (rw (c.in_default.ensures.opened faithful) has) in
     let long = c.checkpoint-checkpoint.ensures.length in
     let read = c.read_end.ensures.read faithful in
-    let end = c.in_ok-log.ensures.end faithful kept keeps.can (long ∙ ap (λ (s : Said). s.length) found.0)
-    keeps.holds in
-    let nothing = beside_state (seen c.recover.new.folder) (seen c.kept_text.new.folder)
+    let end = c.in_ok-log.ensures.end faithful kept found.1.can (long ∙ ap (λ (s : Said). s.length) found.0)
+    found.1.holds in
+    let nothing = beside_state (g.F.Folder.seen c.recover.new.folder) (g.F.Folder.seen c.kept_text.new.folder)
     (c.in_ok-text.ensures.beside faithful) (c.in_default.ensures.empty faithful) in
-    subst (Has seen g.F.Folder.may_leave served kept kept) (sym c.with.ensures)
-    (opened_has seen g.F.Folder.may_leave served kept c.read_end.new.folder c.in_ok-text.text _ _ _ found.0
-    (subst (Keeps served kept) (sym read.found) keeps) (subst NothingStaged (sym read.found) nothing)
+    rw c.with.ensures
+    (opened_has _ _ served kept _ _ _ _ _ found.0 (rw read.found found.1) (rw read.found nothing)
     (staging_kept _ _ _ _ read.found read.crash
     (c.in_ok-text.ensures.ready faithful (c.in_default.ensures.ready faithful)))
     (c.in_ok-log.ensures.length.0 ∙ long) (c.in_ok-log.ensures.length.1 ∙ long) end.0 end.1
@@ -40,34 +31,30 @@ returns-in-Err-clause-opens g c = λ faithful served kept has.
 
 pub returns-clause-any_moment : goal.returns-clause-any_moment
 returns-clause-any_moment g c = λ faithful.
-    let moment = g.F.Folder.moment in
-    let since = g.F.Folder.left_since in
-    let may = g.F.Folder.may_leave in
-    let counts = g.met.F.Folder.counts_now in
     let settled = g.F.Folder.seen c.recover.new.folder in
-    let R : Files → Type 0 = λ f. may c.args.folder f ⊎ IsOpening (g.F.Folder.seen c.args.folder) f in
-    let recovered = leaves_weaker moment since c.args.folder c.recover.new.folder _ R
-    (c.recover.ensures.any_moment faithful) (λ f. ⊎_elim (λ was. inl was) (λ between. inr (inl between))) in
-    let here : R settled = recovered.each settled (counts c.recover.new.folder (moment c.args.folder) settled
-    recovered.later (g.met.F.Folder.seen_may_stay c.recover.new.folder)) in
-    let kept = leaves_then moment since c.args.folder c.recover.new.folder c.kept_text.new.folder R _ R recovered
+    let R : Files → Type 0 = λ f.
+    g.F.Folder.may_leave c.args.folder f ⊎ IsOpening (g.F.Folder.seen c.args.folder) f in
+    let recovered = leaves_weaker _ _ _ _ _ R (c.recover.ensures.any_moment faithful)
+    (λ f. ⊎_elim (λ was. inl was) (λ between. inr (inl between))) in
+    let here : R settled = in_end _ _ _ g.met.F.Folder.counts_now _ _ R recovered settled
+    (g.met.F.Folder.seen_may_stay c.recover.new.folder) in
+    let kept = leaves_then _ _ _ _ _ R _ R recovered
     (c.in_ok-text.ensures.any_moment faithful (c.in_default.ensures.durable faithful)) (λ f was. was)
-    (λ f. ⊎_elim (λ same. subst R (sym same) here)
-    (λ taken. inr (inr (subst (λ (s : Files). IsTakenOver s f) (c.in_default.ensures.opened faithful) taken)))) in
-    subst (λ (l : LogIn g.row.F.Denot). LeavesOnly moment since c.args.folder l.folder R) (sym c.with.ensures)
-    (then_reads moment since may counts c.args.folder c.kept_text.new.folder c.read_end.new.folder R kept
-    (read_leaves _ may moment since c.kept_text.new.folder c.read_end.new.folder (may c.kept_text.new.folder)
+    (λ f now. elim now [
+      | inl same ↦ rw same here
+      | inr taken ↦ inr (inr (rw (c.in_default.ensures.opened faithful) at taken))
+    ]) in
+    rw c.with.ensures (then_reads _ _ _ g.met.F.Folder.counts_now _ _ _ R kept
+    (read_leaves _ _ _ _ _ _ (g.F.Folder.may_leave c.kept_text.new.folder)
     (g.met.F.Folder.only_now c.kept_text.new.folder) (λ f left. left) (c.read_end.ensures.read faithful)))
 
 pub returns-clause-ready : goal.returns-clause-ready
 returns-clause-ready g c = λ faithful.
     let read = c.read_end.ensures.read faithful in
-    subst (IsReady g.F.Folder.seen g.F.Folder.may_leave) (sym c.with.ensures)
-    (λ is. staging_kept _ _ _ _ read.found read.crash
+    rw c.with.ensures (λ is. staging_kept _ _ _ _ read.found read.crash
     (c.in_ok-text.ensures.ready faithful (c.in_default.ensures.ready faithful)))
 
 pub returns-clause-agrees : goal.returns-clause-agrees
 returns-clause-agrees g c = λ faithful served behind can there.
-    subst (λ (l : LogIn g.row.F.Denot). AgreesWith l.text served) (sym c.with.ensures)
-    (c.in_ok-text.ensures.agrees faithful served behind can
-    (ap (λ (f : Files). f checkpoint) (c.in_default.ensures.opened faithful) ∙ there))
+    rw c.with.ensures
+    (c.in_ok-text.ensures.agrees faithful served behind can (rw (c.in_default.ensures.opened faithful) there))
