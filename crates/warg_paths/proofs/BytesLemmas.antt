@@ -1,5 +1,5 @@
 -- Bytes in pieces of 32.
-use Rattle.std.proofs.Common.{◌≡◌, ℕ, suc, ◌*◌, ◌/◌, ◌%◌, List, [], ◌∷◌, ◌++◌, length, Some, refl, ap, ◌∙◌, arith}
+use Rattle.std.proofs.Common.{◌≡◌, ℕ, suc, ◌*◌, ◌/◌, List, [], ◌∷◌, ◌++◌, length, Some, refl, ◌∙◌, arith}
 use Rattle.std.specs.List.{flat_map}
 use Rattle.std.proofs.lemmas.Bool.{eq-eqb}
 use Rattle.std.proofs.lemmas.List.{append-nil, append_assoc, length-append, take_at, drop_at}
@@ -34,14 +34,7 @@ first_piece d rest count size = rw (take_at d rest 32 size, drop_at d rest 32 si
 pieces_back : (ds : List (List ℕ)) → AreHashes ds → pieces (length ds) (flat_map (λ d. d) ds) ≡ ds
 unfolding pieces
 pieces_back [] all = refl
-pieces_back (d ∷ ds) all =
-    let one : length (d ∷ ds) ≡ suc (length ds) = omega arith in
-    ap (λ n. pieces n (d ++ flat_map (λ e. e) ds)) one ∙ first_piece d (flat_map (λ e. e) ds) (length ds) all.0
-    ∙ ap (λ l. d ∷ l) (pieces_back ds all.1)
+pieces_back (d ∷ ds) all = grind (arith, first_piece, pieces_back ds all.1)
 
 pub hashes_back : (ds : List (List ℕ)) → AreHashes ds → hashes_of (flat_map (λ d. d) ds) ≡ Some ds
-hashes_back ds all =
-    let size = flat_size ds all in
-    let count : length (flat_map (λ d. d) ds) / 32 ≡ length ds = omega (arith, size) in
-    rw (eq-eqb (length (flat_map (λ d. d) ds) % 32) 0 (omega (arith, size)))
-    (ap Some (ap (λ n. pieces n (flat_map (λ d. d) ds)) count ∙ pieces_back ds all))
+hashes_back ds all = grind (arith, flat_size, eq-eqb, pieces_back)

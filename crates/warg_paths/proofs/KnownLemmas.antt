@@ -1,5 +1,5 @@
 -- Where the digests that a proof needs are known, its path is made.
-use Rattle.std.proofs.Common.{◌≡◌, inl, inr, ℕ, zero, suc, ◌+◌, ◌-◌, ◌*◌, ◌^◌, ◌<◌, ◌≤◌, Bool, true, false, List, [], ◌∷◌, ◌++◌, Option, Some, None, IsSome, refl, sym, ap, subst, ◌∙◌, arith}
+use Rattle.std.proofs.Common.{◌≡◌, inl, inr, ℕ, zero, suc, ◌+◌, ◌-◌, ◌*◌, ◌^◌, ◌<◌, ◌≤◌, Bool, true, false, List, [], ◌∷◌, Option, Some, None, IsSome, refl, sym, ap, subst, ◌∙◌, arith}
 use Rattle.std.specs.List.{AllByRecursion, flat_map}
 use Rattle.std.proofs.lemmas.Bool.{cases_lt, true≢false}
 use Rattle.std.proofs.lemmas.Nat.{pow_pos, pow-add}
@@ -7,9 +7,9 @@ use Rattle.std.proofs.Math.Nat.{pow-suc}
 use Rattle.warg_log.specs.Nodes.{height_of, start_of, end_of, node_over, balanced_over, balanced_roots, Follow}
 use Rattle.warg_log.specs.Ranges.{Range, leaves_from, range_of, front_part, rest_part}
 use Rattle.warg_log.specs.Tree.{front_of}
-use Rattle.warg_log.specs.Cut.{Evaluation, with_target, joined, cut_over, cut_root, old_over, IsFull}
+use Rattle.warg_log.specs.Cut.{Evaluation, with_target, joined, cut_over, old_over, IsFull}
 use Rattle.warg_log.specs.Walks.{IsKnown, needed, needed_between}
-use Rattle.warg_log.proofs.ForCallers.{below_pow, pow_below_pow, starts, counts, IsBeside, front_is_greatest, front_of_is, balanced_full, balanced_parts, cut_parts, cut_old, old_full, old_parts, over_follow, joined_some, known_cut, known_parts}
+use Rattle.warg_log.proofs.ForCallers.{below_pow, pow_below_pow, starts, counts, front_is_greatest, front_of_is, balanced_full, balanced_parts, cut_parts, cut_old, old_full, old_parts, over_follow, joined_some, known_cut, known_parts}
 use Rattle.warg_paths.specs.Paths.{beside, path_at_end, inclusion_of, consistency_over, consistency_of, led_to}
 use Rattle.warg_paths.proofs.LawLemmas.{leads_as_proof}
 use Rattle.warg_paths.proofs.MakeLemmas.{consistency_end, consistency_front, consistency_rest}
@@ -32,6 +32,10 @@ follow_inside a e (t ∷ ts) follow =
     wider b a e [] less all = tt
     wider b a e (t ∷ ts) less all = ((omega (arith, less, all.0.0), all.0.1), wider b a e ts less all.1)
 
+-- more than a power of two and less than the next one is none
+not_full : (j n : ℕ) → 2 ^ j < n → n < 2 ^ suc j → IsFull n → ⊥
+not_full j n wide less is = grind (arith, pow_below_pow)
+
 beside_some : (p : Option (List (List ℕ))) (s : Option (List ℕ)) → IsSome p → IsSome s → IsSome (beside p s)
 beside_some (Some p) (Some s) path top = refl
 beside_some (Some p) None path top = absurd (cc)
@@ -53,12 +57,8 @@ module _ (H : List ℕ → List ℕ) (F : ℕ → Option (List ℕ)) where
       let some : 0 < 2 ^ height_of b = pow_pos (height_of b) in
       let ends : start_of b + 2 ^ height_of b ≤ e = omega (arith, inside.1) in
       let parts = cut_parts H (at b) r more (λ same. omega (arith, starts same, counts same, ends, short))
-      (λ full misses. elim misses [
-        | inl behind ↦ omega (arith, behind, ends, short, some)
-        | inr before ↦ omega
-            (arith, before, inside.0, some)
-      ]) in
-      joined_some H (cut_over H (at b) (front_part r)) (cut_over H (at b) (rest_part r)) (subst IsSome parts known)
+      (omega (arith, ends)) in
+      joined_some H (cut_over H (at b) (front_part r)) (cut_over H (at b) (rest_part r)) (rw parts at known)
 
   in_front : (r : Range) (e : ℕ) (bs : List ℕ) → 1 < r.count → e < r.start + r.count
       → AllByRecursion (Inside r.start e) bs → AllByRecursion (Knows r) bs → AllByRecursion (Knows (front_part r)) bs
@@ -72,9 +72,11 @@ module _ (H : List ℕ → List ℕ) (F : ℕ → Option (List ℕ)) where
       → AllByRecursion (Inside (r.start + front_of r.count) e) bs → AllByRecursion (Knows r) bs
       → AllByRecursion (Knows (rest_part r)) bs
   in_rest r e [] more short inside all = tt
-  in_rest r e (b ∷ bs) more short inside all = (
-    (all.0.0, (halves r e b more short (omega (arith, inside.0.0), inside.0.1) all.0.1).1),
-    in_rest r e bs more short inside.1 all.1,
+  in_rest r e (b ∷ bs) more short inside all = grind (
+    arith,
+    halves r e b more short,
+    in_rest r e bs more short
+        inside.1 all.1,
   )
 
   -- the part beside the nodes
@@ -84,8 +86,13 @@ module _ (H : List ℕ → List ℕ) (F : ℕ → Option (List ℕ)) where
   rest_beside r e (b ∷ bs) more some low short follow all =
       let inside = (follow_inside r.start e (b ∷ bs) follow).1.0 in
       let front = front_is_greatest r.count more in
-      subst IsSome (cut_old H (at b) (rest_part r) (pow_pos (height_of b)) (omega (arith, front.1))
-      (inr (omega (arith, inside.1, low)))) (halves r e b more short inside all.0.1).1
+      grind (
+        arith,
+        cut_old H (at b) (rest_part r) (pow_pos (height_of b)),
+        pow_pos (height_of b),
+        halves r e b more
+            short inside all.0.1,
+      )
 
   front_beside : (r : Range) (e : ℕ) (bs : List ℕ) → 1 < r.count → r.start + front_of r.count < e
       → e < r.start + r.count → Follow (r.start + front_of r.count) e bs → AllByRecursion (Knows r) bs
@@ -94,18 +101,19 @@ module _ (H : List ℕ → List ℕ) (F : ℕ → Option (List ℕ)) where
   front_beside r e (b ∷ bs) more some short follow all =
       let inside = (follow_inside (r.start + front_of r.count) e (b ∷ bs) follow).1.0 in
       let full = (front_is_greatest r.count more).0 in
-      subst IsSome (cut_old H (at b) (front_part r) (pow_pos (height_of b)) (omega (arith, full, pow_pos full.0))
-      (inl inside.0)) (halves r e b more short (omega (arith, inside.0), inside.1) all.0.1).0
+      grind (
+        arith,
+        cut_old H (at b) (front_part r) (pow_pos (height_of b)),
+        pow_pos (height_of b),
+        pow_pos full.0,
+        halves r e b more short,
+      )
 
   -- the path over leaves that are all old
   ends : (whole : Bool) (r : Range) → (whole ≡ false → IsFull r.count)
       → AllByRecursion (Knows r) (balanced_over r.start r.count) → IsSome (path_at_end (old_over H F) whole r)
   ends true r full all = refl
-  ends false r full all =
-      let is = full refl in
-      beside_some (Some []) (old_over H F r) refl
-      (subst IsSome (sym (old_full H F r is))
-      (subst (AllByRecursion (Knows r)) (balanced_full r.start r.count is) all).0.0)
+  ends false r full all = grind (arith, beside_some, old_full, balanced_full)
 
   -- the path from the first m leaves of a range to all of them
   grown : (steps k c m : ℕ) (whole : Bool) (r : Range) → 0 < m → m ≤ r.count → r.count ≤ steps → r.start ≡ c * 2 ^ k
@@ -116,8 +124,7 @@ module _ (H : List ℕ → List ℕ) (F : ℕ → Option (List ℕ)) where
   grown (suc steps) k c m whole r some order most start high full all = elim (cases_lt m r.count) [
     | inr last ↦
         let same : m ≡ r.count = omega arith in
-        subst IsSome (sym (consistency_end (old_over H F) whole m r some same))
-        (ends whole r (λ is. full is same) (subst (λ n. AllByRecursion (Knows r) (balanced_over r.start n)) same all))
+        rw (consistency_end (old_over H F) whole m r some same) (ends whole r (λ is. full is same) (rw same at all))
     | inl less ↦
         let more : 1 < r.count = omega arith in
         let f = front_is_greatest r.count more in
@@ -138,24 +145,20 @@ module _ (H : List ℕ → List ℕ) (F : ℕ → Option (List ℕ)) where
               let path = grown steps j d m whole (front_part r) some low (omega (arith, f.1)) begins
               (omega (arith, front)) (λ _ _. f.0) (in_front r (r.start + m) bs more short inside all) in
               let rest = rest_beside r (r.start + m) bs more (omega arith) (omega (arith, low)) short follow all in
-              subst IsSome (sym (consistency_front (old_over H F) whole m r some less low))
+              rw (consistency_front (old_over H F) whole m r some less low)
               (beside_some (consistency_over (old_over H F) whole m (front_part r))
               (old_over H F (rest_part r)) path rest)
           | inl wide ↦
               let top : m ≤ 2 ^ suc j = omega (arith, less, f.2, front, pow-suc 2 j) in
               let same : front_of m ≡ front_of r.count = front_of_is j m (omega (arith, wide, front)) top ∙ sym front in
-              let part : IsFull m → ⊥ = λ is. omega (
-                arith,
-                pow_below_pow j is.0 (omega (arith, is.1, wide, front)),
-                pow_below_pow is.0 (suc j) (omega (arith, is.1, less, f.2, front, pow-suc 2 j)),
-              ) in
+              let part = not_full j m (omega (arith, wide, front)) (omega (arith, less, f.2, front, pow-suc 2 j)) in
               let a = r.start + front_of r.count in
               let n = m - front_of r.count in
               let bs = balanced_over a n in
               let parts : balanced_over r.start m ≡ node_over r.start (front_of r.count) ∷ bs =
               subst (λ h. balanced_over r.start m ≡ node_over r.start h ∷ balanced_over (r.start + h) (m - h)) same
               (balanced_parts r.start m (omega arith) part) in
-              let known = (subst (AllByRecursion (Knows r)) parts all).1 in
+              let known = (rw parts at all).1 in
               let next : a ≡ (d + 1) * 2 ^ j = omega (arith, begins, front) in
               let fits : n ≤ 2 ^ j = omega (arith, top, front, pow-suc 2 j) in
               let follow = subst (λ b. Follow b (b + n) (balanced_over b n)) (sym next)
@@ -167,7 +170,7 @@ module _ (H : List ℕ → List ℕ) (F : ℕ → Option (List ℕ)) where
               (λ _ last. absurd (omega (arith, last, wide, less, f.1)))
               (in_rest r (a + n) bs more end inside known) in
               let beside = front_beside r (a + n) bs more (omega (arith, wide)) end follow known in
-              subst IsSome (sym (consistency_rest (old_over H F) whole m r less wide))
+              rw (consistency_rest (old_over H F) whole m r less wide)
               (beside_some (consistency_over (old_over H F) false n (rest_part r))
               (old_over H F (front_part r)) path beside)
         ]
@@ -192,7 +195,7 @@ module _ (H : List ℕ → List ℕ) (F : ℕ → Option (List ℕ)) where
 
   pub inclusion_known : (m n : ℕ) → m < n → IsKnown F (needed (2 * m) n) → IsSome (inclusion_of (old_over H F) m n)
   inclusion_known m n inside known = led_some m n (H []) (inclusion_of (old_over H F) m n)
-      (subst IsSome (sym (leads_as_proof H F m n (H []) inside)) (known_cut H F (H []) (2 * m) n known))
+      (rw (leads_as_proof H F m n (H []) inside) (known_cut H F (H []) (2 * m) n known))
 
   joined_two : (p q : Option (List ℕ)) → IsSome p → IsSome q → IsSome (joined H p q)
   joined_two (Some p) (Some q) left right = refl
@@ -204,34 +207,24 @@ module _ (H : List ℕ → List ℕ) (F : ℕ → Option (List ℕ)) where
       → AllByRecursion (λ t. IsSome (F t)) (balanced_over r.start r.count) → IsSome (old_over H F r)
   old_known zero r some enough known = absurd (omega arith)
   old_known (suc steps) r some enough known = elim (cases_lt 1 r.count) [
-    | inr one ↦
-        let full : IsFull r.count = (0, omega arith) in
-        subst IsSome (sym (old_full H F r full))
-        (subst (AllByRecursion (λ t. IsSome (F t))) (balanced_full r.start r.count full) known).0
+    | inr one ↦ whole (0, omega arith)
     | inl more ↦
         let f = front_is_greatest r.count more in
         let j = f.0.0 in
         elim (cases_lt r.count (2 * front_of r.count)) [
-          | inr twice ↦
-              let full : IsFull r.count = (suc j, omega (arith, twice, f.2, f.0.1, pow-suc 2 j)) in
-              subst IsSome (sym (old_full H F r full))
-              (subst (AllByRecursion (λ t. IsSome (F t))) (balanced_full r.start r.count full) known).0
+          | inr twice ↦ whole (suc j, omega (arith, twice, f.2, f.0.1, pow-suc 2 j))
           | inl less ↦
-              let part : IsFull r.count → ⊥ =
-              λ is. omega (
-                arith,
-                pow_below_pow j is.0 (omega (arith, is.1, f.1, f.0.1)),
-                pow_below_pow is.0 (suc j) (omega (arith, is.1, less, f.0.1, pow-suc 2 j)),
-              ) in
-              let parts = subst (AllByRecursion (λ t. IsSome (F t))) (balanced_parts r.start r.count more part) known in
-              let front : IsSome (old_over H F (front_part r)) = subst IsSome (sym (old_full H F (front_part r) f.0))
-              parts.0 in
-              let rest : IsSome (old_over H F (rest_part r)) = old_known steps (rest_part r) (omega (arith, f.1))
-              (omega (arith, f.0.1, pow_pos j)) parts.1 in
-              subst IsSome (sym (old_parts H F r more part))
-              (joined_two (old_over H F (front_part r)) (old_over H F (rest_part r)) front rest)
+              let part = not_full j r.count (omega (arith, f.1, f.0.1)) (omega (arith, less, f.0.1, pow-suc 2 j)) in
+              let parts = rw (balanced_parts r.start r.count more part) at known in
+              rw (old_parts H F r more part)
+              (joined_two (old_over H F (front_part r)) (old_over H F (rest_part r))
+              (rw (old_full H F (front_part r) f.0) parts.0)
+              (old_known steps (rest_part r) (omega (arith, f.1)) (omega (arith, f.0.1, pow_pos j)) parts.1))
         ]
   ]
+    where
+      whole : IsFull r.count → IsSome (old_over H F r)
+      whole full = rw (old_full H F r full) (rw (balanced_full r.start r.count full) at known).0
 
   roots_known : (n : ℕ) (ts : List ℕ) → IsKnown F (flat_map (λ t. t ∷ needed t n) ts)
       → AllByRecursion (λ t. IsSome (F t)) ts

@@ -88,21 +88,27 @@ led_is H m n x (Some path) inside = rw (lt-ltb m n inside) refl
 -- a path leads where the proof of the same leaf leads
 pub leads_as_proof : (H : List ℕ → List ℕ) (F : ℕ → Option (List ℕ)) (m n : ℕ) (x : List ℕ) → m < n
     → led_to H m n x (inclusion_of (old_over H F) m n) ≡ cut_root H F (2 * m) x n
-leads_as_proof H F m n x inside =
-    let leaf = node_at (2 * m) 0 m (omega arith) in
-    led_is H m n x (inclusion_of (old_over H F) m n) inside ∙ climbs H F x n m (leaves_from 0 n) (omega arith) inside
-    ∙ rw (leaf.0, leaf.1) (ap (λ s. cut_over H (at_leaf F s x) (leaves_from 0 n)) (omega arith))
+leads_as_proof H F m n x inside = grind (
+  arith,
+  node_at (2 * m) 0 m,
+  led_is H m n x
+      (inclusion_of (old_over H F) m n) inside,
+  climbs H F x n m (leaves_from 0 n),
+)
 
 -- a log's own path of a leaf in a range leads to the range's root
 own_climbs : (H : List ℕ → List ℕ) (ds : List (List ℕ)) (m : ℕ) (r : Range) → m < r.count → IsAligned r.start r.count
     → r.start + r.count ≤ length ds
     → led H m r.count (slice_index_or ds (r.start + m) []) (inclusion_over (old_over H (own_digest H ds)) m r)
     ≡ Some (root_over H ds r.start r.count)
-own_climbs H ds m r inside aligned fits =
-    climbs H (own_digest H ds) (slice_index_or ds (r.start + m) []) r.count m r (omega arith) inside
-    ∙ ap (λ d. cut_over H (at_leaf (own_digest H ds) (r.start + m) d) r)
-    (sym (root_over_one H ds (r.start + m) (omega arith)))
-    ∙ cut_own_range H ds (leaves_from (r.start + m) 1) r (omega arith) aligned fits
+own_climbs H ds m r inside aligned fits = grind (
+  arith,
+  climbs H (own_digest H ds)
+      (slice_index_or ds (r.start + m) []) r.count m r,
+  root_over_one H ds (r.start + m),
+  cut_own_range H ds
+      (leaves_from (r.start + m) 1) r,
+)
 
 -- a log's own path of a leaf leads to its root
 pub own_leads : (H : List ℕ → List ℕ) (ds : List (List ℕ)) (m n : ℕ) → m < n → n ≤ length ds
@@ -114,7 +120,7 @@ own_leads H ds m n inside fits =
       height = n;
       place = 0;
       start = omega arith;
-      most = omega (arith, below_pow n);
+      most = omega
+          (arith, below_pow n);
     } in
-    led_is H m n (slice_index_or ds m []) (inclusion_of (old_over H (own_digest H ds)) m n) inside
-    ∙ rw at at (own_climbs H ds m (leaves_from 0 n) inside aligned (omega arith))
+    grind (arith, led_is, own_climbs)

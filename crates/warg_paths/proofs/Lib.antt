@@ -4,6 +4,7 @@ mod MakeLemmas
 mod BytesLemmas
 mod LawLemmas
 mod GrowthLemmas
+mod TurnLemmas
 mod UniqueLemmas
 mod UniqueGrowthLemmas
 mod KnownLemmas

@@ -1,5 +1,5 @@
 -- How paths are made, part by part.
-use Rattle.std.proofs.Common.{◌≡◌, inl, inr, ℕ, zero, suc, ◌-◌, ◌<◌, ◌≤◌, ◌==◌, nat_le, nat_lt, if◌then◌else◌, Bool, true, false, List, [], Option, Some, None, refl, ◌∙◌, arith}
+use Rattle.std.proofs.Common.{◌≡◌, inl, inr, ℕ, zero, suc, ◌-◌, ◌<◌, ◌≤◌, ◌==◌, nat_le, nat_lt, if◌then◌else◌, Bool, true, false, List, [], Option, Some, None, refl, arith}
 use Rattle.std.proofs.lemmas.Bool.{le-leb, lt-leb, lt-ltb, le-ltb, eq-eqb, ne_eqb, cases_lt}
 use Rattle.warg_log.specs.Ranges.{Range, leaves_from, front_part, rest_part}
 use Rattle.warg_log.specs.Tree.{front_of}
@@ -17,44 +17,28 @@ unfolding path_within
 path_enough R zero zero m r low high = refl
 path_enough R zero (suc t) m r low high = rw (le-leb r.count 1 (omega arith)) refl
 path_enough R (suc s) zero m r low high = rw (le-leb r.count 1 (omega arith)) refl
-path_enough R (suc s) (suc t) m r low high = elim (cases_lt 1 r.count) [
-  | inl more ↦
-      let few = parts_fewer r.count more in
-      rw (
-        lt-leb r.count 1 more,
-        path_enough R s t m (front_part r) (omega arith) (omega arith),
-        path_enough R s t (m - front_of r.count) (rest_part r) (omega arith) (omega arith),
-      ) refl
-  | inr one ↦ rw (le-leb r.count 1 one) refl
-]
+path_enough R (suc s) (suc t) m r low high = grind (
+  arith,
+  cases_lt,
+  parts_fewer,
+  lt-leb,
+  path_enough R s t m
+      (front_part r),
+  path_enough R s t (m - front_of r.count) (rest_part r),
+  le-leb,
+)
 
 -- the path of a leaf in the first part
 pub inclusion_front : (R : Range → Option (List ℕ)) (m : ℕ) (r : Range) → 1 < r.count → m < front_of r.count
     → inclusion_over R m r ≡ beside (inclusion_over R m (front_part r)) (R (rest_part r))
 unfolding path_within
-inclusion_front R m r more front =
-    let few = parts_fewer r.count more in
-    path_enough R r.count (suc r.count) m r (omega arith) (omega arith)
-    ∙ rw (
-      lt-leb r.count 1 more,
-      lt-ltb m (front_of r.count) front,
-      path_enough R r.count (front_of r.count) m
-          (front_part r) (omega arith) (omega arith),
-    ) refl
+inclusion_front R m r more front = grind (arith, parts_fewer, path_enough, lt-leb, lt-ltb)
 
 -- the path of a leaf in the rest
 pub inclusion_rest : (R : Range → Option (List ℕ)) (m : ℕ) (r : Range) → 1 < r.count → front_of r.count ≤ m
     → inclusion_over R m r ≡ beside (inclusion_over R (m - front_of r.count) (rest_part r)) (R (front_part r))
 unfolding path_within
-inclusion_rest R m r more rest =
-    let few = parts_fewer r.count more in
-    path_enough R r.count (suc r.count) m r (omega arith) (omega arith)
-    ∙ rw (
-      lt-leb r.count 1 more,
-      le-ltb m (front_of r.count) rest,
-      path_enough R r.count (r.count - front_of r.count)
-          (m - front_of r.count) (rest_part r) (omega arith) (omega arith),
-    ) refl
+inclusion_rest R m r more rest = grind (arith, parts_fewer, path_enough, lt-leb, le-ltb)
 
 growth_enough : (R : Range → Option (List ℕ)) (s t : ℕ) (whole : Bool) (m : ℕ) (r : Range) → 0 < m → m ≤ r.count
     → r.count ≤ s → r.count ≤ t
@@ -84,20 +68,14 @@ growth_enough R (suc s) (suc t) whole m r some order low high = elim (cases_lt m
 pub consistency_end : (R : Range → Option (List ℕ)) (whole : Bool) (m : ℕ) (r : Range) → 0 < m → m ≡ r.count
     → consistency_over R whole m r ≡ path_at_end R whole r
 unfolding growth_within
-consistency_end R whole m r some all = growth_enough R r.count (suc r.count) whole m r some (omega arith) (omega arith)
-    (omega arith) ∙ rw (eq-eqb m r.count all) refl
+consistency_end R whole m r some all = grind (arith, growth_enough, eq-eqb)
 
 -- the path where the old leaves end in the first part
 pub consistency_front : (R : Range → Option (List ℕ)) (whole : Bool) (m : ℕ) (r : Range) → 0 < m → m < r.count
     → m ≤ front_of r.count
     → consistency_over R whole m r ≡ beside (consistency_over R whole m (front_part r)) (R (rest_part r))
 unfolding growth_within
-consistency_front R whole m r some less front =
-    let few = parts_fewer r.count (omega arith) in
-    let below = growth_enough R r.count (front_of r.count) whole m (front_part r) some front (omega arith)
-    (omega arith) in
-    growth_enough R r.count (suc r.count) whole m r some (omega arith) (omega arith) (omega arith)
-    ∙ rw (ne_eqb m r.count (λ e. omega arith), le-leb m (front_of r.count) front, below) refl
+consistency_front R whole m r some less front = grind (arith, parts_fewer, growth_enough, ne_eqb, le-leb)
 
 -- the path where the old leaves end in the rest
 pub consistency_rest : (R : Range → Option (List ℕ)) (whole : Bool) (m : ℕ) (r : Range) → m < r.count
@@ -105,18 +83,12 @@ pub consistency_rest : (R : Range → Option (List ℕ)) (whole : Bool) (m : ℕ
     → consistency_over R whole m r ≡ beside (consistency_over R false (m - front_of r.count) (rest_part r))
     (R (front_part r))
 unfolding growth_within
-consistency_rest R whole m r less rest =
-    let few = parts_fewer r.count (omega arith) in
-    let below = growth_enough R r.count (r.count - front_of r.count) false (m - front_of r.count) (rest_part r)
-    (omega arith) (omega arith) (omega arith) (omega arith) in
-    growth_enough R r.count (suc r.count) whole m r (omega arith) (omega arith) (omega arith) (omega arith)
-    ∙ rw (ne_eqb m r.count (λ e. omega arith), lt-leb m (front_of r.count) rest, below) refl
+consistency_rest R whole m r less rest = grind (arith, parts_fewer, growth_enough, ne_eqb, lt-leb)
 
 -- the path of one leaf is empty
 pub inclusion_one : (R : Range → Option (List ℕ)) (m : ℕ) (r : Range) → r.count ≡ 1 → inclusion_over R m r ≡ Some []
 unfolding path_within
-inclusion_one R m r one = path_enough R r.count (suc r.count) m r (omega arith) (omega arith)
-    ∙ rw (le-leb r.count 1 (omega arith)) refl
+inclusion_one R m r one = cc
 
 -- what holds of both cases of a test holds of the test
 either : {T : Type 0} (b : Bool) {p q s t : T} {path : T} → (p ≡ path → s ≡ path) → (q ≡ path → t ≡ path)

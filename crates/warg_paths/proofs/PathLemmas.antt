@@ -1,10 +1,11 @@
 -- How the roots by a path are reckoned, from the top down.
 use Rattle.std.proofs.Common.{◌≡◌, ℕ, ◌-◌, ◌<◌, ◌≤◌, List, [], ◌∷◌, ◌++◌, length, reverse, Option, Some, None, refl, sym, ap, ◌∙◌, arith}
-use Rattle.std.proofs.lemmas.Bool.{le-leb, lt-leb, lt-ltb, le-ltb, eq-eqb, ne_eqb}
+use Rattle.std.proofs.lemmas.Bool.{eq-eqb, ne_eqb}
 use Rattle.std.proofs.lemmas.List.{reverse-append, length-reverse}
 use Rattle.warg_log.specs.Tree.{front_of}
 use Rattle.warg_log.specs.Cut.{joined}
 use Rattle.warg_paths.specs.Paths.{root_down, roots_down, one_root, twice, grown, both_over}
+use Rattle.warg_paths.proofs.TurnLemmas.{front_leads, rest_leads, front_turn, rest_turn}
 
 -- of one leaf, no digests lead to its own
 pub root_one : (H : List ℕ → List ℕ) (m : ℕ) (x : List ℕ) (path : List (List ℕ)) → length path ≡ 0
@@ -34,17 +35,15 @@ root_short H m n x (top ∷ above) more none = absurd (omega arith)
 pub root_front : (H : List ℕ → List ℕ) (m n : ℕ) (x top : List ℕ) (below : List (List ℕ)) → 1 < n → m < front_of n
     → root_down H m n x (reverse (below ++ top ∷ [])) ≡ joined H (root_down H m (front_of n) x (reverse below))
     (Some top)
-unfolding root_down
 root_front H m n x top below more front = rw (reverse-append below (top ∷ []))
-    (rw (lt-leb n 1 more, lt-ltb m (front_of n) front) refl)
+    (front_leads H m n x top (reverse below) more front)
 
 -- the leaf is in the rest
 pub root_rest : (H : List ℕ → List ℕ) (m n : ℕ) (x top : List ℕ) (below : List (List ℕ)) → 1 < n → front_of n ≤ m
     → root_down H m n x (reverse (below ++ top ∷ [])) ≡ joined H (Some top)
     (root_down H (m - front_of n) (n - front_of n) x (reverse below))
-unfolding root_down
 root_rest H m n x top below more rest = rw (reverse-append below (top ∷ []))
-    (rw (lt-leb n 1 more, le-ltb m (front_of n) rest) refl)
+    (rest_leads H m n x top (reverse below) more rest)
 
 -- the one root is the same from below and from the top
 pub one_turned : (old : Option (List ℕ)) (path : List (List ℕ)) → one_root old (reverse path) ≡ one_root old path
@@ -80,15 +79,13 @@ both_short H old m n (top ∷ above) less none = absurd (omega arith)
 pub both_front : (H : List ℕ → List ℕ) (old : Option (List ℕ)) (m n : ℕ) (top : List ℕ) (below : List (List ℕ)) → m < n
     → m ≤ front_of n
     → roots_down H old m n (reverse (below ++ top ∷ [])) ≡ grown H (roots_down H old m (front_of n) (reverse below)) top
-unfolding roots_down
 both_front H old m n top below less front = rw (reverse-append below (top ∷ []))
-    (rw (ne_eqb m n (λ e. omega arith), le-leb m (front_of n) front) refl)
+    (front_turn H old m n top (reverse below) less front)
 
 -- the old log ends in the rest
 pub both_rest : (H : List ℕ → List ℕ) (old : Option (List ℕ)) (m n : ℕ) (top : List ℕ) (below : List (List ℕ)) → m < n
     → front_of n < m
     → roots_down H old m n (reverse (below ++ top ∷ []))
     ≡ both_over H top (roots_down H None (m - front_of n) (n - front_of n) (reverse below))
-unfolding roots_down
 both_rest H old m n top below less rest = rw (reverse-append below (top ∷ []))
-    (rw (ne_eqb m n (λ e. omega arith), lt-leb m (front_of n) rest) refl)
+    (rest_turn H old m n top (reverse below) less rest)

@@ -71,18 +71,18 @@ second_unknown = old_full own nothing (leaves_from 1 1) (0, refl)
 pub inclusion_digests_are_needed : ¬ ((H : List ℕ → List ℕ) (F : ℕ → Option (List ℕ)) (m n : ℕ) → m < n
     → IsSome (inclusion_of (old_over H F) m n))
 unfolding path_within front_of front_within
-inclusion_digests_are_needed law = let is = law own nothing 0 2 (omega arith) in
+inclusion_digests_are_needed law =
+    let is = law own nothing 0 2 (omega arith) in
     let at : IsSome (beside (Some []) (old_over own nothing (leaves_from 1 1))) = is in
-    absurd (let gone : IsSome (beside (Some []) None) = subst (λ o. IsSome (beside (Some []) o)) second_unknown at in
-    cc)
+    grind (arith, second_unknown)
 
 pub consistency_digests_are_needed : ¬ ((H : List ℕ → List ℕ) (F : ℕ → Option (List ℕ)) (m n : ℕ) → 0 < m → m ≤ n
     → IsSome (consistency_of (old_over H F) m n))
 unfolding growth_within front_of front_within
-consistency_digests_are_needed law = let is = law own nothing 1 2 (omega arith) (omega arith) in
+consistency_digests_are_needed law =
+    let is = law own nothing 1 2 (omega arith) (omega arith) in
     let at : IsSome (beside (Some []) (old_over own nothing (leaves_from 1 1))) = is in
-    absurd (let gone : IsSome (beside (Some []) None) = subst (λ o. IsSome (beside (Some []) o)) second_unknown at in
-    cc)
+    grind (arith, second_unknown)
 
 none_beside : (p : Option (List (List ℕ))) → IsSome (beside p None) → ⊥
 none_beside (Some p) is = cc

@@ -1,9 +1,23 @@
 -- What the digest function takes in the evaluations of paths, and where two of its inputs stand. The digests of a path
 -- are given from the topmost down, as the recursion over the leaves meets them.
-use Rattle.std.specs.Prelude.{◌≡◌, ℕ, ◌+◌, ◌-◌, ◌<◌, ◌≤◌, ◌⊎◌, nat_lt, nat_le, if◌then◌else◌, List, ◌∷◌, reverse, Option, Some, None}
+use Rattle.std.specs.Prelude.{◌≡◌, ℕ, ◌+◌, ◌-◌, ◌<◌, ◌≤◌, ◌⊎◌, nat_lt, nat_le, if◌then◌else◌, Bool, List, ◌∷◌, reverse, Option, Some, None}
 use Rattle.warg_crypto.specs.Tree.{branch_input, where_both}
 use Rattle.warg_log.specs.Tree.{front_of}
 use Rattle.warg_paths.specs.Paths.{root_down, roots_down}
+
+-- Whether leaf m of n is in the rest of them; its number in the part that has it; that part's count; and its first leaf,
+-- where that of all n is a.
+abbrev pub is_right : ℕ → ℕ → Bool
+is_right m n = nat_le (front_of n) m
+
+abbrev pub leaf_in : ℕ → ℕ → ℕ
+leaf_in m n = if is_right m n then m - front_of n else m
+
+abbrev pub count_in : ℕ → ℕ → ℕ
+count_in m n = if is_right m n then n - front_of n else front_of n
+
+abbrev pub start_in : ℕ → ℕ → ℕ → ℕ
+start_in m a n = if is_right m n then a + front_of n else a
 
 -- The ranges of the recursion on the way to leaf m₀ of the n₀ leaves from a₀ on, each with the leaf's number m in
 -- it, its first leaf, its count and the digests that are left there: the whole with all digests, and of each range

@@ -25,8 +25,7 @@ shown (Branch branches) placed first second meet is = record { collides = is.col
 -- two branches are one where their digests are: those of one side have one length
 pub beside_parts : (b : Bool) {x u y v : List ℕ} → length x ≡ length y → input_beside b u x ≡ input_beside b v y
     → (x ≡ y) × (u ≡ v)
-beside_parts true {x} {u} {y} {v} sizes same = let parts = branch_parts u x v y
-    (omega (arith, sizes, length-append u x, length-append v y, ap length same)) same in (parts.1, parts.0)
+beside_parts true {x} {u} {y} {v} sizes same = grind (arith, branch_parts u x v y, length-append u x, length-append v y)
 beside_parts false sizes same = branch_parts _ _ _ _ sizes same
 
 -- a step up, by which of the digests are the same
@@ -41,14 +40,7 @@ pub up_by : {D : Type 0} {H : List ℕ → List ℕ} (b : Bool) {before after : 
       second = before.second;
       second_beside = v;
     }))) → IsUp H b before u v after
-up_by b sizes first second ends = record {
-  first_is = first;
-  second_is = second;
-  diverges = elim ends [
-    | inl same ↦ inl same
-    | inr other ↦ inr ((λ e. let parts = beside_parts b sizes e in other.0 parts.0 parts.1), other.1)
-  ];
-}
+up_by b sizes first second ends = grind (arith, beside_parts)
 
 -- a step from digests of one length, whatever stands beside them
 pub up_somewhere : {D : Type 0} {H : List ℕ → List ℕ} (b : Bool) (before : Climb D) (u v : List ℕ)
@@ -77,17 +69,7 @@ pub up_parts : {D : Type 0} {H : List ℕ → List ℕ} {b : Bool} {before after
     → (before.first ≡ before.second → u ≡ v → Parts H P A before.divergence)
     → P (input_beside b u before.first) (input_beside b v before.second) → after.first ≡ after.second
     → Parts H P A after.divergence
-up_parts P A up below here one = elim up.diverges [
-  | inl same ↦ rw same.2 (below same.0 same.1)
-  | inr other ↦ rw other.1 (record {
-    collides = record {
-      differ = other.0;
-      same = sym up.first_is ∙ one
-          ∙ up.second_is;
-    };
-    placed = here;
-  })
-]
+up_parts P A up below here one = grind arith
 
 -- a branch that is there has both its parts, which make its input and its digest
 pub both_there : (H : List ℕ → List ℕ) (left right : Option (List ℕ)) (d : List ℕ) → joined H left right ≡ Some d

@@ -21,10 +21,7 @@ use Rattle.warg_witness.proofs.RangeLemmas.{Digest, Data, node_some, side_part, 
 -- the cut root of a range above a target is the branch over its sides
 pub cut_around : (H : Digest) (e : Evaluation) (range : Range) → IsNodeRange e.target → IsAbove e.target range
     → cut_over H e range ≡ joined H (cut_over H e (front_part range)) (cut_over H e (rest_part range))
-cut_around H e range node over =
-    let some = node_some node in
-    cut_parts H e range (omega (arith, over.more)) (λ is. let same = counts is in omega (arith, over.more))
-    (λ _ beside. omega (arith, over.around))
+cut_around H e range node over = grind (arith, node_some node, cut_parts, counts)
 
 module _ (H : Digest) (e : Evaluation) (range : Range) (node : IsNodeRange e.target) (over : IsAbove e.target range)
   where
@@ -102,8 +99,7 @@ module _ (H : Digest) where
   -- over a log's own digests, with the target's own digest, the cut root of all leaves is the plain root
   own_root : (ds : List (List ℕ)) (target : Range) → 0 < length ds
       → cut_over H (with_own H ds target) (leaves_from 0 (length ds)) ≡ Some (root_of H ds)
-  own_root ds target some = cut_own_range H ds target (leaves_from 0 (length ds)) some
-      (whole_aligned (length ds) refl) (omega arith) ∙ ap (λ l. Some (root_of H l)) (take-length ds)
+  own_root ds target some = grind (arith, cut_own_range, whole_aligned, take-length)
 
   -- an evaluation that leads to a tree's root has it in common with the tree, and two trees have a range at which they
   -- have one digest
@@ -122,24 +118,24 @@ module _ (H : Digest) where
       → range.start + range.count ≤ length ds → range.start + range.count ≤ length es
       → root_over H ds range.start range.count ≡ root_over H es range.start range.count
       → HaveOneDigest H (with_own H ds target) (with_own H es target) range
-  have_range ds es target range aligned some in_first in_second same = record {
-    digest = root_over H ds range.start range.count;
-    first = cut_own_range H ds target range some aligned in_first;
-    second = cut_own_range H es target range some aligned in_second ∙ ap Some (sym same);
-  }
+  have_range ds es target range aligned some in_first in_second same = grind (
+    arith,
+    cut_own_range H ds target range some aligned in_first,
+    cut_own_range H es target range some aligned
+        in_second,
+  )
 
   -- the root over a range is the digest of the plain input there
   pub plain_digest_is : (entries : List (List ℕ)) (a n : ℕ) → 0 < n → a + n ≤ length entries
       → root_over H (leaves_of H entries) a n ≡ H (plain_input H entries a n)
-  plain_digest_is entries a n some within =
-      let len = leaves_count H entries in
-      grind (
-        arith,
-        nat_tests,
-        root_over_parts H (leaves_of H entries) a n,
-        root_over_one H (leaves_of H entries) a,
-        get_or-map,
-      )
+  plain_digest_is entries a n some within = grind (
+    arith,
+    leaves_count,
+    nat_tests,
+    root_over_parts,
+    root_over_one,
+    get_or-map,
+  )
 
   -- over the entries' own digests the evaluation's input at a range is the plain one, as where an evaluation diverges
   -- from the tree
@@ -161,9 +157,4 @@ module _ (H : Digest) where
       → 0 < e.target.count → (diverges : DivergesFrom H e ds first second)
       → IsPart 0 (length entries) diverges.range.start diverges.range.count
       × (second ≡ plain_input H entries diverges.range.start diverges.range.count)
-  own_second {e} entries ds {first} {second} is some diverges =
-      let part = rw (is, leaves_count H entries) at diverges.part in (
-        part,
-        own_input entries e.target diverges.range second part (omega (arith, diverges.above.more))
-            (rw is at diverges.second_input),
-      )
+  own_second {e} entries ds {first} {second} is some diverges = grind (arith, leaves_count, own_input)

@@ -1,19 +1,20 @@
 -- A consistency path beside the trees over the old and the new entries, on its way down.
-use Rattle.std.proofs.Common.{◌≡◌, ℕ, ◌+◌, ◌-◌, ◌<◌, ◌≤◌, ◌^◌, ◌↔◌, false, List, [], ◌∷◌, length, reverse, get_or, Option, Some, None, inl, inr, refl, sym, ap, subst, ◌∙◌, arith}
+use Rattle.std.proofs.Common.{◌≡◌, ℕ, ◌+◌, ◌-◌, ◌<◌, ◌≤◌, ◌^◌, ◌↔◌, false, List, [], ◌∷◌, length, reverse, get_or, Option, Some, None, inl, inr, refl, sym, subst, ◌∙◌, arith}
 use Rattle.std.specs.Option.{is_some, MatchOption}
 use Rattle.std.proofs.lemmas.Nat.{pow_pos}
-use Rattle.std.proofs.lemmas.Bool.{lt-leb, le-leb, lt-ltb, eq-eqb, ne_eqb}
-use Rattle.warg_crypto.specs.Tree.{branch_input, where_both}
+use Rattle.std.proofs.lemmas.Bool.{lt-leb, le-leb, lt-ltb, eq-eqb}
+use Rattle.warg_crypto.specs.Tree.{branch_input}
 use Rattle.warg_log.specs.Cut.{with_own}
 use Rattle.warg_log.specs.Tree.{front_of, leaves_of, root_of}
 use Rattle.warg_log.proofs.ForCallers.{front_is_greatest, front_of_is, root_over_parts}
 use Rattle.warg_log.specs.Ranges.{Range, leaves_from, front_part, rest_part}
-use Rattle.warg_paths.specs.Paths.{roots_down, consistency_roots, subproof_roots, one_root, twice, grown, both_over}
+use Rattle.warg_paths.specs.Paths.{roots_down, consistency_roots, subproof_roots, one_root, twice, grown}
+use Rattle.warg_paths.proofs.ForCallers.{pair_parts, grown_is, over_is, front_turn, rest_turn, front_takes}
 use Rattle.warg_witness.specs.Ranges.{IsPart, IsAround}
 use Rattle.warg_witness.specs.Ranges.IsPart.{whole as part_whole}
 use Rattle.warg_witness.specs.Inputs.{plain_input}
 use Rattle.warg_witness.specs.PathClaims.{IsTreeMet}
-use Rattle.warg_paths.specs.Ways.{IsOnGrowth, old_turn_input, new_turn_input, old_of}
+use Rattle.warg_paths.specs.Ways.{IsOnGrowth, old_turn_input, new_turn_input}
 use Rattle.warg_crypto.specs.Collisions.{Collides}
 use Rattle.warg_witness.specs.TreePlaced.{Turning, IsTreePlaced}
 use Rattle.warg_paths.specs.Ways.IsOnGrowth.{whole}
@@ -29,10 +30,6 @@ use Rattle.warg_witness.proofs.CutLemmas.{leaves_count}
 use Rattle.warg_witness.proofs.RangeLemmas.{Digest, IsPart-trans}
 use Rattle.warg_witness.proofs.ShownLemmas.{both_shown, difference_in}
 use Rattle.warg_witness.proofs.RecordLemmas.{plain_root, turned}
-
--- two roots are the same one by one
-pub pair_parts : (p q : List ℕ × List ℕ) → Some p ≡ Some q → (p.0 ≡ q.0) × (p.1 ≡ q.1)
-pair_parts p q e = (cc, cc)
 
 -- the roots by what is left of a path, from lengths in order
 pub subproof_is : (H : Digest) (known : Option (List ℕ)) (m n : ℕ) (path : List (List ℕ)) → 0 < m → m ≤ n
@@ -109,95 +106,36 @@ plain_is : (H : Digest) (entries tree : List (List ℕ)) (range : Range) → tre
     → tree_input H tree range ≡ plain_input H entries range.start range.count
 plain_is H entries tree range is more = rw (lt-leb range.count 1 more, is) refl
 
--- where some aren't, no roots are there without digests, and else those of a part
-pub no_roots : (H : List ℕ → List ℕ) (known : Option (List ℕ)) (m n : ℕ) (roots : List ℕ × List ℕ) → m < n
-    → roots_down H known m n [] ≡ Some roots → ⊥
-unfolding roots_down
-no_roots H known m n roots more is = let none = rw (ne_eqb m n (λ e. omega arith)) at is in absurd cc
-
-pub grown_is : (H : List ℕ → List ℕ) (below : Option (List ℕ × List ℕ)) (top o w : List ℕ) → grown H below top ≡ Some (o, w)
-    → (x : List ℕ) × (below ≡ Some (o, x)) × (H (branch_input x top) ≡ w)
-grown_is H None top o w is = absurd cc
-grown_is H (Some (p, x)) top o w is =
-    let both = pair_parts (p, H (branch_input x top)) (o, w) is in (x, ap (λ z. Some (z, x)) both.0, both.1)
-
-pub over_is : (H : List ℕ → List ℕ) (below : Option (List ℕ × List ℕ)) (top o w : List ℕ) → both_over H top below
-    ≡ Some (o, w)
-    → (y : List ℕ) × (x : List ℕ) × (below ≡ Some (y, x)) × (H (branch_input top y) ≡ o) × (H (branch_input top x) ≡ w)
-over_is H None top o w is = absurd cc
-over_is H (Some (y, x)) top o w is =
-    let both = pair_parts (H (branch_input top y), H (branch_input top x)) (o, w) is in (y, x, refl, both.0, both.1)
-
--- what is taken at a range for the new root
-pub front_takes : (H : List ℕ → List ℕ) (known : Option (List ℕ)) (m n : ℕ) (top : List ℕ) (below : List (List ℕ))
-    (o x : List ℕ) → m ≤ front_of n → roots_down H known m (front_of n) below ≡ Some (o, x)
-    → new_turn_input H known m n top below ≡ Some (branch_input x top)
-front_takes H known m n top below o x le is = rw (le-leb m (front_of n) le, is) refl
-
-pub rest_takes : (H : List ℕ → List ℕ) (known : Option (List ℕ)) (m n : ℕ) (top : List ℕ) (below : List (List ℕ))
-    (o x : List ℕ) → front_of n < m → roots_down H None (m - front_of n) (n - front_of n) below ≡ Some (o, x)
-    → new_turn_input H known m n top below ≡ Some (branch_input top x)
-rest_takes H known m n top below o x lt is = rw (lt-leb m (front_of n) lt, is) refl
-
--- at a range, not all of whose leaves are old
-module _ (H : Digest) (known : Option (List ℕ)) (m n : ℕ) (top : List ℕ) (below : List (List ℕ)) (more : m < n) where
-  pub front_turn : m ≤ front_of n → roots_down H known m n (top ∷ below)
-      ≡ grown H (roots_down H known m (front_of n) below) top
-  unfolding roots_down
-  front_turn low = rw (ne_eqb m n (λ e. omega arith), le-leb m (front_of n) low) refl
-
-  pub rest_turn : front_of n < m → roots_down H known m n (top ∷ below)
-      ≡ both_over H top (roots_down H None (m - front_of n) (n - front_of n) below)
-  unfolding roots_down
-  rest_turn high = rw (ne_eqb m n (λ e. omega arith), lt-leb m (front_of n) high) refl
-
 -- the roots over a range, by those that what is below the topmost digest gives over the part with the old leaves' end
 module _ (H : Digest) (known : Option (List ℕ)) (m n : ℕ) (top : List ℕ) (path : List (List ℕ)) (some : 0 < m)
     (more : m < n) {o w : List ℕ} (leads : roots_down H known m n (top ∷ reverse path) ≡ Some (o, w)) where
   pub front_led : {j : ℕ} {p x : List ℕ} → j ≡ front_of n → m ≤ j → Some (p, x) ≡ subproof_roots H known m j path
       → (roots_down H known m (front_of n) (reverse path) ≡ Some (o, x)) × (H (branch_input x top) ≡ w)
       × (new_turn_input H known m n top (reverse path) ≡ Some (branch_input x top))
-  front_led {j} {p} {x} turn below led =
-      let low = rw turn at below in
-      let is = rw turn at led ∙ subproof_is H known m (front_of n) path some low in
-      let (y, below_is, root) = grown_is H _ top o w (sym (front_turn H known m n top (reverse path) more low) ∙ leads) in
-      let same = pair_parts (o, y) (p, x) (sym below_is ∙ sym is) in
-      let here = rw same.1 at below_is in
-      (here, rw same.1 at root, front_takes H known m n top (reverse path) o x low here)
+  front_led {j} {p} {x} turn below led = grind (
+    arith,
+    subproof_is,
+    grown_is,
+    front_turn,
+    reverse,
+    pair_parts,
+    front_takes,
+  )
 
   pub front_is_led : {j : ℕ} → j ≡ front_of n → m ≤ j → subproof_roots H known m j path ≡ None → ⊥
-  front_is_led turn below none =
-      let low = rw turn at below in
-      let lacks = sym (subproof_is H known m (front_of n) path some low) ∙ rw turn at none in
-      let led = grown_is H _ top o w (sym (front_turn H known m n top (reverse path) more low) ∙ leads) in
-      absurd (cc (led.1, lacks))
+  front_is_led turn below none = grind (arith, subproof_is, grown_is, front_turn, reverse)
 
   pub rest_led : {j k l : ℕ} {p x : List ℕ} → j ≡ front_of n → k ≡ m - j → l ≡ n - front_of n → j < m
       → Some (p, x) ≡ subproof_roots H None k l path
       → (roots_down H None (m - front_of n) (n - front_of n) (reverse path) ≡ Some (p, x))
       × (H (branch_input top p) ≡ o) × (H (branch_input top x) ≡ w)
       × (old_turn_input H m n top (reverse path) ≡ Some (branch_input top p))
-  rest_led {p = p} {x} turn count rest_is below led =
-      let high = rw turn at below in
-      let is = rw (count, turn, rest_is) at led
-      ∙ subproof_is H None (m - front_of n) (n - front_of n) path (omega arith) (omega arith) in
-      let (q, y, below_is, old_root, new_root) =
-      over_is H _ top o w (sym (rest_turn H known m n top (reverse path) more high) ∙ leads) in
-      let same = pair_parts (q, y) (p, x) (sym below_is ∙ sym is) in (
-        sym is,
-        rw same.0 at old_root,
-        rw same.1 at new_root,
-        ap (where_both branch_input (Some top)) (ap old_of (sym is)),
-      )
+  rest_led {p = p} {x} turn count rest_is below led = grind
+      (arith, subproof_is, over_is, rest_turn, reverse, pair_parts)
 
   pub rest_is_led : {j k l : ℕ} → j ≡ front_of n → k ≡ m - j → l ≡ n - front_of n → j < m
       → subproof_roots H None k l path ≡ None → ⊥
-  rest_is_led turn count rest_is below none =
-      let high = rw turn at below in
-      let lacks = sym (subproof_is H None (m - front_of n) (n - front_of n) path (omega arith) (omega arith))
-      ∙ rw (count, turn, rest_is) at none in
-      let led = over_is H _ top o w (sym (rest_turn H known m n top (reverse path) more high) ∙ leads) in
-      absurd (cc (led.2, lacks))
+  rest_is_led turn count rest_is below none = grind (arith, subproof_is, over_is, rest_turn, reverse)
 
 -- what is so of branches that are apart, or of none
 pub match_apart : {B M N : Type 0} {P Q : B → Type 0} (o : Option B) → (M → N) → ((b : B) → P b → Q b)
@@ -211,10 +149,8 @@ pub both_diverge : {D V A : Type 0} {H : Digest} {trees : Trees D V A} {place : 
     → IsPart d.range.start d.range.count shared.start shared.count
     → IsDivergence H (with_own H trees.old (leaves_from place 1)) (with_own H trees.new (leaves_from place 1)) shared p
     → IsTreeDivergence H trees place d p
-both_diverge {H = H} {place = place} d shared p in_old in_new diverges = λ path old new way.
-    let pair = both_shown H old new place shared (IsPart-trans way.in_old in_old) (IsPart-trans way.in_new in_new) p
-    (rw (way.old_is, way.new_is) at diverges) way.differ in
-    record { collides = pair.collides; placed = inr (inr pair.placed) }
+both_diverge {H = H} {place = place} d shared p in_old in_new diverges = λ path old new way. grind
+    (arith, both_shown H old new place shared (IsPart-trans way.in_old in_old) (IsPart-trans way.in_new in_new) p)
 
 module _ {D V A : Type 0} (H : Digest) (trees : Trees D V A) (place : ℕ) (known : Option (List ℕ)) (m : ℕ)
     (range : Range) (top : List ℕ) (below : List (List ℕ)) (some : 0 < m) (more : m < range.count) where
@@ -282,9 +218,7 @@ module _ {D V A : Type 0} (H : Digest) (trees : Trees D V A) (place : ℕ) (know
 module _ {D V A : Type 0} (H : Digest) (path old new : List (List ℕ)) (trees : Trees D V A)
     (meeting : IsTreeMeeting H path old new trees) where
   pub whole_growth : LeadsOver H trees (whole_descent H trees path)
-  whole_growth =
-      rw (meeting.old_is, meeting.new_is, leaves_count H old, leaves_count H new, plain_root H old, plain_root H new)
-      (sym (subproof_is H (Some (root_of H (leaves_of H old))) _ _ path meeting.some meeting.order) ∙ meeting.met)
+  whole_growth = grind (arith, leaves_count, plain_root, subproof_is)
 
   pub growth_shown : (place : ℕ) (p : Divergence D) → DiffersFirst old new place
       → IsTreeDivergence H trees place (whole_descent H trees path) p
@@ -309,14 +243,7 @@ module _ (H : Digest) (old new : List (List ℕ)) {m n : ℕ} {plain o v : List 
   pub trees_met : {D V A : Type 0} {trees : Trees D V A} → o ≡ plain → v ≡ root_of H (leaves_of H new)
       → (0 < m) × (m ≤ n) → n ≤ 2 ^ 63 → trees.old ≡ leaves_of H old → trees.new ≡ leaves_of H new
       → IsTreeMeeting H path old new trees
-  trees_met old_root new_root order fits old_is new_is = record {
-    some = rw old_count order.0;
-    order = rw (old_count, new_count) order.1;
-    fits = rw new_count fits;
-    old_is = old_is;
-    new_is = new_is;
-    met = rw (old_count, new_count, ← plain_is) (sym led ∙ rw (old_root, new_root, plain_is) refl);
-  }
+  trees_met old_root new_root order fits old_is new_is = grind (arith, plain_is)
 
 -- what the checks of functions over paths and both trees try
 pub ruleset whole_trees = (leaves_count, entries_count, difference_in, whole_growth)

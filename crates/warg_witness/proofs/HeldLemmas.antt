@@ -27,7 +27,8 @@ use Rattle.warg_witness.specs.declared.trees.Trees.{Trees}
 use Rattle.warg_witness.specs.Private.Divergence.{IsNodeRange, IsAbove}
 use Rattle.warg_witness.proofs.ClimbLemmas.{both_there}
 use Rattle.warg_witness.proofs.CutLemmas.{cut_around}
-use Rattle.warg_witness.proofs.GrowthLemmas.{front_turn, rest_turn, same_front, front_some, subproof_is}
+use Rattle.warg_paths.proofs.ForCallers.{front_turn, rest_turn}
+use Rattle.warg_witness.proofs.GrowthLemmas.{same_front, front_some, subproof_is}
 use Rattle.warg_witness.proofs.RangeLemmas.{Digest, Data, full_node, full_or_not, more_than_one, node_bounds, node_some, part_in, rest_aligned, whole_aligned}
 use Rattle.warg_witness.proofs.RecordLemmas.{turned}
 use Rattle.warg_witness.proofs.PathLawLemmas.{tree_collides}
@@ -93,7 +94,8 @@ module _ (H : Digest) (F : Data) (old new : List (List ℕ)) (root : Range) (x :
   R = old_over H F
 
   -- leaves that end with that root have one old root and cut root
-  old_is_cut : {range : Range} → IsLastRoot root range → IsAligned range.start range.count → R range ≡ cut_over H e range
+  old_is_cut : {range : Range} → IsLastRoot root range → IsAligned range.start range.count → R range ≡ cut_over H e
+      range
   old_is_cut (all_leaves is) aligned = old_full H F root is ∙ held ∙ sym (cut_target H e)
   old_is_cut (in_rest range more not_full last) aligned =
       let f = front_is_greatest range.count more in
@@ -144,7 +146,11 @@ module _ (H : Digest) (F : Data) (old new : List (List ℕ)) (root : Range) (x :
   above : {m a n : ℕ} {o w : List ℕ} → At m a n o w → m < n → IsNodeRange root × IsAbove root (leaves_from a n)
   above at less =
       let it = ends at.last (part_in at.old_part).1 in
-      let around : IsAround root (leaves_from _ _) = record { starts = it.starts_at; ends = omega (arith, it.ends_at) } in
+      let around : IsAround root (leaves_from _ _) = record {
+        starts = it.starts_at;
+        ends = omega
+            (arith, it.ends_at);
+      } in
       (it.node, record { around = around; more = omega (arith, it.starts_at, it.ends_at) })
 
   low : {m a n : ℕ} {o w : List ℕ} → At m a n o w → m < n → m ≤ front_of n → (top : List ℕ) × (l : List ℕ)
@@ -154,7 +160,8 @@ module _ (H : Digest) (F : Data) (old new : List (List ℕ)) (root : Range) (x :
       let f = front_is_greatest n more in
       let it = ends at.last (part_in at.old_part).1 in
       let (node, over) = above at less in
-      let (l, r, l_is, r_is, taken, made) = both_there H _ _ _ (sym (cut_around H e (leaves_from a n) node over) ∙ at.new_is) in
+      let (l, r, l_is, r_is, taken, made) = both_there H _ _ _
+      (sym (cut_around H e (leaves_from a n) node over) ∙ at.new_is) in
       let read = cut_old H e (rest_part (leaves_from a n)) (node_some node) (omega arith)
       (inr (omega (arith, it.ends_at))) in (
         r,
@@ -194,7 +201,8 @@ module _ (H : Digest) (F : Data) (old new : List (List ℕ)) (root : Range) (x :
       let old_part = rw fronts at (part_rest a m at.old_part old_more) in
       let it = ends last (part_in old_part).1 in
       let (node, over) = above at less in
-      let (l, r, l_is, r_is, taken, made) = both_there H _ _ _ (sym (cut_around H e (leaves_from a n) node over) ∙ at.new_is) in
+      let (l, r, l_is, r_is, taken, made) = both_there H _ _ _
+      (sym (cut_around H e (leaves_from a n) node over) ∙ at.new_is) in
       let parts : R (leaves_from a m)
       ≡ joined H (R (leaves_from a (front_of n))) (R (leaves_from (a + front_of n) (m - front_of n))) =
       rw (← fronts) (old_parts H F (leaves_from a m) old_more split) in
@@ -265,7 +273,8 @@ module _ (H : Digest) (F : Data) (old new : List (List ℕ)) (root : Range) (x :
         ]
   ]
     where
-      end : (all : Bool) → m ≡ n → (path : List (List ℕ)) × (growth_within R (suc steps) all m (leaves_from a n) ≡ Some path)
+      end : (all : Bool) → m ≡ n → (path : List (List ℕ)) × (growth_within R (suc steps) all m (leaves_from a n) ≡
+          Some path)
           × Reads (known_if all o) m a n o w (reverse path)
       end true equal = ([], rw (eq-eqb m n equal) refl, (at, equal, refl))
       end false equal =
@@ -347,7 +356,8 @@ module _ (H : Digest) (F : Data) (old new : List (List ℕ)) (root : Range) (x :
             | inl end ↦ absurd (omega (arith, end.0, t.more))
             | inr (inl (l, step, left)) ↦
                 let test = le-leb t.old_count (front_of t.count) step.fits in
-                in_new at t.more (step.taken ∙ rw (test, leads t.known _ _ _ o l t.below left) at it.evaluation) it.plain
+                in_new at t.more (step.taken ∙ rw (test, leads t.known _ _ _ o l t.below left) at it.evaluation)
+                it.plain
             | inr (inr (q, r, step, left)) ↦
                 let test = lt-leb t.old_count (front_of t.count) step.wide in
                 in_new at t.more (step.taken ∙ rw (test, leads None _ _ _ q r t.below left) at it.evaluation) it.plain
@@ -371,7 +381,8 @@ held_path H F {old = old} {new} met =
     let P = LeadsTo H F (length new) (root_of H (leaves_of H new)) in
     let (x, held, to_new) = All-contains P (balanced_roots (length old)) (node_over root.start root.count)
     (All-from_recursion P (balanced_roots (length old)) is.new_root_is) it.among in
-    let (path, made, reads) = read H F old new root x held (length new) true (length old) 0 (length new) _ _ (omega arith)
+    let (path, made, reads) = read H F old new root x held (length new) true (length old) 0 (length new) _ _
+    (omega arith)
     (record {
       some = is.some;
       order = is.order;
@@ -406,7 +417,8 @@ made_path H F {old = old} {new} {path} met made =
     let same : held ≡ path = cc in subst (HeldPath H F old new) same is
 
 -- what an evaluation that is Ok says of the claim
-pub met_if : (H : Digest) (F : Data) {m n : ℕ} (old new : List (List ℕ)) {o w : List ℕ} → length old ≡ m → length new ≡ n
+pub met_if : (H : Digest) (F : Data) {m n : ℕ} (old new : List (List ℕ)) {o w : List ℕ} → length old ≡ m → length
+    new ≡ n
     → consistency H F m n ≡ Ok (o, w)
     → ((o ≡ root_of H (leaves_of H old)) × (w ≡ root_of H (leaves_of H new))) ↔ IsConsistencyMet H F m n old new
 met_if H F old new {o} {w} old_count new_count led = (
@@ -422,7 +434,8 @@ met_if H F old new {o} {w} old_count new_count led = (
 )
 
 -- so that the trees over the entries meet that path
-pub held_meeting : {D V A : Type 0} (H : Digest) (F : Data) {m n : ℕ} {old new path : List (List ℕ)} {trees : Trees D V A}
+pub held_meeting : {D V A : Type 0} (H : Digest) (F : Data) {m n : ℕ} {old new path : List (List ℕ)}
+    {trees : Trees D V A}
     → IsConsistencyMet H F m n old new → n ≤ 2 ^ 63 → trees.old ≡ leaves_of H old → trees.new ≡ leaves_of H new
     → consistency_of (old_over H F) (length old) (length new) ≡ Some path → IsTreeMeeting H path old new trees
 held_meeting H F met fits old_is new_is made = record {

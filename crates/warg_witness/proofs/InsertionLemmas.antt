@@ -10,7 +10,6 @@ use Rattle.std.specs.declared.cmp.Ordering.{Ordering}
 use Rattle.std.specs.declared.cmp.Ordering.TheVariants.{Less, Equal, Greater}
 use Rattle.std.proofs.lemmas.Map.Text.{is_eq-slice_cmp}
 use Rattle.std.proofs.lemmas.List.{get_or-map, length-map, take_more, reverse-append}
-use Rattle.std.proofs.lemmas.Option.{IfSome_then}
 use Rattle.std.proofs.lemmas.Slice.Eq.{bytes_eq-Decides}
 use Rattle.warg_map.specs.Bits.{key_bits}
 use Rattle.warg_map.specs.Sparse.{pair_bytes}
@@ -52,10 +51,13 @@ module _ {X : Type 0} (p : X → Bool) where
 pub last_of_digest : (H : List ℕ → List ℕ) (key : List ℕ) (insertions : List (List ℕ × List ℕ))
     → IfSome (last_under H (key_bits H key) insertions) (λ e. key ≡ e.0)
     → last_insertion key insertions ≡ last_under H (key_bits H key) insertions
-last_of_digest H key insertions same =
-    last_with-fewer (λ f. same_bits (key_bits H key) (key_bits H f.0)) (λ f. same_bytes key f.0)
-    (λ f t. rw (← (bytes_eq-Decides key f.0).0 t) (same_bits-itself (key_bits H key))) insertions
-    (IfSome_then (last_under H (key_bits H key) insertions) same (λ f. (bytes_eq-Decides key f.0).1))
+last_of_digest H key insertions same = grind (
+  arith,
+  last_with-fewer,
+  bytes_eq-Decides,
+  same_bits-itself
+      (key_bits H key),
+)
 
 -- so its value is the key's last one
 pub value_of_digest : (H : List ℕ → List ℕ) (key : List ℕ) (insertions : List (List ℕ × List ℕ))
@@ -79,23 +81,28 @@ module _ {K V : Type 0} (kb : K → List ℕ) (vb : V → List ℕ) (es : List (
       → n ≤ length es → e ≡ get_or es (n - 1) e
       → last_insertion key (take n (pair_bytes kb vb es)) ≡ cond same (Some (kb e.0, vb e.1))
       (last_insertion key (take (n - 1) (pair_bytes kb vb es)))
-  last_among key n e same is some le at =
-      let len = length-pair_bytes in
-      let more = take_more (pair_bytes kb vb es) (n - 1) ([], []) (omega arith) in
-      let before : n ≡ n - 1 + 1 = omega arith in
-      let test : same_bytes key (kb e.0) ≡ same = grind (arith, bytes_eq-Decides) in
-      ap (λ i. last_insertion key (take i (pair_bytes kb vb es))) before
-      ∙ rw (more, last_with-push, pair_at (n - 1) e (omega arith) at, test) refl
+  last_among key n e same is some le at = grind (
+    arith,
+    length-pair_bytes,
+    take_more (pair_bytes kb vb es) (n - 1)
+        ([], []),
+    bytes_eq-Decides,
+    last_with-push,
+    pair_at (n - 1) e,
+  )
 
   -- the last under a key's bits among one insertion more
   pub last_under-more : (H : List ℕ → List ℕ) (key : List ℕ) (i : ℕ) (e : K × V) → i < length es → e ≡ get_or es i e
       → last_under H (key_bits H key) (take (i + 1) (pair_bytes kb vb es))
       ≡ cond (same_bits (key_bits H key) (key_bits H (kb e.0))) (Some (kb e.0, vb e.1))
       (last_under H (key_bits H key) (take i (pair_bytes kb vb es)))
-  last_under-more H key i e lt is =
-      let len = length-pair_bytes in
-      let more = take_more (pair_bytes kb vb es) i ([], []) (omega arith) in
-      rw (more, last_with-push, pair_at i e lt is) refl
+  last_under-more H key i e lt is = grind (
+    arith,
+    length-pair_bytes,
+    take_more (pair_bytes kb vb es) i ([], []),
+    last_with-push,
+    pair_at i e lt is,
+  )
 
 -- what is lent after one insertion more
 pub lent_more : {K V : Type 0} (kb : K → List ℕ) (vb : V → List ℕ) (test here : Bool) (e : Bor (K × V))

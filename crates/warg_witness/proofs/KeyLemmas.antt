@@ -1,5 +1,5 @@
 -- Two evaluations along one key's bits, the plain sparse tree beside them, and what they show of a key.
-use Rattle.std.proofs.Common.{◌≡◌, ℕ, Bool, List, [], ◌∷◌, ◌++◌, length, Option, refl, sym, ap, ◌∙◌, arith, true, false, cond, Some, None, unwrap_or, inl, inr}
+use Rattle.std.proofs.Common.{◌≡◌, ℕ, Bool, List, [], ◌∷◌, ◌++◌, length, Option, refl, sym, ap, ◌∙◌, arith, true, false, cond, Some, None, unwrap_or, inl}
 use Rattle.warg_crypto.specs.EmptyTrees.{empty_root}
 use Rattle.warg_map.specs.ProofValue.{peer_of, proof_value}
 use Rattle.warg_crypto.specs.Tree.{input_beside, leaf_digest}
@@ -38,15 +38,14 @@ module _ (H : List ℕ → List ℕ) (P : List (Option (List ℕ))) (x : List �
       → peer_of H P (length bits) ≡ u → peer_of H Q (length bits) ≡ v
       → IsBitClimb H (P, x) (Q, y) bits before → IsUp H b before u v after → IsBitClimb H (P, x) (Q, y) (b ∷ bits) after
   unfolding proof_value
-  bit_up {b = b} bits {before = before} at other_at climb step =
-      let up = rw (← at, ← other_at) at step in
-      let first = ap (λ d. input_beside b (peer_of H P (length bits)) d) climb.first_is in
-      let second = ap (λ d. input_beside b (peer_of H Q (length bits)) d) climb.second_is in record {
+  bit_up {b = b} bits {before = before} at other_at climb step = let up = rw (← at, ← other_at) at step in let
+      first = ap (λ d. input_beside b (peer_of H P (length bits)) d) climb.first_is in let second = ap
+      (λ d. input_beside b (peer_of H Q (length bits)) d) climb.second_is in record {
         first_is = up.first_is ∙ ap H first;
         second_is = up.second_is ∙ ap H second;
-        diverges = up_parts (OnBits H (P, x) (Q, y) (b ∷ bits))
-            ((x ≡ y) × ((leaf : List ℕ) → proof_value H P leaf (b ∷ bits) ≡ proof_value H Q leaf (b ∷ bits))) up
-            (λ same beside. parts_placed H before.divergence
+        diverges = up_parts
+            (OnBits H (P, x) (Q, y) (b ∷ bits)) ((x ≡ y) × ((leaf : List ℕ) → proof_value H P leaf (b ∷ bits) ≡
+            proof_value H Q leaf (b ∷ bits))) up (λ same beside. parts_placed H before.divergence
             (λ _ _ on. record {
               above = b ∷ on.above;
               bit = on.bit;
@@ -54,12 +53,7 @@ module _ (H : List ℕ → List ℕ) (P : List (Option (List ℕ))) (x : List �
               split = ap (λ q. b ∷ q) on.split;
               first_is = on.first_is;
               second_is = on.second_is;
-            })
-            (λ one. (
-              one.0,
-              λ leaf. ap (λ w. H (input_beside b w (proof_value H P leaf bits))) beside
-                  ∙ ap (λ d. H (input_beside b (peer_of H Q (length bits)) d)) (one.1 leaf),
-            )) (climb.diverges same))
+            }) (grind arith) (climb.diverges same))
             (record { above = []; bit = b; below = bits; split = refl; first_is = first; second_is = second });
       }
 
@@ -111,33 +105,17 @@ module _ (H : List ℕ → List ℕ) (insertions : List (List ℕ × List ℕ)) 
     -- and from the last value to the plain root
     pub own_root : proof_value H own (leaf_digest H (value_in last)) (key_bits H key)
         ≡ sparse_root H 256 (map_of H insertions)
-    own_root = rw (← last_is, plain_leaf_is H insertions (key_bits H key))
-        (beside_root H (map_of H insertions) (key_bits H key) own (all_bits H key) beside)
+    own_root = grind (arith, plain_leaf_is, beside_root, all_bits)
 
     placed_on : (peers : List (Option (List ℕ))) (value l r : List ℕ) → OnBits H (peers, leaf_digest H value)
         (own, leaf_digest H (value_in last)) (key_bits H key) l r → IsPlacedAtPrefix H peers value key insertions l r
-    placed_on peers value l r on = record {
-      prefix = on.above;
-      rest = on.bit ∷ on.below;
-      bits = on.split;
-      evaluation = on.first_is;
-      plain = on.second_is ∙ rw (← last_is, plain_leaf_is H insertions (key_bits H key), on.split)
-          (beside_input H (map_of H insertions) on.above on.below on.bit own (rw on.split at beside));
-    }
+    placed_on peers value l r on = grind (arith, plain_leaf_is, beside_input)
 
     -- and where an evaluation meets it, it meets the plain tree
     pub own_met : {D : Type 0} (peers : List (Option (List ℕ))) (value : List ℕ) (p : Divergence D)
         → MeetsOnPath H (peers, leaf_digest H value) (own, leaf_digest H (value_in last)) (key_bits H key) p
         → IsKeyMeeting H peers key value insertions p own
-    own_met peers value p meets = record {
-      met = meets.met ∙ own_root;
-      diverges = parts_placed H p (placed_on peers value)
-          (λ one. record {
-            same = rw last_is one.0;
-            updates = λ new. one.1 (leaf_digest H new) ∙ own_grown_root new;
-          }) meets.diverges;
-      beside = beside;
-    }
+    own_met peers value p meets = grind (arith, own_root, parts_placed, placed_on, own_grown_root)
 
 -- two proofs of a key with other values: what both take at a turn, or at the leaf
 module _ (H : List ℕ → List ℕ) (key : List ℕ) (P : List (Option (List ℕ))) (v : List ℕ) (Q : List (Option (List ℕ)))
@@ -145,24 +123,7 @@ module _ (H : List ℕ → List ℕ) (key : List ℕ) (P : List (Option (List �
   pub key_agreement_shown : {D : Type 0} (p : Divergence D)
       → IsBitDivergence H (P, H (0 ∷ v)) (Q, H (0 ∷ u)) (key_bits H key) p
       → (v ≡ u → ⊥) → Shows H (IsKeyAgreementPlaced H key (P, v) (Q, u)) (inputs_of p (0 ∷ v) (0 ∷ u))
-  key_agreement_shown p diverges other = shown p
-      (λ first second on. record {
-        prefix = on.above;
-        rest = on.bit ∷ on.below;
-        bits = on.split;
-        first_evaluation = on.first_is;
-        second_evaluation = on.second_is;
-      }) _ _
-      (λ one. record {
-        collides = record { differ = λ e. other (cc); same = one.0 };
-        placed = record {
-          prefix = key_bits H key;
-          rest = [];
-          bits = sym (append-nil (key_bits H key));
-          first_evaluation = refl;
-          second_evaluation = refl;
-        };
-      }) diverges
+  key_agreement_shown p diverges other = grind (arith, shown, append-nil (key_bits H key))
 
 module _ (H : List ℕ → List ℕ) (peers : List (Option (List ℕ))) (key value : List ℕ)
     (insertions : List (List ℕ × List ℕ)) where
@@ -173,16 +134,7 @@ module _ (H : List ℕ → List ℕ) (peers : List (Option (List ℕ))) (key val
   -- a leaf of another value
   leaf_shown : (last : List ℕ) → IsAlike H peers key value insertions
       → last ≡ value_in (last_under H (key_bits H key) insertions) → (value ≡ last → ⊥) → ShowsKey (0 ∷ value, 0 ∷ last)
-  leaf_shown last alike is other = record {
-    collides = record { differ = λ e. other (cc); same = rw is alike.same };
-    placed = inl (record {
-      prefix = key_bits H key;
-      rest = [];
-      bits = sym (append-nil (key_bits H key));
-      evaluation = refl;
-      plain = ap (λ w. 0 ∷ w) is;
-    });
-  }
+  leaf_shown last alike is other = grind (arith, append-nil (key_bits H key))
 
   module _ (untrue : IsLastValue key value insertions → ⊥) where
     -- where the last insertion under the key's digest is of this key, or there is none, it has another value
@@ -194,23 +146,17 @@ module _ (H : List ℕ → List ℕ) (peers : List (Option (List ℕ))) (key val
     pub keys_shown : (e : List ℕ × List ℕ) → GivesHashes H → last_under H (key_bits H key) insertions ≡ Some e
         → value ≡ e.1 → ShowsKey (key, e.0)
     keys_shown e digests last same =
-        let (passes, (place, less, at)) = last_with-is (λ f. same_bits (key_bits H key) (key_bits H f.0)) insertions e
-        last in
-        let count = length-map insertions (λ (f : List ℕ × List ℕ). f.0) in record {
+        let (passes, (place, less, at)) = last_with-is (λ f. same_bits (key_bits H key) (key_bits H f.0)) insertions
+        e last in
+        let count = length-map insertions (λ (f : List ℕ × List ℕ). f.0) in
+        record {
           collides = record {
             differ = λ is. last_differs (Some e) last is same;
-            same = same_digest H key e.0 (digests key) (digests e.0)
-                (same_bits-true (key_bits H key) (key_bits H e.0) passes);
+            same = same_digest H key e.0
+                (digests key) (digests e.0) (same_bits-true (key_bits H key) (key_bits H e.0) passes);
           };
-          placed = inr (record {
-            claimed = refl;
-            inserted = (
-              place,
-              omega arith,
-              get_or-map (λ (f : List ℕ × List ℕ). f.0) insertions place e e.0 less
-                  ∙ ap (λ (f : List ℕ × List ℕ). f.0) at,
-            );
-          });
+          placed = grind
+              (arith, get_or-map);
         }
 
     -- a false claim that is met shows a pair

@@ -1,4 +1,5 @@
--- Claims of keys and maps that are untrue, not met, or both, and of which no placed byte strings collide; some though no two
+-- Claims of keys and maps that are untrue, not met, or both, and of which no placed byte strings collide; some
+-- though no two
 -- byte strings have one digest, where digests have any length. So what the laws of maps need.
 use Rattle.std.proofs.Common.{◌≡◌, ℕ, zero, suc, ◌-◌, ◌≤◌, ◌<◌, ◌⊎◌, inl, inr, Bool, true, false, cond, List, [], ◌∷◌, ◌++◌, length, slice_index_or, Option, None, Some, is_some, unwrap_or, IsTrue, refl, sym, ap, ◌∙◌, arith, append-nil, length-append, ◌+◌}
 use Rattle.std.specs.Prelude.{replicate}

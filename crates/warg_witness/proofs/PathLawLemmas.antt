@@ -1,5 +1,7 @@
--- A path that leads to the root of a tree leads from its entry, or collides with it; two paths that lead to one root lead
--- from one value, or collide; and a consistency path that leads to the roots of two trees shows that the one's entries begin
+-- A path that leads to the root of a tree leads from its entry, or collides with it; two paths that lead to one root
+-- lead
+-- from one value, or collide; and a consistency path that leads to the roots of two trees shows that the one's
+-- entries begin
 -- the other's, or collides with a tree, or both trees collide.
 use Rattle.std.proofs.Common.{◌≡◌, ℕ, ◌+◌, ◌<◌, ◌≤◌, ◌≢◌, ◌⊎◌, inl, inr, List, ◌∷◌, [], length, reverse, slice_index_or, Some, refl, sym, ap, ◌∙◌, arith, length-append, ◌-◌, Option, None, subst}
 use Rattle.std.proofs.lemmas.List.{reverse-reverse}
@@ -13,7 +15,7 @@ use Rattle.warg_witness.specs.PathClaims.{IsRecord, IsRecordMet, IsRecordAgreeme
 use Rattle.warg_witness.specs.PathPlaced.{IsRecordPlaced, IsRecordAgreementPlaced}
 use Rattle.warg_witness.specs.Inputs.{plain_input}
 use Rattle.warg_witness.proofs.CutLemmas.{plain_digest_is, leaves_count, have_range}
-use Rattle.warg_witness.proofs.RecordLemmas.{leads_inside, paths_climbed, whole_parts, inputs_placed, leaf_placed, record_agreement_shown, own_exists, own_met, record_placed, plain_root}
+use Rattle.warg_witness.proofs.RecordLemmas.{paths_climbed, whole_parts, inputs_placed, leaf_placed, record_agreement_shown, own_exists, own_met, record_placed, plain_root}
 use Rattle.std.proofs.lemmas.Bool.{lt-leb, cases_lt}
 use Rattle.warg_log.specs.Ranges.{leaves_from}
 use Rattle.warg_witness.specs.Ranges.{IsPart, IsAround}
@@ -27,7 +29,8 @@ use Rattle.warg_witness.specs.Claims.{Begins}
 use Rattle.warg_paths.specs.Ways.IsOnGrowth.{whole, front, rest}
 use Rattle.warg_witness.specs.TreePlaced.{IsTreePlaced}
 use Rattle.std.proofs.lemmas.Bool.Decides.{nat_tests}
-use Rattle.warg_witness.proofs.GrowthLemmas.{same_front, all_old, no_roots, grown_is, over_is, front_turn as roots_front, rest_turn as roots_rest, front_takes, rest_takes, turning}
+use Rattle.warg_paths.proofs.ForCallers.{leads_inside, no_roots, grown_is, over_is, front_turn as roots_front, rest_turn as roots_rest, front_takes, rest_takes}
+use Rattle.warg_witness.proofs.GrowthLemmas.{same_front, all_old, turning}
 
 -- two branches that are one, of which the digests on the right have one length
 pub left_parts : (l r p q : List ℕ) → length r ≡ length q → branch_input l r ≡ branch_input p q → (l ≡ p) × (r ≡ q)
@@ -260,7 +263,8 @@ module _ (H : List ℕ → List ℕ) (gives : GivesHashes H) (path old new : Lis
                                   (λ _ _ both. inr (inr both)) (omega arith) differ
                                   (rw fronts at (part_front a m old_part (omega arith))) (part_front a n new_part more)
                                   (sym old_parts.0 ∙ new_parts.0)
-                              | inr there ↦ down below None (m - front_of n) (a + front_of n) (n - front_of n) (omega arith)
+                              | inr there ↦ down below None (m - front_of n) (a + front_of n) (n - front_of n)
+                                  (omega arith)
                                   (omega arith) (rw fronts at (part_rest a m old_part (omega arith)))
                                   (part_rest a n new_part more)
                                   (rest known m a n top below way less lt) (below_is ∙ ap (λ z. Some (z, x)) old_parts.1

@@ -187,21 +187,12 @@ record_agreement_difference H law =
 pub tree_needs : NeedsEach TreeLaw
 unfolding roots_down root_within front_of front_within
 tree_needs = record {
-  hashes = λ law. none_collide _ (law own ([] ∷ []) ((0 ∷ []) ∷ []) ([] ∷ [] ∷ []) tt refl (λ is. absurd cc));
-  meeting = λ H law.
-      let c = law [] ((0 ∷ []) ∷ []) [] tt tt (λ is. absurd cc) in
-      elim c.placed [
-        | inl old ↦ no_turn old.turn.on_way
-        | inr (inl new) ↦ no_turn new.turn.on_way
-        | inr (inr both) ↦ let one = part_of_one both.old_part in omega (arith, one.1, (part_in both.new_part).0)
-      ];
-  untruth = λ H law.
-      let c = law [] ([] ∷ []) ([] ∷ []) tt refl tt in
-      elim c.placed [
-        | inl old ↦ no_turn old.turn.on_way
-        | inr (inl new) ↦ no_turn new.turn.on_way
-        | inr (inr both) ↦ c.collide.differ (both.old_plain ∙ sym both.new_plain)
-      ];
+  hashes = λ law. none_collide _ (law own ([] ∷ []) ((0 ∷ []) ∷ []) ([] ∷ [] ∷ []) tt refl
+      (λ is. absurd cc));
+  meeting = λ H law. let c = law [] ((0 ∷ []) ∷ []) [] tt tt (λ is. absurd cc) in grind
+      (arith, no_turn, part_of_one, part_in);
+  untruth = λ H law. let c = law [] ([] ∷ []) ([] ∷ []) tt refl tt in
+      grind (arith, no_turn);
 }
 
 -- One leaf has one balanced root.

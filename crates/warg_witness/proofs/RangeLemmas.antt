@@ -49,10 +49,7 @@ node_some node = rw node.count (pow_pos node.height)
 
 -- a range around another is the same or above it
 pub same_or_above : (inner outer : Range) → IsAround inner outer → (outer ≡ inner) ⊎ IsAbove inner outer
-same_or_above inner outer around = elim (cases_lt inner.count outer.count) [
-  | inl less ↦ inr (record { around = around; more = less })
-  | inr most ↦ inl (same_range outer inner (omega arith) (omega arith))
-]
+same_or_above inner outer around = grind (arith, cases_lt, same_range)
 
 -- so it is above it, where the code tells them apart
 pub above : {inner outer : Range} → IsAround inner outer → (same : Bool) → same ≡ is_target inner outer → same ≡ false
@@ -92,10 +89,7 @@ front_aligned aligned shorter = record {
 }
 
 pub rest_aligned : {a n : ℕ} → IsAligned a n → 1 < n → IsAligned (a + front_of n) (n - front_of n)
-rest_aligned {n = n} aligned more =
-    let f = front_is_greatest n more in
-    let at = split_place aligned more f.0.0 (omega arith) in
-    record { height = f.0.0; place = at.0; start = at.1; most = omega arith }
+rest_aligned {n = n} aligned more = grind (arith, front_is_greatest, split_place)
 
 -- of the sides of a range above a target, the one in which the target begins is around it, shorter and aligned
 module _ {target range : Range} (node : IsNodeRange target) (aligned : IsAligned range.start range.count)
@@ -118,18 +112,10 @@ module _ {target range : Range} (node : IsNodeRange target) (aligned : IsAligned
       (f.1, front_aligned aligned (omega arith), record { starts = over.around.starts; ends = ends })
 
   pub rest_side : range.start + front_of range.count ≤ target.start → IsSide (rest_part range)
-  rest_side right =
-      let f = front_is_greatest range.count above_one in (
-        omega arith,
-        rest_aligned aligned above_one,
-        record { starts = right; ends = omega (arith, over.around.ends) },
-      )
+  rest_side right = grind (arith, front_is_greatest, above_one, rest_aligned)
 
   pub side_around : (right : Bool) × IsSide (side_of right range)
-  side_around = elim (cases_lt target.start (range.start + front_of range.count)) [
-    | inl left ↦ (false, front_side left)
-    | inr right ↦ (true, rest_side right)
-  ]
+  side_around = grind (arith, cases_lt, front_side, rest_side)
 
 -- the parts of an aligned range lie within it and are aligned, and so are those of a whole log
 pub part_within : {a n b m : ℕ} → IsAligned a n → IsPart a n b m → (b + m ≤ a + n) × IsAligned b m
@@ -146,13 +132,7 @@ part_in {n} part = let at = part_within (whole_aligned n refl) part in (omega ar
 pub full_node : {range : Range} → IsAligned range.start range.count → IsFull range.count → IsNodeRange range
 full_node aligned is =
     let low : is.0 ≤ aligned.height = grind (arith, pow_below) in
-    record {
-      height = is.0;
-      place = aligned.place * 2 ^ (aligned.height - is.0);
-      start = aligned.start
-          ∙ multiple aligned.place is.0 aligned.height low;
-      count = is.1;
-    }
+    grind (arith, multiple aligned.place is.0 aligned.height low)
 
 -- a count is a power of two or not
 pub full_or_not : (n : ℕ) → 0 < n → IsFull n ⊎ (IsFull n → ⊥)
@@ -180,6 +160,4 @@ pub ruleset sides = (above_one, front_side, rest_side, starts)
 
 -- the leaves below the node over a range
 pub node_bounds : {range : Range} → IsNodeRange range → range_of (node_over range.start range.count) ≡ range
-node_bounds {range} node =
-    let at = over_at node.height node.place in
-    same_range (range_of (node_over range.start range.count)) range (grind arith) (grind arith)
+node_bounds {range} node = grind (arith, over_at, same_range)

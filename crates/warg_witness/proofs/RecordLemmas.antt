@@ -1,24 +1,23 @@
 -- Where paths lead, turn by turn, two evaluations along paths of one place, and a tree's own path.
-use Rattle.std.proofs.Common.{◌≡◌, inl, inr, ℕ, zero, suc, ◌+◌, ◌-◌, ◌==◌, ◌<◌, ◌≤◌, List, [], ◌∷◌, ◌++◌, length, reverse, get_or, Option, Some, None, if◌then◌else◌, refl, sym, ap, ◌∙◌, arith}
+use Rattle.std.proofs.Common.{◌≡◌, inl, inr, ℕ, zero, suc, ◌+◌, ◌-◌, ◌<◌, ◌≤◌, List, [], ◌∷◌, ◌++◌, length, reverse, get_or, Option, Some, None, if◌then◌else◌, refl, sym, ap, ◌∙◌, arith}
 use Rattle.std.specs.Option.{MatchOption}
-use Rattle.std.proofs.lemmas.Bool.Decides.{nat_tests}
-use Rattle.std.proofs.lemmas.Bool.{cases_lt, cases_Bool, lt-leb, le-leb, lt-ltb, le-ltb, eqb-true}
+use Rattle.std.proofs.lemmas.Bool.{cases_lt, lt-leb, le-leb, lt-ltb, le-ltb}
 use Rattle.std.proofs.lemmas.List.{reverse-append}
 use Rattle.std.proofs.Math.Seq.{take-length}
-use Rattle.warg_crypto.specs.Tree.{branch_input, input_beside}
+use Rattle.warg_crypto.specs.Tree.{input_beside}
 use Rattle.warg_crypto.proofs.ForCallers.{HasSize}
-use Rattle.warg_log.specs.Cut.{joined, old_over}
+use Rattle.warg_log.specs.Cut.{old_over}
 use Rattle.warg_log.specs.Ranges.{Range, leaves_from, front_part, rest_part, IsAligned}
 use Rattle.warg_log.specs.Tree.{front_of, leaves_of, root_of, root_over, own_digest}
 use Rattle.warg_log.proofs.ForCallers.{root_over_parts, front_is_greatest, old_own_range}
 use Rattle.warg_paths.specs.Paths.{inclusion_of, inclusion_root, root_down, beside, path_within}
-use Rattle.warg_paths.specs.Ways.{IsOnWay, turn_input, ArePathInputs}
+use Rattle.warg_paths.specs.Ways.{IsOnWay, ArePathInputs, is_right, leaf_in, count_in, start_in}
 use Rattle.warg_paths.specs.Ways.IsOnWay.{whole, front, rest}
-use Rattle.warg_paths.proofs.ForCallers.{root_one}
+use Rattle.warg_paths.proofs.ForCallers.{root_one, leads_inside, inside_leads, at_leaf, one_or_more, leads_up, taken_at, led_down, way_in}
 use Rattle.warg_witness.specs.Inputs.{plain_input}
 use Rattle.warg_witness.specs.PathClaims.{IsRecordMet, IsRecordAgreement}
 use Rattle.warg_witness.specs.PathPlaced.{record_input, IsRecordAgreementPlaced, IsRecordPlaced}
-use Rattle.warg_witness.specs.Private.Turns.{IsUp, is_right, leaf_in, count_in, Along, LeadNowhere, IsPathClimb, NeverMeet, IsPathsMeeting}
+use Rattle.warg_witness.specs.Private.Turns.{IsUp, Along, LeadNowhere, IsPathClimb, NeverMeet, IsPathsMeeting}
 use Rattle.warg_witness.specs.Private.Divergence.{Parts, Shows, at_bottom, inputs_of}
 use Rattle.warg_witness.specs.declared.divergence.Climb.{Climb}
 use Rattle.warg_witness.specs.declared.divergence.Divergence.{Divergence}
@@ -26,126 +25,14 @@ use Rattle.warg_witness.proofs.ClimbLemmas.{shown, parts_placed, up_parts, up_so
 use Rattle.warg_witness.proofs.CutLemmas.{leaves_count, plain_digest_is}
 use Rattle.warg_witness.proofs.RangeLemmas.{Digest, front_aligned, rest_aligned, whole_aligned}
 
--- a path that leads somewhere, from a place that is there
-pub leads_inside : (H : Digest) (m n : ℕ) (x root : List ℕ) (path : List (List ℕ)) → inclusion_root H m n x path
-    ≡ Some root → (m < n) × (root_down H m n x (reverse path) ≡ Some root)
-leads_inside H m n x root path is = grind (arith, nat_tests)
-
-inside_leads : (H : Digest) (m n : ℕ) (x : List ℕ) (path : List (List ℕ)) → m < n → inclusion_root H m n x path
-    ≡ root_down H m n x (reverse path)
-inside_leads H m n x path lt = rw (lt-ltb m n lt) refl
-
 -- a path from the topmost digest down
 pub turned : (path below : List (List ℕ)) (top : List ℕ) → path ≡ below ++ top ∷ [] → reverse path ≡ top ∷ reverse below
 turned path below top is = rw is (reverse-append below (top ∷ []))
 
--- of more leaves, the root is the branch over that of the part which has the leaf and the topmost digest
-front_leads : (H : Digest) (m n : ℕ) (x top : List ℕ) (below : List (List ℕ)) → 1 < n → m < front_of n
-    → root_down H m n x (top ∷ below) ≡ joined H (root_down H m (front_of n) x below) (Some top)
-unfolding root_down
-front_leads H m n x top below more lt = rw (lt-leb n 1 more, lt-ltb m (front_of n) lt) refl
-
-rest_leads : (H : Digest) (m n : ℕ) (x top : List ℕ) (below : List (List ℕ)) → 1 < n → front_of n ≤ m
-    → root_down H m n x (top ∷ below) ≡ joined H (Some top) (root_down H (m - front_of n) (n - front_of n) x below)
-unfolding root_down
-rest_leads H m n x top below more le = rw (lt-leb n 1 more, le-ltb m (front_of n) le) refl
-
--- where no digests are left, there is one leaf
-at_leaf : (H : List ℕ → List ℕ) (m n : ℕ) (x root : List ℕ) → root_down H m n x [] ≡ Some root → (n ≡ 1) × (x ≡ root)
-unfolding root_down
-at_leaf H m n x root is = elim (cases_Bool (n == 1)) [
-  | inl one ↦ let same = rw one at is in (eqb-true n 1 one, cc)
-  | inr more ↦ absurd (let none = rw more at is in cc)
-]
-
-more_leaves : (H : List ℕ → List ℕ) (m n : ℕ) (x root top : List ℕ) (below : List (List ℕ))
-    → root_down H m n x (top ∷ below) ≡ Some root → 1 < n
-unfolding root_down
-more_leaves H m n x root top below is = elim (cases_lt 1 n) [
-  | inl more ↦ more
-  | inr few ↦ absurd (let none = rw (le-leb n 1 few) at is in cc)
-]
-
-joined_left : (H : List ℕ → List ℕ) (left : Option (List ℕ)) (right root : List ℕ) → joined H left (Some right)
-    ≡ Some root → (l : List ℕ) × (left ≡ Some l) × (H (branch_input l right) ≡ root)
-joined_left H (Some l) right root is = (l, refl, cc)
-joined_left H None right root is = absurd (cc)
-
-joined_right : (H : List ℕ → List ℕ) (left : List ℕ) (right : Option (List ℕ)) (root : List ℕ)
-    → joined H (Some left) right ≡ Some root → (r : List ℕ) × (right ≡ Some r) × (H (branch_input left r) ≡ root)
-joined_right H left (Some r) root is = (r, refl, cc)
-joined_right H left None root is = absurd (cc)
-
--- so it does by way of the part that has the leaf: the root there, and what is taken here
-leads_up : (H : Digest) (m n : ℕ) (x top l : List ℕ) (below : List (List ℕ)) → 1 < n
-    → root_down H (leaf_in m n) (count_in m n) x below ≡ Some l → root_down H m n x (top ∷ below)
-    ≡ Some (H (input_beside (is_right m n) top l))
-leads_up H m n x top l below more led = elim (cases_lt m (front_of n)) [
-  | inl lt ↦ rw (lt-leb (front_of n) m lt) (front_leads H m n x top below more lt ∙ ap (λ l. joined H l (Some top))
-      (rw (lt-leb (front_of n) m lt) at led))
-  | inr le ↦ rw (le-leb (front_of n) m le) (rest_leads H m n x top below more le ∙ ap (λ r. joined H (Some top) r)
-      (rw (le-leb (front_of n) m le) at led))
-]
-
-taken_at : (H : Digest) (m n : ℕ) (x top l : List ℕ) (below : List (List ℕ))
-    → root_down H (leaf_in m n) (count_in m n) x below ≡ Some l → turn_input H x m n top below
-    ≡ Some (input_beside (is_right m n) top l)
-taken_at H m n x top l below led = elim (cases_lt m (front_of n)) [
-  | inl lt ↦ let is : root_down H m (front_of n) x below ≡ Some l = rw (lt-leb (front_of n) m lt) at led in
-      rw (lt-leb (front_of n) m lt, lt-ltb m (front_of n) lt, is) refl
-  | inr le ↦ let is : root_down H (m - front_of n) (n - front_of n) x below ≡ Some l =
-      rw (le-leb (front_of n) m le) at led in rw (le-leb (front_of n) m le, le-ltb m (front_of n) le, is) refl
-]
-
-record IsLed (H : Digest) (m n : ℕ) (x root top : List ℕ) (below : List (List ℕ)) : Type 0 where
-  digest : List ℕ
-  more : 1 < n
-  led : root_down H (leaf_in m n) (count_in m n) x below ≡ Some digest
-  root_is : root ≡ H (input_beside (is_right m n) top digest)
-
-led_down : (H : Digest) (m n : ℕ) (x root top : List ℕ) (below : List (List ℕ)) → root_down H m n x (top ∷ below)
-    ≡ Some root → IsLed H m n x root top below
-led_down H m n x root top below is =
-    let more = more_leaves H m n x root top below is in
-    elim (cases_lt m (front_of n)) [
-      | inl lt ↦
-          let (l, l_is, root_is) = joined_left H _ top _ (sym (front_leads H m n x top below more lt) ∙ is) in
-          record {
-            digest = l;
-            more = more;
-            led = rw (lt-leb (front_of n) m lt) l_is;
-            root_is = rw (lt-leb (front_of n) m lt) (sym root_is);
-          }
-      | inr le ↦
-          let (r, r_is, root_is) = joined_right H top _ _ (sym (rest_leads H m n x top below more le) ∙ is) in
-          record {
-            digest = r;
-            more = more;
-            led = rw (le-leb (front_of n) m le) r_is;
-            root_is = rw (le-leb (front_of n) m le) (sym root_is);
-          }
-    ]
-
--- the part that has the leaf, of the n leaves from a on
-abbrev start_in : ℕ → ℕ → ℕ → ℕ
-start_in m a n = if is_right m n then a + front_of n else a
-
-way_in : {m₀ a₀ n₀ m a n : ℕ} {ds₀ below : List (List ℕ)} {top : List ℕ} → 1 < n
-    → IsOnWay m₀ a₀ n₀ ds₀ m a n (top ∷ below) → IsOnWay m₀ a₀ n₀ ds₀ (leaf_in m n) (start_in m a n)
-    (count_in m n) below
-way_in {m = m} {a} {n} {below = below} {top} more way = elim (cases_lt m (front_of n)) [
-  | inl lt ↦ rw (lt-leb (front_of n) m lt) (front m a n top below way more lt)
-  | inr le ↦ rw (le-leb (front_of n) m le) (rest m a n top below way more le)
-]
-
+-- where the part that has the leaf stands
 bounds_in : (m a n : ℕ) → m < n → 1 < n → (start_in m a n + leaf_in m n ≡ a + m) × (leaf_in m n < count_in m n)
     × (start_in m a n + count_in m n ≤ a + n) × (count_in m n < n)
-bounds_in m a n inside more =
-    let f = front_is_greatest n more in
-    elim (cases_lt m (front_of n)) [
-      | inl lt ↦ rw (lt-leb (front_of n) m lt) (refl, lt, omega arith, omega arith)
-      | inr le ↦ rw (le-leb (front_of n) m le) (omega arith, omega arith, omega arith, omega arith)
-    ]
+bounds_in m a n inside more = grind (arith, front_is_greatest, cases_lt, lt-leb, le-leb)
 
 -- the root over all leaves of a tree is its root
 pub whole_root : (H : Digest) (tree : List (List ℕ)) → root_over H tree 0 (length tree) ≡ root_of H tree
@@ -166,11 +53,7 @@ module _ {D : Type 0} (H : Digest) (x y : List ℕ) where
   pub leaf_climb : {m n : ℕ} {climb : Climb D} (path other : List (List ℕ)) → n ≡ 1 → length path ≡ 0
       → length other ≡ 0 → climb ≡ at_bottom x y
       → IsPathClimb H (x, reverse path) (y, reverse other) m n climb
-  leaf_climb {m} path other one none others bottom = rw (one, bottom) (record {
-    first_led = root_one H m x path none;
-    second_led = root_one H m y other others;
-    diverges = λ same. same;
-  })
+  leaf_climb {m} path other one none others bottom = grind (arith, root_one)
 
   module _ {t u : List ℕ} {ds es : List (List ℕ)} (m n : ℕ) (more : 1 < n) where
     pub part_up : {before after : Climb D}
@@ -179,33 +62,22 @@ module _ {D : Type 0} (H : Digest) (x y : List ℕ) where
         → IsPathClimb H (x, t ∷ ds) (y, u ∷ es) m n after
     part_up {before} climb up =
         let Taken : List ℕ → List ℕ → Type 0 = λ first second. Along (t ∷ ds) (u ∷ es) m n
-        (λ index count path other. ArePathInputs H index count x path y other first second) in record {
+        (λ index count path other. ArePathInputs H index count x path y other first second) in
+        record {
           first_led = leads_up H m n x t _ ds more climb.first_led ∙ ap Some (sym up.first_is);
-          second_led = leads_up H m n y u _ es more climb.second_led ∙ ap Some (sym up.second_is);
-          diverges = up_parts Taken (x ≡ y) up
-              (λ same _. parts_placed H before.divergence (λ _ _ at. along_up m n _ more at) (λ one. one)
-              (climb.diverges same))
-              (λ _ _ _ _ a way other_way. record {
-                leaf = m;
-                from = a;
-                count = n;
-                top = t;
-                other_top = u;
-                below = ds;
-                other_below = es;
-                on_way = way;
-                other_on_way = other_way;
-                first_evaluation = taken_at H m n x t _ ds climb.first_led;
-                second_evaluation = taken_at H m n y u _ es climb.second_led;
-              });
+          second_led =
+              leads_up H m n y u _ es more climb.second_led ∙ ap Some (sym up.second_is);
+          diverges = up_parts Taken
+              (x ≡ y) up (λ same _. parts_placed H before.divergence (λ _ _ at. along_up m n _ more at) (λ one. one)
+              (climb.diverges same)) (grind (arith, taken_at));
         }
 
 -- where one leads nowhere in the part that has the leaf, it leads nowhere
 pub part_nowhere : (H : Digest) (x y t u : List ℕ) (ds es : List (List ℕ)) (m n : ℕ)
     → LeadNowhere H (x, ds) (y, es) (leaf_in m n) (count_in m n)
     → LeadNowhere H (x, t ∷ ds) (y, u ∷ es) m n
-part_nowhere H x y t u ds es m n nowhere = λ first second is other. nowhere _ _ (led_down H m n x first t ds is).led
-    (led_down H m n y second u es other).led
+part_nowhere H x y t u ds es m n nowhere = λ first second is other. nowhere _ _ (led_down H m n x first t ds is).2
+    (led_down H m n y second u es other).2
 
 -- two paths of which one leads nowhere, that lead to two digests, and that lead to one
 module _ (H : Digest) (x y : List ℕ) (path other : List (List ℕ)) (m n : ℕ) where
@@ -225,23 +97,16 @@ module _ (H : Digest) (x y : List ℕ) (path other : List (List ℕ)) (m n : ℕ
       → MatchOption met (¬ (top.first ≡ top.second)) (λ q. (top.first ≡ top.second) × (q ≡ top.divergence))
       → MatchOption met (NeverMeet H (x, path) (y, other) m n)
       (IsPathsMeeting H (x, path) (y, other) m n)
-  paths_met {top = top} climb inside None apart = λ root is other_is.
-      let one : Some top.first ≡ Some root = sym climb.first_led ∙ (leads_inside H m n x root path is).1 in
-      let two : Some top.second ≡ Some root = sym climb.second_led ∙ (leads_inside H m n y root other other_is).1 in
-      apart (cc)
-  paths_met {top = top} climb inside (Some q) is = rw is.1 (record {
-    root = top.first;
-    first_is = inside_leads H m n x path inside ∙ climb.first_led;
-    second_is = inside_leads H m n y other inside ∙ climb.second_led ∙ ap Some (sym is.0);
-    diverges = whole_parts climb is.0;
-  })
+  paths_met {top = top} climb inside None apart = grind (arith, leads_inside)
+  paths_met {top = top} climb inside (Some q) is = grind (
+    arith,
+    inside_leads H m n x path inside,
+    inside_leads H m
+        n y other inside,
+    whole_parts climb is.0,
+  )
 
 -- two paths of one place have as many digests, and come to the leaf without any
-one_or_more : (H : Digest) (m n : ℕ) (x y root other top : List ℕ) (below : List (List ℕ)) → root_down H m n x []
-    ≡ Some root → root_down H m n y (top ∷ below) ≡ Some other → ⊥
-one_or_more H m n x y root other top below is other_is = let one = (at_leaf H m n x root is).0 in
-    let more = more_leaves H m n y other top below other_is in omega arith
-
 abbrev AtLeaf : ℕ → ℕ → List (List ℕ) → List (List ℕ) → Type 0
 AtLeaf index count path other = (m : ℕ) × (a : ℕ) × (n : ℕ) × IsOnWay index 0 count (reverse path) m a n []
     × IsOnWay index 0 count (reverse other) m a n []
@@ -252,38 +117,31 @@ at_leaves H x y root other m n [] [] is other_is = λ _ _ _ _ a way other_way. (
 at_leaves H x y root other m n [] (u ∷ es) is other_is = absurd (one_or_more H m n _ _ _ _ _ _ is other_is)
 at_leaves H x y root other m n (t ∷ ds) [] is other_is = absurd (one_or_more H m n _ _ _ _ _ _ other_is is)
 at_leaves H x y root other m n (t ∷ ds) (u ∷ es) is other_is =
-    let at = led_down H m n x root t ds is in
-    let other_at = led_down H m n y other u es other_is in
-    along_up m n AtLeaf at.more
-    (at_leaves H x y at.digest other_at.digest (leaf_in m n) (count_in m n) ds es at.led other_at.led)
+    let (p, more, led, _) = led_down H m n x root t ds is in
+    let (q, _, other_led, _) = led_down H m n y other u es other_is in
+    along_up m n AtLeaf more
+    (at_leaves H x y p q (leaf_in m n) (count_in m n) ds es led other_led)
 
 -- two that lead somewhere go up side by side
 module _ {D : Type 0} (H : Digest) (gives : HasSize H) (x y : List ℕ) (size : length x ≡ length y) where
   pub paths_climbed : (m n : ℕ) (ds es : List (List ℕ)) (p q : List ℕ) → root_down H m n x ds ≡ Some p
       → root_down H m n y es ≡ Some q → (climb : Climb D) × IsPathClimb H (x, ds) (y, es) m n climb
       × (length climb.first ≡ length climb.second)
-  paths_climbed m n [] [] p q is other_is = (
-    at_bottom x y,
-    record {
-      first_led = is ∙ ap Some (sym (at_leaf H m n x p is).1);
-      second_led = other_is ∙ ap Some (sym (at_leaf H m n y q other_is).1);
-      diverges = λ same. same;
-    },
-    size,
-  )
+  paths_climbed m n [] [] p q is other_is = (at_bottom x y, grind (arith, at_leaf), size)
   paths_climbed m n [] (e ∷ es) p q is other_is = absurd (one_or_more H m n _ _ _ _ _ _ is other_is)
   paths_climbed m n (d ∷ ds) [] p q is other_is = absurd (one_or_more H m n _ _ _ _ _ _ other_is is)
   paths_climbed m n (d ∷ ds) (e ∷ es) p q is other_is =
-      let at = led_down H m n x p d ds is in
-      let other_at = led_down H m n y q e es other_is in
-      let below = paths_climbed (leaf_in m n) (count_in m n) ds es at.digest other_at.digest at.led other_at.led in
+      let (_, more, led, _) = led_down H m n x p d ds is in
+      let (_, _, other_led, _) = led_down H m n y q e es other_is in
+      let below = paths_climbed (leaf_in m n) (count_in m n) ds es _ _ led other_led in
       let step = up_somewhere {H = H} (is_right m n) below.0 d e below.2 in
-      (step.0, part_up H x y m n at.more below.1 step.1, up_sizes gives step.1)
+      (step.0, part_up H x y m n more below.1 step.1, up_sizes gives step.1)
 
 -- what two evaluations take at a turn, or at the leaf, stands on the way
 module _ (H : Digest) (index count : ℕ) (path : List (List ℕ)) (v : List ℕ) (other_path : List (List ℕ))
     (u : List ℕ) where
-  pub inputs_placed : (first second : List ℕ) → ArePathInputs H index count (H (0 ∷ v)) path (H (0 ∷ u)) other_path first
+  pub inputs_placed : (first second : List ℕ) → ArePathInputs H index count (H (0 ∷ v)) path (H (0 ∷ u)) other_path
+      first
       second → IsRecordAgreementPlaced H index count (path, v) (other_path, u) first second
   inputs_placed first second at = search at
 
@@ -292,28 +150,15 @@ module _ (H : Digest) (index count : ℕ) (path : List (List ℕ)) (v : List ℕ
       → IsRecordAgreementPlaced H index count (path, v) (other_path, u) (0 ∷ v) (0 ∷ u)
   leaf_placed {root} {other} is other_is =
       let (m, a, n, way, other_way) = at_leaves H _ _ root other index count (reverse path) (reverse other_path)
-      (leads_inside H index count _ _ path is).1 (leads_inside H index count _ _ other_path other_is).1 index count path
-      other_path 0 whole whole in
-      record {
-        leaf = m;
-        from = a;
-        count = n;
-        digests = [];
-        other_digests = [];
-        on_way = way;
-        other_on_way = other_way;
-        first_evaluation = refl;
-        second_evaluation = refl;
-      }
+      (leads_inside H index count _ _ path is).1 (leads_inside H index count _ _ other_path other_is).1 index count
+      path other_path 0 whole whole in
+      grind arith
 
   -- what a divergence of two paths shows, where the values differ
   pub record_agreement_shown : {D : Type 0} (p : Divergence D) → (v ≡ u → ⊥)
       → IsPathsMeeting H (H (0 ∷ v), path) (H (0 ∷ u), other_path) index count p
       → Shows H (IsRecordAgreementPlaced H index count (path, v) (other_path, u)) (inputs_of p (0 ∷ v) (0 ∷ u))
-  record_agreement_shown p apart met = shown p inputs_placed _ _ (λ one. record {
-    collides = record { differ = λ e. apart (cc); same = one };
-    placed = leaf_placed met.first_is met.second_is;
-  }) met.diverges
+  record_agreement_shown p apart met = grind (arith, shown, inputs_placed, leaf_placed met.first_is met.second_is)
 
 -- The root over the part beside the one that has leaf m of the n leaves from a on.
 abbrev beside_root : Digest → List (List ℕ) → ℕ → ℕ → ℕ → List ℕ
@@ -332,11 +177,7 @@ module _ (H : Digest) (tree : List (List ℕ)) where
   -- the branch over the part that has the leaf and that beside it
   own_branch : (m a n : ℕ) → 1 < n → a + n ≤ length tree → root_over H tree a n
       ≡ H (input_beside (is_right m n) (beside_root H tree m a n) (root_over H tree (start_in m a n) (count_in m n)))
-  own_branch m a n more within =
-      elim (cases_lt m (front_of n)) [
-        | inl lt ↦ rw (lt-leb (front_of n) m lt) (root_over_parts H tree a n more within)
-        | inr le ↦ rw (le-leb (front_of n) m le) (root_over_parts H tree a n more within)
-      ]
+  own_branch m a n more within = grind (arith, cases_lt, lt-leb, root_over_parts, le-leb)
 
   -- it leads from the leaf's digest to the root over them
   own_leads : (m a n : ℕ) (es : List (List ℕ)) → m < n → a + n ≤ length tree → IsOwn H tree m a n es
@@ -345,10 +186,7 @@ module _ (H : Digest) (tree : List (List ℕ)) where
   own_leads m a n (top ∷ below) inside within (more, is, own) =
       let at = bounds_in m a n inside more in
       let led = own_leads (leaf_in m n) (start_in m a n) (count_in m n) below at.1 (omega (arith, at.2)) own in
-      leads_up H m n _ top _ below more
-      (ap (λ place. root_down H (leaf_in m n) (count_in m n) (root_over H tree place 1) below) (sym at.0) ∙ led)
-      ∙ ap (λ t. Some (H (input_beside (is_right m n) t (root_over H tree (start_in m a n) (count_in m n))))) is
-      ∙ ap Some (sym (own_branch m a n more within))
+      grind (arith, leads_up, own_branch m a n more within)
 
   -- there is one
   pub own_exists : (k m a n : ℕ) → n ≤ k → m < n → (es : List (List ℕ)) × IsOwn H tree m a n es
@@ -376,36 +214,29 @@ module _ (H : Digest) (tree : List (List ℕ)) where
   unfolding path_within
   own_made zero m a n path le inside aligned within is = absurd (omega arith)
   own_made (suc k) m a n path le inside aligned within is = elim (cases_lt 1 n) [
-    | inr few ↦ let nothing : Some [] ≡ Some path = rw (le-leb n 1 few) at is in let none : [] ≡ path = cc in
-        rw (← none) (omega arith)
-    | inl more ↦
-        let f = front_is_greatest n more in
-        elim (cases_lt m (front_of n)) [
-          | inl lt ↦
-              let (below, top, below_is, top_is, split) =
-              beside_is _ _ path (rw (lt-leb n 1 more, lt-ltb m (front_of n) lt) at is) in
-              let far = old_own_range H tree (rest_part (leaves_from a n)) (omega arith) (rest_aligned aligned more)
-              (omega arith) in
-              let same : Some (root_over H tree (a + front_of n) (n - front_of n)) ≡ Some top = sym far ∙ top_is in
-              rw (turned path below top split, lt-leb (front_of n) m lt) (
-                more,
-                cc,
-                own_made k m a (front_of n) below (omega arith) lt (front_aligned aligned (omega arith))
-                    (omega arith) below_is,
-              )
-          | inr ge ↦
-              let (below, top, below_is, top_is, split) =
-              beside_is _ _ path (rw (lt-leb n 1 more, le-ltb m (front_of n) ge) at is) in
-              let far = old_own_range H tree (front_part (leaves_from a n)) (omega arith)
-              (front_aligned aligned (omega arith)) (omega arith) in
-              let same : Some (root_over H tree a (front_of n)) ≡ Some top = sym far ∙ top_is in
-              rw (turned path below top split, le-leb (front_of n) m ge) (
-                more,
-                cc,
-                own_made k (m - front_of n) (a + front_of n) (n - front_of n) below (omega arith)
-                    (omega arith) (rest_aligned aligned more) (omega arith) below_is,
-              )
-        ]
+    | inr few ↦ let nothing : Some [] ≡ Some path = rw (le-leb n 1 few) at is in let none : [] ≡ path = cc in rw
+        (← none) (omega arith)
+    | inl more ↦ let f = front_is_greatest n more in elim (cases_lt m (front_of n)) [
+      | inl lt ↦ let (below, top, below_is, top_is, split) = beside_is _ _ path
+          (rw (lt-leb n 1 more, lt-ltb m (front_of n) lt) at is) in let far = old_own_range H tree
+          (rest_part (leaves_from a n)) (omega arith) (rest_aligned aligned more) (omega arith) in let same : Some
+          (root_over H tree (a + front_of n) (n - front_of n)) ≡ Some top = sym far ∙ top_is in rw
+          (turned path below top split, lt-leb (front_of n) m lt) (
+            more,
+            cc,
+            own_made k m a (front_of n) below (omega arith) lt (front_aligned aligned (omega arith))
+                (omega arith) below_is,
+          )
+      | inr ge ↦ let (below, top, below_is, top_is, split) = beside_is _ _ path
+          (rw (lt-leb n 1 more, le-ltb m (front_of n) ge) at is) in let far = old_own_range H tree
+          (front_part (leaves_from a n)) (omega arith) (front_aligned aligned (omega arith)) (omega arith) in let
+          same : Some (root_over H tree a (front_of n)) ≡ Some top = sym far ∙ top_is in rw
+          (turned path below top split, le-leb (front_of n) m ge) (
+            more,
+            cc,
+            grind (arith, own_made k (m - front_of n) (a + front_of n) (n - front_of n) below, rest_aligned),
+          )
+    ]
   ]
 
   -- at each range on the way it is the range's own
@@ -413,11 +244,9 @@ module _ (H : Digest) (tree : List (List ℕ)) where
       → IsOwn H tree index 0 count own → index < count
       → (a + m ≡ index) × (m < n) × (a + n ≤ count) × IsOwn H tree m a n ds
   own_at whole own inside = (omega arith, inside, omega arith, own)
-  own_at (front m a n top below way more lt) own inside = let at = own_at way own inside in
-      let f = front_is_greatest n more in (at.0, lt, omega arith, rw (lt-leb (front_of n) m lt) at at.3.2)
-  own_at (rest m a n top below way more le) own inside = let at = own_at way own inside in
-      let f = front_is_greatest n more in
-      (omega arith, omega arith, omega arith, rw (le-leb (front_of n) m le) at at.3.2)
+  own_at (front m a n top below way more lt) own inside = grind
+      (arith, own_at way own inside, front_is_greatest, lt-leb)
+  own_at (rest m a n top below way more le) own inside = grind (arith, own_at way own inside, front_is_greatest, le-leb)
 
 -- a path beside that of the tree over the entries
 module _ (H : Digest) (index : ℕ) (path : List (List ℕ)) (value : List ℕ) (entries own : List (List ℕ))
@@ -447,23 +276,17 @@ module _ (H : Digest) (index : ℕ) (path : List (List ℕ)) (value : List ℕ) 
     plain : (m a n : ℕ) (ds : List (List ℕ)) (second : List ℕ) → (a + m ≡ index) × (m < n) × (a + n ≤ length entries)
         × IsOwn H tree m a n ds → record_input H entry m n ds ≡ Some second → second ≡ plain_input H entries a n
     plain m a n [] second at is = let one : n ≡ 1 = at.3 in let here : a ≡ index = omega arith in rw (here, one) (cc)
-    plain m a n (top ∷ below) second at is =
-        let more = at.3.0 in
-        let in_part = bounds_in m a n at.1 more in
-        let place : start_in m a n + leaf_in m n ≡ index = in_part.0 ∙ at.0 in
-        let leads = own_leads H tree (leaf_in m n) (start_in m a n) (count_in m n) below in_part.1
-        (omega (arith, in_part.2, fits)) at.3.2 in
-        let from : root_down H (leaf_in m n) (count_in m n) (H (0 ∷ entry)) below
-        ≡ Some (root_over H tree (start_in m a n) (count_in m n)) =
-        ap (λ x. root_down H (leaf_in m n) (count_in m n) x below) (sym (ap (λ i. root_over H tree i 1) place ∙ leaf))
-        ∙ leads in
-        let takes = sym (taken_at H m n (H (0 ∷ entry)) top _ below from) ∙ is in
-        elim (cases_lt m (front_of n)) [
-          | inl lt ↦ let top_is = rw (lt-leb (front_of n) m lt) at at.3.1 in
-              let took = rw (lt-leb (front_of n) m lt) at takes in rw (lt-leb n 1 more, ← top_is) (cc)
-          | inr le ↦ let top_is = rw (le-leb (front_of n) m le) at at.3.1 in
-              let took = rw (le-leb (front_of n) m le) at takes in rw (lt-leb n 1 more, ← top_is) (cc)
-        ]
+    plain m a n (top ∷ below) second at is = grind (
+      arith,
+      bounds_in,
+      own_leads,
+      fits,
+      leaf,
+      taken_at,
+      cases_lt,
+      lt-leb,
+      le-leb,
+    )
 
     pub record_placed : (first second : List ℕ)
         → IsRecordAgreementPlaced H index (length entries) (path, value) (own, entry)
@@ -480,17 +303,16 @@ module _ (H : Digest) (index : ℕ) (path : List (List ℕ)) (value : List ℕ) 
     }
 
     -- so the claim is met exactly where both paths agree
-    pub met_from : IsRecordAgreement H index (length entries) path value own entry → IsRecordMet H index path value entries
+    pub met_from : IsRecordAgreement H index (length entries) path value own entry → IsRecordMet H index path value
+        entries
     met_from agrees = agrees.first_is ∙ sym agrees.second_is ∙ own_met
 
-    pub met_then : IsRecordMet H index path value entries → IsRecordAgreement H index (length entries) path value own entry
+    pub met_then : IsRecordMet H index path value entries → IsRecordAgreement H index (length entries) path value
+        own entry
     met_then met = record { root = root_of H tree; first_is = met; second_is = own_met }
 
 -- the path that the code makes of the tree over the entries
 pub own_from : (H : Digest) (index : ℕ) (entries tree own : List (List ℕ)) → tree ≡ leaves_of H entries
     → index < length entries → inclusion_of (old_over H (own_digest H tree)) index (length tree) ≡ Some own
     → IsOwn H (leaves_of H entries) index 0 (length entries) (reverse own)
-own_from H index entries tree own is inside made =
-    own_made H (leaves_of H entries) (length entries) index 0 (length entries) own (omega arith) inside
-    (whole_aligned (length entries) refl) (omega (arith, leaves_count H entries))
-    (rw (is, leaves_count H entries) at made)
+own_from H index entries tree own is inside made = grind (arith, own_made, whole_aligned, leaves_count)

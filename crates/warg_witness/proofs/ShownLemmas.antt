@@ -1,5 +1,5 @@
 -- What proofs show of given entries, where they diverge from the trees over them.
-use Rattle.std.proofs.Common.{◌≡◌, ℕ, ◌^◌, ◌<◌, List, [], ◌∷◌, Some, sym, ◌∙◌, arith, ap, length, map, get_or}
+use Rattle.std.proofs.Common.{◌≡◌, ℕ, ◌^◌, ◌<◌, List, [], ◌∷◌, Some, ◌∙◌, arith, ap, length, map, get_or}
 use Rattle.std.proofs.lemmas.Nat.{pow_pos}
 use Rattle.std.proofs.lemmas.Bool.Decides.{nat_tests}
 use Rattle.warg_log.specs.Nodes.{height_of, start_of}
@@ -48,33 +48,28 @@ module _ (H : Digest) (F : Data) (entries ds : List (List ℕ)) (is : ds ≡ lea
   pub value_placed : (value first second : List ℕ)
       → DivergesFrom H (with_target F (range_of node) (H (0 ∷ value))) ds first second
       → IsValuePlaced H F value node entries first second
-  value_placed value first second diverges =
-      let own = own_second H entries ds is (pow_pos (height_of node)) diverges in
-      let takes = value_above H F value (range_of node) diverges.range diverges.above ∙ diverges.first_input in
-      search (own, diverges.above.around, takes)
+  value_placed value first second diverges = grind (
+    arith,
+    own_second H entries ds is (pow_pos (height_of node))
+        diverges,
+    pow_pos (height_of node),
+    value_above H F value (range_of node) diverges.range diverges.above,
+  )
 
   pub value_meets : (value : List ℕ) → (IsAt value entries (start_of node) (2 ^ height_of node) → ⊥)
       → (H (0 ∷ value) ≡ root_at H ds (range_of node)) × IsPart 0 (length ds) (start_of node) (2 ^ height_of node)
       → Shows H (IsValuePlaced H F value node entries)
       (0 ∷ value, plain_input H entries (start_of node) (2 ^ height_of node))
-  value_meets value other meets =
-      let part = rw (is, leaves_count H entries) at meets.1 in
-      let plain = rw is at meets.0 ∙ plain_digest_is H entries _ _ (pow_pos (height_of node)) (part_in part).0 in
-      record {
-        collides = record {
-          differ = λ e. other (leaf_same H value entries _ _ (pow_pos (height_of node)) e);
-          same = plain;
-        };
-        placed = search (part, value_here, arith);
-      }
+  value_meets value other meets = grind (arith, leaves_count, plain_digest_is, pow_pos, part_in, leaf_same, value_here)
 
   pub hash_placed : (hash first second : List ℕ) → DivergesFrom H (with_target F (range_of node) hash) ds first second
       → IsHashPlaced H F hash node entries first second
-  hash_placed hash first second diverges =
-      let own = own_second H entries ds is (pow_pos (height_of node)) diverges in
-      let other : diverges.range.count ≡ 2 ^ height_of node → ⊥ = λ same.
-      let more = diverges.above.more in omega arith in
-      search (own, diverges.above.around, other, diverges.first_input)
+  hash_placed hash first second diverges = grind (
+    arith,
+    own_second H entries ds is (pow_pos (height_of node))
+        diverges,
+    pow_pos (height_of node),
+  )
 
 -- what a meeting shows, where the claim is false
 pub value_shown : {D : Type 0} {H : Digest} {F : Data} {proof : InclusionClaim} {value : List ℕ}
@@ -100,16 +95,7 @@ pub agreement_shown : {D : Type 0} (H : Digest) (F : Data) (v : List ℕ) (G : D
     (p : Divergence D) → (v ≡ u → ⊥) → IsDivergence H (with_target F (range_of node) (H (0 ∷ v)))
     (with_target G (range_of node) (H (0 ∷ u))) (leaves_from 0 n) p
     → Shows H (IsAgreementPlaced H (F, v) (G, u) node n) (inputs_of p (0 ∷ v) (0 ∷ u))
-agreement_shown H F v G u node n p other = shown p
-    (λ _ _ diverges.
-    let first = value_above H F v (range_of node) diverges.range diverges.above ∙ diverges.first_input in
-    let second = value_above H G u (range_of node) diverges.range diverges.above ∙ diverges.second_input in
-    search (diverges.part, diverges.above.around, first, second))
-    _ _
-    (λ meets. record {
-      collides = record { differ = λ e. other (cc); same = meets.0 };
-      placed = search (meets.1, value_here, arith);
-    })
+agreement_shown H F v G u node n p other = grind (arith, shown, value_above, value_here)
 
 -- two trees of one digest at a range of both show where they diverge below it, or a place at which the entries differ
 pub both_shown : {D : Type 0} (H : Digest) (old new : List (List ℕ)) (place : ℕ) (range : Range)
@@ -118,27 +104,13 @@ pub both_shown : {D : Type 0} (H : Digest) (old new : List (List ℕ)) (place : 
     (with_own H (leaves_of H new) (leaves_from place 1)) range p → (get_or old place [] ≡ get_or new place [] → ⊥)
     → Shows H (IsPlacedInBoth H old new) (inputs_of p (0 ∷ get_or old place []) (0 ∷ get_or new place []))
 both_shown H old new place range in_old in_new p diverges differ = shown p
-    (λ first second at.
-    let more = at.above.more in
-    let old_part = IsPart-trans in_old at.part in
-    let new_part = IsPart-trans in_new at.part in
-    let old_plain = own_input H old (leaves_from place 1) at.range first old_part more at.first_input in
-    let new_plain = own_input H new (leaves_from place 1) at.range second new_part more at.second_input in
-    search (old_part, new_part, old_plain, new_plain))
-    _ _
-    (λ meets.
-    let old_part = IsPart-trans in_old meets.1 in
-    let new_part = IsPart-trans in_new meets.1 in
-    let old_at = (part_in old_part).0 in
-    let new_at = (part_in new_part).0 in record {
-      collides = record {
-        differ = λ e. differ (cc);
-        same = sym (plain_digest_is H old place 1 (omega arith) (omega arith)) ∙ meets.0
-            ∙ plain_digest_is H new place 1 (omega arith) (omega arith);
-      };
-      placed = search (old_part, new_part);
-    })
-    diverges
+    (λ first second at. let more = at.above.more in let old_part = IsPart-trans in_old at.part in let new_part =
+    IsPart-trans in_new at.part in let old_plain = own_input H old (leaves_from place 1) at.range first old_part
+    more at.first_input in let new_plain = own_input H new (leaves_from place 1) at.range second new_part more
+    at.second_input in search (old_part, new_part, old_plain, new_plain)) _ _
+    (λ meets. let old_part = IsPart-trans in_old meets.1 in let new_part = IsPart-trans in_new meets.1 in let
+    old_at = (part_in old_part).0 in let new_at = (part_in new_part).0 in grind
+    (arith, plain_digest_is H old place 1, plain_digest_is H new place 1)) diverges
 
 -- entries that differ from others at a place don't begin them
 pub differs_not_begins : (old new : List (List ℕ)) (place : ℕ) → DiffersFirst old new place → Begins old new → ⊥

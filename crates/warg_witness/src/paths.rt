@@ -39,7 +39,7 @@ const MOST_LEAVES: usize = GREATEST_LENGTH;
 /// It hashes each leaf and branch of the tree over the entries once, and besides the value twice, the entry once more, and
 /// at most as many branches as three times the path's length. It fails only if allocation fails. A value or an entry of
 /// more than `usize::MAX` bytes counts as that, and so do more than 2^63 entries.
-#[tactic(auto, using(crate::proofs::RecordLemmas::leads_inside, crate::proofs::HashLemmas::entries_count, crate::proofs::CutLemmas::leaves_count))]
+#[tactic(auto, using(warg_paths::proofs::ForCallers::leads_inside, crate::proofs::HashLemmas::entries_count, crate::proofs::CutLemmas::leaves_count))]
 pub fn witness_record<D: SupportedDigest, V: VisitBytes, A: Allocator + Copy>(
     alloc: A,
     index: usize,

@@ -1,23 +1,12 @@
 -- Evaluations along two paths of one place, side by side. The digests of a path are given from the topmost down.
-use Rattle.std.specs.Prelude.{◌≡◌, ℕ, ◌-◌, ◌⊎◌, nat_le, if◌then◌else◌, Bool, List, reverse, Option, Some}
+use Rattle.std.specs.Prelude.{◌≡◌, ℕ, ◌⊎◌, Bool, List, reverse, Option, Some}
 use Rattle.warg_crypto.specs.Tree.{input_beside}
-use Rattle.warg_log.specs.Tree.{front_of}
 use Rattle.warg_paths.specs.Paths.{inclusion_root, root_down}
 use Rattle.warg_paths.specs.Ways.{IsOnWay, ArePathInputs}
 use Rattle.warg_witness.specs.declared.divergence.Climb.{Climb}
 use Rattle.warg_witness.specs.declared.divergence.Divergence.{Divergence}
 use Rattle.warg_witness.specs.Private.Divergence.{Parts}
 use Rattle.warg_witness.specs.declared.divergence.Divergence.TheVariants.{Branch}
-
--- Whether leaf m of n is in the rest of them, its number in the part that has it, and that part's count.
-abbrev pub is_right : ℕ → ℕ → Bool
-is_right m n = nat_le (front_of n) m
-
-abbrev pub leaf_in : ℕ → ℕ → ℕ
-leaf_in m n = if is_right m n then m - front_of n else m
-
-abbrev pub count_in : ℕ → ℕ → ℕ
-count_in m n = if is_right m n then n - front_of n else front_of n
 
 -- A step on the side of a bit, with u beside the first digest and v beside the second: the evaluations diverge where they did
 -- before, with one digest below and one beside; or the inputs differ, and they diverge here.

@@ -1,7 +1,8 @@
 //! Two evaluations along inclusion paths of one place, side by side.
 
 ghost use Rattle.std.specs.Prelude.{◌≡◌, ℕ, ◌<◌, List, reverse, MatchOption};
-ghost use Rattle.warg_witness.specs.Private.Turns.{is_right, leaf_in, count_in, LeadNowhere, IsPathClimb, NeverMeet, IsPathsMeeting};
+ghost use Rattle.warg_paths.specs.Ways.{is_right, leaf_in, count_in};
+ghost use Rattle.warg_witness.specs.Private.Turns.{LeadNowhere, IsPathClimb, NeverMeet, IsPathsMeeting};
 
 use crate::divergence::{Climb, Divergence};
 use warg_crypto::{Hash, SupportedDigest};

@@ -1,12 +1,5 @@
-use Rattle.warg_witness.proofs.AgreementLemmas.{keys_agreed, agreed_collides, agreed_none, agreed_found}
+use Rattle.warg_witness.proofs.AgreementLemmas.{keys_agreed, agreed_none, agreed_found}
 use Rattle.warg_witness.proofs.map.agree_key.Goals as goal
-
-pub compare_values-requires : goal.compare_values-requires
-compare_values-requires g c =
-    agreed_collides _ c.meet_on_path-met.result
-    (keys_agreed _ (g.K.VisitBytes.bytes c.args.key.now) _ _ _ _ c.of-digest.ensures c.peers.ensures.value
-    c.peers-2.ensures.value c.hash_leaf.ensures c.hash_leaf-2.ensures c.meet_on_path-met.result
-    c.meet_on_path-met.ensures)
 
 pub returns : goal.returns
 returns g c =

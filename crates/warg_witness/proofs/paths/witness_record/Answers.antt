@@ -2,7 +2,8 @@ use Rattle.std.proofs.Common.{◌<◌, length, map, sym, arith}
 use Rattle.std.proofs.lemmas.Result.{IfOk-weaker}
 use Rattle.warg_witness.proofs.AgreementLemmas.{finds_as}
 use Rattle.warg_witness.proofs.HashLemmas.{entries_count}
-use Rattle.warg_witness.proofs.RecordLemmas.{leads_inside, own_from, met_from, met_then, record_placed}
+use Rattle.warg_paths.proofs.ForCallers.{leads_inside}
+use Rattle.warg_witness.proofs.RecordLemmas.{own_from, met_from, met_then, record_placed}
 use Rattle.warg_witness.proofs.paths.witness_record.Goals as goal
 
 pub returns-clause-found : goal.returns-clause-found
@@ -14,7 +15,8 @@ returns-clause-found g c =
     let count = entries_count g.V.VisitBytes.bytes c.args.entries.now in
     let inside : c.args.index < length entries = grind (arith, leads_inside) in
     let made = own_from H c.args.index entries _ own c.in_ok-tree.ensures inside c.in_ok-own.ensures in
-    IfOk-weaker c.agree_record.result _ _ (finds_as _ _ (met_from H c.args.index c.args.path.now value entries own inside made)
+    IfOk-weaker c.agree_record.result _ _ (finds_as _ _ (met_from H c.args.index c.args.path.now value entries own
+    inside made)
     (met_then H c.args.index c.args.path.now value entries own inside made) sym sym
     (λ _. record_placed H c.args.index c.args.path.now value entries own inside made))
     (rw (c.deref.ensures.value, ← count, ← c.entry_at-entry.ensures) at c.agree_record.ensures.found)

@@ -1,6 +1,6 @@
-use Rattle.std.proofs.Common.{◌≡◌, sym, arith}
+use Rattle.std.proofs.Common.{sym}
 use Rattle.warg_map.proofs.ForCallers.{last_bits-more, last_bits-none, length-last_bits}
-use Rattle.warg_witness.proofs.KeyLemmas.{bits_start, bit_up, keys_met}
+use Rattle.warg_witness.proofs.KeyLemmas.{bits_start, bit_up}
 use Rattle.warg_witness.proofs.map.path.meet_on_path.Goals as goal
 
 pub loop-height-init : goal.loop-height-init
@@ -17,7 +17,3 @@ loop-height-preserved g c =
           (bit_up _ _ _ _ _ _ (rw length-last_bits (sym c.peer_at-first_peer.ensures))
           (rw length-last_bits (sym c.peer_at-second_peer.ensures)) c.loop-height.invariant.1 c.up-climb.ensures),
     )
-
-pub returns : goal.returns
-returns g c = let top : c.loop-height.height ≡ 256 = omega arith in
-    keys_met _ _ _ _ _ _ (rw top at c.loop-height.invariant.1) c.met.result c.met.ensures

@@ -1,11 +1,5 @@
-use Rattle.warg_witness.proofs.AgreementLemmas.{records_agreed, agreed_collides, agreed_none, agreed_found}
+use Rattle.warg_witness.proofs.AgreementLemmas.{records_agreed, agreed_none, agreed_found}
 use Rattle.warg_witness.proofs.paths.agreement.agree_record.Goals as goal
-
-pub compare_values-requires : goal.compare_values-requires
-compare_values-requires g c =
-    agreed_collides _ c.meet_paths-met.result
-    (records_agreed _ c.args.index c.args.length c.args.first_path.now _ c.args.second_path.now _
-    c.hash_leaf-first_leaf.ensures c.hash_leaf-second_leaf.ensures c.meet_paths-met.result c.meet_paths-met.ensures)
 
 pub returns : goal.returns
 returns g c =

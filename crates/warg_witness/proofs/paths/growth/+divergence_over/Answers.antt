@@ -1,4 +1,4 @@
-use Rattle.std.proofs.Common.{◌≡◌, ℕ, ◌-◌, ◌∙◌, sym, ap, subst, reverse, None, arith}
+use Rattle.std.proofs.Common.{◌≡◌, ◌-◌, ◌∙◌, sym, ap, subst, reverse, None, arith}
 use Rattle.warg_log.specs.Ranges.{front_part, rest_part}
 use Rattle.warg_log.specs.Tree.{front_of, root_over}
 use Rattle.warg_log.proofs.ForCallers.{counts}
@@ -68,7 +68,8 @@ returns-then-place-rest g t c =
     let split = same_front c.args.old_count c.args.range.now.count more.2 high c.requires.order in
     both_diverge (descent c.args.old_root.now c.args.old_count c.args.range.now (reverse c.args.path.now))
     (front_part c.args.range.now) c.divergence_below-then-place-rest.result
-    (rw split at (front c.args.range.now.start c.args.old_count whole (omega (arith, more, high)))) (front _ _ whole more.2)
+    (rw split at (front c.args.range.now.start c.args.old_count whole (omega (arith, more, high))))
+    (front _ _ whole more.2)
     (rw c.split-front.ensures.front at c.divergence_below-then-place-rest.ensures)
 
 pub returns : goal.returns
@@ -81,5 +82,6 @@ returns g t c =
     (reverse c.in-Some.below.now) more.0 more.1 c.divergence_over-2.result
     (descent None (c.args.old_count - front_of c.args.range.now.count) (rest_part c.args.range.now)
     (reverse c.in-Some.below.now)) (λ _ _ _ _ way. grown_rest _ _ _ _ _ _ way more.1 high)
-    (rw split at (rest c.args.range.now.start c.args.old_count whole (omega (arith, more, high)))) (rest _ _ whole more.2)
+    (rw split at (rest c.args.range.now.start c.args.old_count whole (omega (arith, more, high))))
+    (rest _ _ whole more.2)
     (rw (c.split-front.ensures.rest, turn) at c.divergence_over-2.ensures))

@@ -1,10 +1,8 @@
-use Rattle.std.proofs.Common.{◌≡◌, ◌∙◌, arith}
-use Rattle.std.proofs.lemmas.List.{take_all}
+use Rattle.std.proofs.Common.{◌≡◌, ◌∙◌}
 use Rattle.warg_crypto.specs.Bytes.{same_bytes}
 use Rattle.warg_map.specs.Bits.{key_bits}
 use Rattle.warg_map.specs.Last.{last_with, same_bits}
-use Rattle.warg_map.specs.Sparse.{pair_bytes}
-use Rattle.warg_witness.proofs.InsertionLemmas.{length-pair_bytes, last_under-more, lent_more, same_digest_bits, looked_up_after, by_bytes}
+use Rattle.warg_witness.proofs.InsertionLemmas.{last_under-more, lent_more, same_digest_bits, looked_up_after, by_bytes}
 use Rattle.warg_witness.proofs.map.indexed.Indexed.new.Goals as goal
 
 pub loop-insertion-init : goal.loop-insertion-init
@@ -24,10 +22,3 @@ loop-insertion-preserved g c = λ key.
     let updates = c.in_ok-insert.ensures.updates in
     let put = looked_up_after _ by_bytes c.loop-insertion.last c.insert.new.self _ _ updates (H key) in
     more ∙ lent_more kb vb _ _ _ _ _ put test _ (c.loop-insertion.invariant key)
-
-pub invariant_of-result : goal.invariant_of-result
-invariant_of-result g c = λ key.
-    let pairs = pair_bytes g.K.VisitBytes.bytes g.V.VisitBytes.bytes c.args.insertions.now in
-    let size = length-pair_bytes g.K.VisitBytes.bytes g.V.VisitBytes.bytes c.args.insertions.now in
-    let all = take_all c.loop-insertion.insertion-index pairs (omega (arith, size, c.loop-insertion-test.false)) in
-    rw all at (c.loop-insertion.invariant key)
