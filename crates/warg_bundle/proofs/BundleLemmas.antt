@@ -1,8 +1,6 @@
 -- Log bundles and their messages.
-use Rattle.std.proofs.Common.{◌≡◌, ℕ, zero, suc, ◌+◌, ◌<◌, ◌≤◌, List, [], ◌∷◌, ◌++◌, length, map, drop, get_or, false, Option, Result, Some, None, Ok, Err, refl, sym, ap, ◌∙◌, add-one, inl, inr, arith}
-use Rattle.std.specs.List.{AllByRecursion, slice_get}
-use Rattle.std.proofs.lemmas.Option.{slice_get_read}
-use Rattle.warg_protobuf.specs.MapProofBundle.{MapBundle}
+use Rattle.std.proofs.Common.{◌≡◌, ℕ, suc, ◌+◌, ◌<◌, ◌≤◌, List, [], ◌∷◌, ◌++◌, length, map, drop, get_or, false, Option, Result, Some, None, Ok, Err, refl, sym, ap, ◌∙◌, add-one, inl, inr, arith}
+use Rattle.std.specs.List.{AllByRecursion}
 use Rattle.std.proofs.lemmas.List.{map-id, drop_more, drop_all}
 use Rattle.std.proofs.lemmas.List.Elements.{recursion_from_All}
 use Rattle.std.proofs.lemmas.Simd.{map-map}
@@ -125,23 +123,7 @@ pub refused_not_wire : {X : Type 0} (r : Result X DecodeError) (e : WireError) �
     → ⊥
 refused_not_wire r e is bad = absurd (cc)
 
--- a part of a bundle by its place
-pub part_at : {X : Type 0} (xs ys : List X) (i : ℕ) (x y : X) → xs ≡ ys → i < length xs → x ≡ get_or xs i x → y ≡ x
-    → slice_get ys i ≡ Some y
-part_at xs ys i x y same lt at is = rw (← same, is) (slice_get_read xs (length xs) i x refl lt at)
-
-none_past : {X : Type 0} (xs : List X) (i : ℕ) → length xs ≤ i → slice_get xs i ≡ None
-none_past [] i past = refl
-none_past (x ∷ xs) zero past = absurd (omega arith)
-none_past (x ∷ xs) (suc i) past = none_past xs i (omega arith)
-
 -- and none behind the last one
-pub no_part_at : {X : Type 0} (xs ys : List X) (i : ℕ) → xs ≡ ys → length xs ≤ i → slice_get ys i ≡ None
-no_part_at xs ys i same past = rw (← same) (none_past xs i past)
-
-pub some_not_none : {X : Type 0} (o : Option X) (x : X) → o ≡ Some x → o ≡ None → ⊥
-some_not_none o x some none = absurd (cc)
-
 pub done_not_failed : {T E : Type 0} (x : T) (e : E) → Ok x ≡ Err e → ⊥
 done_not_failed x e failed = absurd (cc)
 
@@ -153,7 +135,3 @@ refused_not_large result refused large = absurd (cc)
 pub err_again : {T U E : Type 0} (given : Result T E) (passed : Result U E) (e f : E) → given ≡ Err e → passed ≡ Err e
     → passed ≡ Err f → given ≡ Err f
 err_again given passed e f is same failed = cc
-
--- a map bundle by its two lists
-pub both_lists : (b m : MapBundle) → b.proofs ≡ m.proofs → b.absences ≡ m.absences → b ≡ m
-both_lists b m proofs absences = λ i. record { proofs = proofs i; absences = absences i }

@@ -1,6 +1,6 @@
 -- The one length of proofs, and the nodes that they need.
-use Rattle.std.proofs.Common.{◌≡◌, ℕ, zero, suc, ◌+◌, ◌*◌, ◌<◌, ◌≤◌, ◌==◌, Bool, true, false, nat_eq, nat_lt, nat_le, List, [], ◌∷◌, ◌++◌, length, map, get_or, cond, take, add-one, append-nil, drop, le-ltb, Option, Some, None, Result, Ok, Err, refl, sym, ap, ◌∙◌, arith, ⊎_elim}
-use Rattle.std.specs.Prelude.{◌||◌, OnOk, IsPermutation, filter, is_some, unwrap_or, if◌then◌else◌}
+use Rattle.std.proofs.Common.{◌≡◌, ℕ, zero, suc, ◌+◌, ◌*◌, ◌<◌, ◌≤◌, ◌==◌, Bool, true, false, nat_eq, nat_lt, nat_le, List, [], ◌∷◌, ◌++◌, length, map, get_or, Option, Some, None, Result, Ok, Err, refl, sym, ap, ◌∙◌, arith, ⊎_elim}
+use Rattle.std.specs.Prelude.{OnOk, IsPermutation, filter, is_some, unwrap_or, if◌then◌else◌}
 use Rattle.std.specs.List.{AllByRecursion, IsDistinct, flat_map, list_any, range_with_len}
 use Rattle.std.specs.List.Sorted.{IsSorted}
 use Rattle.std.specs.Ordering.{nat_cmp}
@@ -8,9 +8,7 @@ use Rattle.std.proofs.lemmas.Map.Keys.{sorted_from_strictly_increasing, IsStrict
 use Rattle.std.proofs.lemmas.Map.Views.{any-filter_same}
 use Rattle.std.proofs.lemmas.List.Sorted.{IsNonDecreasingBy-from_sort, list_any-IsPermutation}
 use Rattle.std.proofs.Math.Bool.{or_assoc}
-use Rattle.std.proofs.Math.Seq.{take-suc}
-use Rattle.std.proofs.lemmas.List.Concat.{flat_map-append}
-use Rattle.std.proofs.lemmas.List.{length-map, get_or-map, drop_more}
+use Rattle.std.proofs.lemmas.List.{length-map, get_or-map}
 use Rattle.std.proofs.lemmas.List.Elements.{All-from_recursion}
 use Rattle.std.proofs.lemmas.List.Folds.{list_any_at, list_any-append}
 use Rattle.std.proofs.lemmas.List.FromFn.{length-range_with_len, get_or-range_with_len}
@@ -61,20 +59,6 @@ inclusion_good n p none = ⊎_elim
 pub inclusions_good : (n : ℕ) (ps : List InclusionClaim) → first_fault (inclusion_fault n) ps ≡ None
     → AllByRecursion (λ (p : InclusionClaim). ExistsAt p.leaf.0 p.log_length × (p.log_length ≡ n)) ps
 inclusions_good n = all_without (inclusion_fault n) _ (inclusion_good n)
-
--- what an end isn't behind, and what ends at the length, has no fault
-pub no_consistency_fault : (n : ℕ) (p : ConsistencyClaim) (old new : ℕ) → old ≡ p.old_length → new ≡ p.new_length
-    → old ≤ new → new ≡ n → consistency_fault n p ≡ None
-no_consistency_fault n p old new is ends before at = rw (
-  le-ltb p.new_length p.old_length (rw (is, ends) at before),
-  eq-eqb p.new_length n (sym ends ∙ at),
-) refl
-
--- the faults behind one that there isn't
-pub fault_behind_none : {X : Type 0} (fault_of : X → Option BundleError) (xs : List X) (i : ℕ) (x : X) → i < length xs
-    → x ≡ get_or xs i x → fault_of x ≡ None
-    → first_fault fault_of (drop i xs) ≡ first_fault fault_of (drop (i + 1) xs)
-fault_behind_none fault_of xs i x lt is good = rw (drop_more xs i x lt, ← is, good) refl
 
 -- a length that the proofs have
 pub length_is : (cs : List ConsistencyClaim) (ps : List InclusionClaim) (n : ℕ) (faults : Option BundleError)
@@ -262,34 +246,7 @@ pub added_both : (none mid new xs ys : List ℕ) → none ≡ [] → IsUnion non
     → IsUnion [] new (xs ++ ys)
 added_both none mid new xs ys is first second = rw is at (added none mid new xs ys first second)
 
--- one number
-pub added_one : (n : ℕ) (old new : List ℕ)
-    → ((q : ℕ) → list_any (nat_eq q) new ≡ cond (nat_eq n q) true (list_any (nat_eq q) old)) → IsUnion old new (n ∷ [])
-added_one n old new updates x = ⊎_elim
-    (λ (same : nat_eq n x ≡ true). let back : nat_eq x n ≡ true = eq-eqb x n (sym (eqb-true n x same)) in
-    updates x ∙ rw (same, back) (sym (or_right (list_any (nat_eq x) old) true refl)))
-    (λ (other : nat_eq n x ≡ false). let back : nat_eq x n ≡ false =
-    ne_eqb x n (λ e. let t : nat_eq n x ≡ true = eq-eqb n x (sym e) in cc) in
-    updates x ∙ rw (other, back) (sym (or_none (list_any (nat_eq x) old))))
-    (cases_Bool (nat_eq n x))
-  where
-    or_none : (b : Bool) → (b || false) ≡ b
-    or_none true = refl
-    or_none false = refl
-
--- those of one more element
-pub added_more : {X : Type 0} (f : X → List ℕ) (xs : List X) (i : ℕ) (x : X) (first old new : List ℕ) → i < length xs
-    → x ≡ get_or xs i x → IsUnion first old (flat_map f (take i xs)) → IsUnion old new (f x)
-    → IsUnion first new (flat_map f (take (i + 1) xs))
-added_more f xs i x first old new within is before now =
-    rw (add-one, take-suc xs i x within, ← is, flat_map-append f (take i xs) (x ∷ []), append-nil)
-    (added first old new (flat_map f (take i xs)) (f x) before now)
-
 -- a number, and then others
-pub added_behind : (n : ℕ) (old mid new ys : List ℕ) → IsUnion old mid (n ∷ []) → IsUnion mid new ys
-    → IsUnion old new (n ∷ ys)
-added_behind n old mid new ys first second = added old mid new (n ∷ []) ys first second
-
 needed_exactly_by : {X Y : Type 0} (P : X → Type 0) (Q : Y → Type 0) (old new : X → ℕ) (leaf : Y → Node) (len : Y → ℕ)
     (n : ℕ) (xs : List X) (ys : List Y) (keys : List ℕ)
     → IsUnion [] keys (flat_map (λ p. needed_between (old p) (new p)) xs ++ flat_map (λ p. needed (leaf p).0 (len p))

@@ -49,14 +49,6 @@ elapses {old} {new} x is = record {
     first : (k : ℕ) → k ≤ length old.calls.items → take k new.calls.items ≡ take k old.calls.items
     first k le = rw is (take-append-le k old.calls.items (x ∷ []) le)
 
--- or stands still
-pub same_moment : {old new : MemoryFolder} → new.calls.items ≡ old.calls.items → GoesOn old new
-same_moment is = record {
-  later = omega (arith, ap length is);
-  nothing_else = λ t c le left. inl (rw is at left);
-  keeps = λ t c le left. rw is left;
-}
-
 -- what stands at a name after a file was put was there, or was put
 put_or_was : (f : File) (s : Files) (n : List ℕ) → IsSome (put f s n) → IsSome (s n) ⊎ (Some f.0 ≡ Some n)
 put_or_was f s n some = elim (one_name f.0 n) [

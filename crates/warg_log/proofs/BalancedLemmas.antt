@@ -1,11 +1,11 @@
 -- Balanced roots.
-use Rattle.std.proofs.Common.{◌≡◌, ℕ, zero, suc, ◌+◌, ◌-◌, ◌*◌, ◌^◌, ◌<◌, ◌≤◌, List, [], ◌∷◌, map, add-one, refl, ◌∙◌, arith, ⊎_elim}
+use Rattle.std.proofs.Common.{◌≡◌, ℕ, zero, suc, ◌+◌, ◌-◌, ◌*◌, ◌^◌, ◌<◌, ◌≤◌, List, [], ◌∷◌, map, refl, arith, ⊎_elim}
 use Rattle.std.proofs.Math.Nat.{pow-suc}
 use Rattle.std.proofs.lemmas.Bool.{le-leb, lt-leb, cases_lt}
 use Rattle.std.proofs.lemmas.Nat.{pow_pos}
 use Rattle.std.specs.List.{AllByRecursion}
 use Rattle.warg_log.specs.Nodes.{node_over, balanced_within, balanced_over, balanced_roots, Follow, Fall}
-use Rattle.warg_log.proofs.NodeLemmas.{over_at, over_ends, pow_below_pow}
+use Rattle.warg_log.proofs.NodeLemmas.{over_at, pow_below_pow}
 use Rattle.warg_log.proofs.RootLemmas.{below_pow, settled_at, exponent_below}
 
 -- functions that agree on each element
@@ -31,31 +31,31 @@ balanced_at h k a n lh lk = settled_at (λ m. balanced_within m a n) (suc n) h k
 pub balanced_first : (h a n : ℕ) → 2 ^ h ≤ n → n < 2 ^ suc h
     → balanced_within n a n ≡ node_over a (2 ^ h) ∷ balanced_within (n - 2 ^ h) (a + 2 ^ h) (n - 2 ^ h)
 unfolding balanced_within
-balanced_first h a n low high =
-    balanced_at n (suc h) a n (below_pow n) high
-    ∙ rw (
-      le-leb (2 ^ h) n low,
-      balanced_at h (n - 2 ^ h) (a + 2 ^ h) (n - 2 ^ h) (omega (arith, pow-suc))
-          (below_pow (n - 2 ^ h)),
-    ) refl
+balanced_first h a n low high = grind (
+  arith,
+  balanced_at n (suc h) a n (below_pow n) high,
+  below_pow n,
+  balanced_at,
+  pow-suc,
+  below_pow (n - 2 ^ h),
+)
 
 pub balanced_more : (h a m : ℕ) → m < 2 ^ h → balanced_over a (2 ^ h + m) ≡ node_over a (2 ^ h) ∷ balanced_over
     (a + 2 ^ h) m
-balanced_more h a m lt = grind (arith, balanced_first h a (2 ^ h + m) (omega arith) (omega (arith, pow-suc)))
+balanced_more h a m lt = grind (arith, balanced_first h a (2 ^ h + m))
 
 pub balanced_full : (h a : ℕ) → balanced_over a (2 ^ h) ≡ node_over a (2 ^ h) ∷ []
-balanced_full h a = grind (arith, balanced_more h a 0 (pow_pos h), balanced_none (a + 2 ^ h))
+balanced_full h a = grind (arith, balanced_more h a 0 (pow_pos h), balanced_none)
 
 -- leaves above none have one
 pub has_first_over : (a n : ℕ) → 0 < n → (h : ℕ) × (2 ^ h ≤ n)
     × (balanced_over a n ≡ node_over a (2 ^ h) ∷ balanced_over (a + 2 ^ h) (n - 2 ^ h))
-has_first_over a n some = let e = exponent_below n (suc n) (omega arith) (below_pow n) in
-    (e.0, omega arith, balanced_first e.0 a n (omega arith) e.2)
+has_first_over a n some = grind (arith, exponent_below n (suc n), below_pow n, balanced_first)
 
 -- as a program cuts it off
 pub first_cut : (a e n : ℕ) → (h : ℕ) × (n ≡ 2 ^ h) × (2 ^ h ≤ e - a) × (e - a < 2 ^ (h + 1)) → balanced_over a (e - a)
     ≡ node_over a n ∷ balanced_over (a + n) (e - (a + n))
-first_cut a e n first = grind (arith, add-one, first, balanced_first first.0 a (e - a))
+first_cut a e n first = grind (arith, first, balanced_first first.0 a (e - a))
 
 -- P holds of each range and its balanced roots where it holds of no leaves and, if it does of fewer than 2 ^ h leaves,
 -- of 2 ^ h more in front of them
@@ -70,43 +70,25 @@ unfolding balanced_within
 roots_within P R zero c n lt = let none : n ≡ 0 = omega arith in rw none (R.none (c * 2 ^ 0))
 roots_within P R (suc h) c n lt =
     let start : c * 2 ^ suc h ≡ 2 * c * 2 ^ h = rw pow-suc (omega arith) in
-    let next : (2 * c + 1) * 2 ^ h ≡ 2 * c * 2 ^ h + 2 ^ h = omega arith in
-    rw start (⊎_elim
-    (λ (low : n < 2 ^ h). rw (lt-leb (2 ^ h) n low) (roots_within P R h (2 * c) n low))
-    (λ (high : 2 ^ h ≤ n).
-    let whole : 2 ^ h + (n - 2 ^ h) ≡ n = omega arith in
-    rw (le-leb (2 ^ h) n high) (rw whole at
-    (R.first h (2 * c) (n - 2 ^ h) _ (omega (arith, pow-suc))
-    (rw next at (roots_within P R h (2 * c + 1) (n - 2 ^ h) (omega (arith, pow-suc)))))))
-    (cases_lt n (2 ^ h)))
+    rw start (⊎_elim (λ (low : n < 2 ^ h). search (lt-leb, roots_within P R h (2 * c) n low))
+    (λ (high : 2 ^ h ≤ n). grind (arith, le-leb, roots_within P R h (2 * c + 1) (n - 2 ^ h))) (cases_lt n (2 ^ h)))
 
 pub roots : (P : ℕ → ℕ → List ℕ → Type 0) → Rule P → (n : ℕ) → P 0 n (balanced_roots n)
-roots P R n = let start : 0 * 2 ^ n ≡ 0 = omega arith in rw start at (roots_within P R n 0 n (below_pow n))
+roots P R n = grind (arith, roots_within P R n 0 n (below_pow n))
 
 -- the balanced roots follow one another, and their heights fall
 follow_rule : Rule (λ a n ts. Follow a (a + n) ts)
-follow_rule = record {
-  none = λ a. omega arith;
-  first = λ h c m ts lt rest.
-      let whole : c * 2 ^ h + (2 ^ h + m) ≡ c * 2 ^ h + 2 ^ h + m = omega arith in
-      rw (whole, over_ends h c, (over_at h c).0, (over_at h c).1) (refl, rest);
-}
+follow_rule = grind (arith, over_at)
 
 pub roots_follow : (n : ℕ) → Follow 0 n (balanced_roots n)
-roots_follow n = let all : 0 + n ≡ n = omega arith in rw all at (roots (λ a n ts. Follow a (a + n) ts) follow_rule n)
+roots_follow n = grind (arith, roots, follow_rule)
 
 -- so do those of up to 2 ^ h leaves from a multiple of 2 ^ h on
 pub over_follow : (h c n : ℕ) → n ≤ 2 ^ h → Follow (c * 2 ^ h) (c * 2 ^ h + n) (balanced_over (c * 2 ^ h) n)
-over_follow h c n most = ⊎_elim
-    (λ (less : n < 2 ^ h). rw (balanced_at n h (c * 2 ^ h) n (below_pow n) less)
-    (roots_within (λ a n ts. Follow a (a + n) ts) follow_rule h c n less))
-    (λ (whole : 2 ^ h ≤ n).
-    let all : n ≡ 2 ^ h = omega arith in
-    rw (all, balanced_full h (c * 2 ^ h), over_ends h c, (over_at h c).0, (over_at h c).1) (refl, refl))
-    (cases_lt n (2 ^ h))
+over_follow h c n most = ⊎_elim (λ (less : n < 2 ^ h). rw (balanced_at n h (c * 2 ^ h) n (below_pow n) less)
+    (grind (arith, roots_within, follow_rule))) (λ (whole : 2 ^ h ≤ n). grind
+    (arith, balanced_full h (c * 2 ^ h), over_at h c)) (cases_lt n (2 ^ h))
 
 pub roots_fall : (n : ℕ) → Fall n (balanced_roots n)
-roots_fall n = roots (λ _ n ts. (k : ℕ) → n < 2 ^ k → Fall k ts) (record {
-  none = λ a k lt. tt;
-  first = λ h c m ts lt rest k fits. rw (over_at h c).0 (pow_below_pow h k (omega arith), rest h lt);
-}) n n (below_pow n)
+roots_fall n = roots (λ _ n ts. (k : ℕ) → n < 2 ^ k → Fall k ts) (grind (arith, over_at, pow_below_pow)) n n
+    (below_pow n)

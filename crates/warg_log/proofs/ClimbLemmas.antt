@@ -1,16 +1,15 @@
 -- Which nodes balanced roots are, and the cut root by the digests of a walk, in its order.
-use Rattle.std.proofs.Common.{◌≡◌, ℕ, suc, ◌+◌, ◌-◌, ◌/◌, ◌%◌, ◌^◌, ◌<◌, ◌≤◌, ◌==◌, true, false, List, [], ◌∷◌, ◌++◌, map, Option, Some, refl, sym, ap, ◌∙◌, arith, lit≤, ⊎_elim}
+use Rattle.std.proofs.Common.{◌≡◌, ℕ, suc, ◌+◌, ◌-◌, ◌/◌, ◌^◌, ◌<◌, ◌≤◌, List, [], ◌∷◌, ◌++◌, map, Option, Some, refl, sym, ap, ◌∙◌, arith, lit≤}
 use Rattle.std.specs.List.{AllByRecursion}
-use Rattle.std.proofs.Math.Nat.{pow-suc, pow-le-pow_right}
+use Rattle.std.proofs.Math.Nat.{pow-le-pow_right}
 use Rattle.std.proofs.lemmas.Nat.{pow_pos}
-use Rattle.std.proofs.lemmas.Bool.{cases_Bool}
 use Rattle.std.proofs.lemmas.List.{map-append}
 use Rattle.warg_log.specs.Nodes.{height_of, place_of, end_of, number_of, balanced_over, balanced_roots, Follow, Fall}
 use Rattle.warg_log.specs.Ranges.{leaves_from, range_of}
 use Rattle.warg_log.specs.Cut.{Evaluation, with_target, joined, top_of, cut_over, cut_root, old_root, IsFull}
 use Rattle.warg_log.specs.Walks.{climbed, joined_all}
 use Rattle.warg_protobuf.proofs.ForCallers.{all_weaken}
-use Rattle.warg_log.proofs.NodeLemmas.{node_is, only_number, over_at}
+use Rattle.warg_log.proofs.NodeLemmas.{node_is, over_at}
 use Rattle.warg_log.proofs.CutLemmas.{nothing, nothing_beside}
 use Rattle.warg_log.proofs.BalancedLemmas.{balanced_first, none_left, has_first_over}
 use Rattle.warg_log.proofs.OrderLemmas.{roots_end, block, climb, spine, Misses, way_roots, way_missed, others_miss}
@@ -22,26 +21,18 @@ fall_bound h a e [] fall follow = (omega arith, omega (arith, pow_pos))
 fall_bound h a e (t ∷ ts) fall follow =
     let rest = fall_bound (height_of t) (end_of t) e ts fall.1 follow.1 in
     let grows : 2 ^ suc (height_of t) ≤ 2 ^ h = pow-le-pow_right (lit≤ tt) fall.0 in
-    (omega (arith, follow.0, rest.0), omega (arith, follow.0, rest.1, grows, pow-suc))
+    grind arith
 
 only_row : (h a e : ℕ) (ts : List ℕ) → Follow a e ts → Fall h ts → ts ≡ balanced_over a (e - a)
 only_row h a e [] follow fall = sym (none_left a e (omega arith))
 only_row h a e (t ∷ ts) follow fall =
     let bound = fall_bound (height_of t) (end_of t) e ts fall.1 follow.1 in
-    let ends : end_of t ≡ a + 2 ^ height_of t = omega (arith, follow.0) in
-    let first = balanced_first (height_of t) a (e - a) (omega (arith, bound, ends))
-    (omega (arith, bound, ends, pow-suc)) in
-    grind (
-      arith,
-      follow.0,
-      ends,
-      only_number t (height_of t) (place_of t) (node_is t),
-      first,
-      only_row (height_of t) (end_of t) e ts follow.1 fall.1,
-    )
+    let ends : end_of t ≡ a + 2 ^ height_of t = omega arith in
+    let first = balanced_first (height_of t) a (e - a) (omega (arith, ends)) (omega (arith, bound, ends)) in
+    grind (arith, node_is t, only_row (height_of t) (end_of t) e ts follow.1 fall.1)
 
 pub balanced_roots_only : (n h : ℕ) (ts : List ℕ) → Follow 0 n ts → Fall h ts → ts ≡ balanced_roots n
-balanced_roots_only n h ts follow fall = let all : n - 0 ≡ n = omega arith in rw all at (only_row h 0 n ts follow fall)
+balanced_roots_only n h ts follow fall = grind (arith, only_row)
 
 -- ---- a cut root joins those of the balanced roots
 
@@ -79,9 +70,7 @@ old_root-joined H F n some =
 climb_cut : (H : List ℕ → List ℕ) (F : ℕ → Option (List ℕ)) (x : List ℕ) (k j c : ℕ)
     → cut_over H (with_target F (block k j) x) (block (k + c) (j / 2 ^ c)) ≡ climbed H F (Some x) k j c
 unfolding top_of
-climb_cut H F x k j c = climb k j (λ d way. top_of H F x way ≡ climbed H F (Some x) k j d) refl
-    (λ d way is. ⊎_elim (λ (t : (j / 2 ^ d % 2 == 0) ≡ true). rw (t, is) refl)
-    (λ (f : (j / 2 ^ d % 2 == 0) ≡ false). rw (f, is) refl) (cases_Bool (j / 2 ^ d % 2 == 0))) c
+climb_cut H F x k j c = climb k j (λ d way. top_of H F x way ≡ climbed H F (Some x) k j d) refl (grind arith) c
 
 pub cut_root_walk : (H : List ℕ → List ℕ) (F : ℕ → Option (List ℕ)) (t : ℕ) (x : List ℕ) (n c : ℕ) (left right : List ℕ)
     → 0 < n
@@ -93,7 +82,7 @@ cut_root_walk H F t x n c left right some split =
     let i = place_of t / 2 ^ c in
     let at = over_at k i in
     let beside = others_miss (height_of t) (place_of t) c n left right split in
-    let here : range_cut H e (number_of k i) ≡ climbed H F (Some x) (height_of t) (place_of t) c =
-    rw (at.0, at.1) (climb_cut H F x (height_of t) (place_of t) c) in
-    cut_roots H e (λ _. (height_of t, refl)) n some
-    ∙ rw (split, map-append, here, all_read H e left beside.0, all_read H e right beside.1) refl
+    let here : range_cut H e (number_of k i) ≡ climbed H F (Some x) (height_of t) (place_of t) c = grind
+    (arith, climb_cut) in
+    cut_roots H e (λ _. (height_of t, refl)) n some ∙ rw
+    (split, map-append, here, all_read H e left beside.0, all_read H e right beside.1) refl

@@ -10,7 +10,7 @@ use Rattle.std.proofs.lemmas.Nat.{pow_pos}
 use Rattle.warg_protobuf.proofs.ForCallers.{all_weaken}
 use Rattle.warg_log.specs.Nodes.{IsNode, ExistsAt, height_of, place_of, end_of, node_over, balanced_over, balanced_roots, Follow}
 use Rattle.warg_crypto.specs.Tree.{branch}
-use Rattle.warg_log.specs.Ranges.{Range, leaves_from, range_of, front_part, rest_part, IsAligned}
+use Rattle.warg_log.specs.Ranges.{Range, leaves_from, front_part, rest_part, IsAligned}
 use Rattle.warg_log.specs.Tree.{front_of, root_over, own_digest}
 use Rattle.warg_log.specs.Cut.{Evaluation, with_own, is_target, joined, top_of, cut_over, cut_root, old_over, IsFull}
 use Rattle.warg_log.specs.Walks.{IsKnown, needed, needed_between}
@@ -60,7 +60,7 @@ node_at = nodes.node_at
 
 -- the number of a node that exists is at most that of the last leaf
 pub existing_number : (x n : ℕ) → ExistsAt x n → x + 2 ≤ 2 * n
-existing_number x n exists = omega (arith, nodes.node_is x, pow_pos (height_of x))
+existing_number x n exists = omega (arith, nodes.node_is x, pow_pos)
 
 -- the node over a range has the range's height and place
 pub over_at : (k j : ℕ) → (height_of (node_over (j * 2 ^ k) (2 ^ k)) ≡ k)
@@ -69,7 +69,7 @@ over_at = nodes.over_at
 
 -- the front of a range is the greatest power of two below its count
 pub front_is_greatest : (n : ℕ) → 1 < n → IsFull (front_of n) × (front_of n < n) × (n ≤ 2 * front_of n)
-front_is_greatest n more = let f = powers.front_is n more in rw f.1 ((f.0, refl), f.2, omega (arith, f.3))
+front_is_greatest n more = grind (arith, powers.front_is n more)
 
 -- a power of two below a count whose double isn't below it is the front
 pub front_of_is : (h n : ℕ) → 2 ^ h < n → n ≤ 2 ^ suc h → front_of n ≡ 2 ^ h
@@ -83,8 +83,7 @@ root_over_one = powers.root_over_one
 -- the root over more leaves is the branch over those of the two parts
 pub root_over_parts : (H : List ℕ → List ℕ) (ds : List (List ℕ)) (a n : ℕ) → 1 < n → a + n ≤ length ds
     → root_over H ds a n ≡ branch H (root_over H ds a (front_of n)) (root_over H ds (a + front_of n) (n - front_of n))
-root_over_parts H ds a n more fits = let f = powers.front_is n more in
-    rw f.1 (cuts.root_over_split H ds f.0 a n f.2 f.3 fits)
+root_over_parts H ds a n more fits = grind (arith, powers.front_is n more, cuts.root_over_split)
 
 -- the balanced root of a power of two of leaves is the node over them
 pub balanced_full : (a n : ℕ) → IsFull n → balanced_over a n ≡ node_over a n ∷ []
@@ -95,39 +94,37 @@ pub balanced_parts : (a n : ℕ) → 1 < n → (IsFull n → ⊥) → balanced_o
     (a + front_of n) (n - front_of n)
 balanced_parts a n more part =
     let f = powers.front_is n more in
-    rw f.1 (balanced.balanced_first f.0 a n (omega (arith, f.2))
-    (grind (arith, f.3, λ (e : n ≡ 2 ^ suc f.0). part (suc f.0, e))))
+    rw f.1 (balanced.balanced_first f.0 a n (omega arith) (grind arith))
 
 -- the cut root of the target is the digest in its place
 pub cut_target : (H : List ℕ → List ℕ) (e : Evaluation) → cut_over H e e.target ≡ Some e.digest
-cut_target H e = cuts.cut_found H e.held e.target e.digest e.target ((ways.target_decides e.target e.target).1 refl)
+cut_target H e = grind (arith, cuts.cut_found)
 
 -- the cut root of a range that isn't read is the branch over those of its parts
 pub cut_parts : (H : List ℕ → List ℕ) (e : Evaluation) (r : Range) → 1 < r.count → (r ≡ e.target → ⊥)
     → (IsFull r.count → IsBeside e.target r → ⊥)
     → cut_over H e r ≡ joined H (cut_over H e (front_part r)) (cut_over H e (rest_part r))
-cut_parts H e r more other apart = cuts.cut_over_parts H e r more other
-    (λ full beside. apart full ((ways.beside_decides e.target r).0 beside))
+cut_parts H e r more other apart = cuts.cut_over_parts H e r more other (grind arith)
 
 -- the cut root of a range that misses the target is its old root
 pub cut_old : (H : List ℕ → List ℕ) (e : Evaluation) (r : Range) → 0 < e.target.count → 0 < r.count
     → IsBeside e.target r → cut_over H e r ≡ old_over H e.held r
 unfolding top_of
-cut_old H e r target some = ways.ways_from e.target r.start (λ r way. IsBeside e.target r → top_of H e.held e.digest way
-    ≡ old_over H e.held r) (record {
+cut_old H e r target some = ways.ways_from e.target r.start
+    (λ r way. IsBeside e.target r → top_of H e.held e.digest way ≡ old_over H e.held r)
+    (record {
       target = λ leaves beside. absurd (omega arith);
-      node = λ k c a _ _. sym (cuts.old_full H e.held (leaves_from a (2 ^ k)) (k, refl));
-      parts = λ h r left right more most apart p q beside.
-          rw (p (grind arith), q (grind arith))
-          (sym (cuts.old_over-split H e.held r h more most (λ f. apart f ((ways.beside_decides e.target r).1 beside))));
-    }) r.count some
+      node = λ k c a _ _. sym
+          (cuts.old_full H e.held (leaves_from a (2 ^ k)) (k, refl));
+      parts = grind (arith, cuts.old_over-split);
+    })
+    r.count some
 
 -- over a log's own digests the cut root of a range of its recursion is the root over it
 pub cut_own_range : (H : List ℕ → List ℕ) (ds : List (List ℕ)) (t r : Range) → 0 < r.count → IsAligned r.start r.count
     → r.start + r.count ≤ length ds
     → cut_over H (with_own H ds t) r ≡ Some (root_over H ds r.start r.count)
-cut_own_range H ds t r some aligned = cuts.own_at H ds _ t r aligned.height aligned.place refl aligned.start some
-    aligned.most
+cut_own_range H ds t r some aligned = search cuts.own_at
 
 -- the old root of a power of two of leaves is the digest that is held for them
 pub old_full : (H : List ℕ → List ℕ) (F : ℕ → Option (List ℕ)) (r : Range) → IsFull r.count
@@ -143,15 +140,13 @@ old_parts = cuts.old_over_parts
 pub old_own_range : (H : List ℕ → List ℕ) (ds : List (List ℕ)) (r : Range) → 0 < r.count → IsAligned r.start r.count
     → r.start + r.count ≤ length ds
     → old_over H (own_digest H ds) r ≡ Some (root_over H ds r.start r.count)
-old_own_range H ds r some aligned = cuts.own_at H ds _ cuts.nothing r aligned.height aligned.place refl aligned.start
-    some aligned.most
+old_own_range H ds r some aligned = search cuts.own_at
 
 -- an inclusion proof leads to a root exactly if its node exists and this is the cut root
 pub inclusion_leads : (H : List ℕ → List ℕ) (F : ℕ → Option (List ℕ)) (p : InclusionClaim) (x root : List ℕ)
     → (inclusion H F p x ≡ Ok root) ↔ (ExistsAt p.leaf.0 p.log_length
     × (cut_root H F p.leaf.0 x p.log_length ≡ Some root))
-inclusion_leads H F p x root = evaluations.leads (end_of p.leaf.0) p.log_length (cut_root H F p.leaf.0 x p.log_length)
-    root
+inclusion_leads H F p x root = grind arith
 
 -- a consistency proof evaluates to the roots that meet it alone
 pub consistency_only : (H : List ℕ → List ℕ) (F : ℕ → Option (List ℕ)) (m n : ℕ) (old new : List ℕ)
@@ -165,8 +160,7 @@ consistency_then = evaluations.consistency-then
 
 -- the needed nodes exist at the length
 pub needed_exist : (t n : ℕ) → 0 < n → AllByRecursion (λ x. ExistsAt x n) (needed t n)
-needed_exist t n some = all_weaken (orders.Lies 0 n) _ (λ x p. p.1) (needed t n)
-    (orders.needed_within (range_of t) n some).lie
+needed_exist t n some = grind (arith, all_weaken, orders.needed_within)
 
 -- the balanced roots of a length exist at it
 pub roots_exist : (n : ℕ) → AllByRecursion (λ t. end_of t ≤ n) (balanced_roots n)
@@ -184,22 +178,13 @@ same_consistency = reads.same_consistency
 
 -- nodes are compared by their numbers, and walks by their nodes and counts
 pub nodes_decide : (m n : Node) → Decides (same_node m n) (m ≡ n)
-nodes_decide m n = let d = Decides-eqb m.0 n.0 in (λ e. (λ i. record { 0 = d.0 e i }), λ e. grind (arith, d))
+nodes_decide m n = grind arith
 
 pub walks_decide : (a b : Walk) → Decides (same_walk a b) (a ≡ b)
 walks_decide a b =
     let walk = Decides-and _ _ (pointwise_decides nodes_decide a.nodes b.nodes)
     (Decides-eqb a.initial_walk_len b.initial_walk_len) in
-    let d = Decides-and _ _ (Decides-and _ _ walk (Decides-eqb a.lower_broots b.lower_broots))
-    (Decides-eqb a.upper_broots b.upper_broots) in (
-      λ e. let h = d.0 e in (λ i. record {
-        nodes = h.0.0.0 i;
-        initial_walk_len = h.0.0.1 i;
-        lower_broots = h.0.1 i;
-        upper_broots = h.1 i;
-      }),
-      λ e. grind (arith, d),
-    )
+    grind arith
 
 -- data that hold more have the same old roots
 pub old_more : (H : List ℕ → List ℕ) (F G : ℕ → Option (List ℕ)) → ((y : ℕ) (d : List ℕ) → F y ≡ Some d → G y ≡ Some d)

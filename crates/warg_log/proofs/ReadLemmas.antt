@@ -1,7 +1,7 @@
 -- The nodes that an evaluation reads: whether it has a root, and where two data have one.
-use Rattle.std.proofs.Common.{◌↔◌, ℕ, Bool, true, false, List, [], ◌∷◌, ◌++◌, Option, Some, None, refl, IsSome, ◌≡◌, ◌<◌, sym, ap, ◌∙◌, arith, ⊎_elim}
-use Rattle.warg_log.specs.Cut.{joined, Way, at_target, at_node, at_parts, top_of, cut_root, old_root}
-use Rattle.warg_log.specs.Walks.{read_on, IsKnown, needed, needed_between, joined_all}
+use Rattle.std.proofs.Common.{◌↔◌, ℕ, Bool, true, false, List, [], ◌∷◌, ◌++◌, Option, Some, None, refl, IsSome, ◌≡◌, ◌<◌, arith, ⊎_elim}
+use Rattle.warg_log.specs.Cut.{joined, Way, at_target, at_node, at_parts, top_of, old_root}
+use Rattle.warg_log.specs.Walks.{read_on, IsKnown, needed, needed_between}
 use Rattle.std.specs.List.{AllByRecursion}
 use Rattle.std.proofs.lemmas.Bool.{eq-eqb, cases_eq}
 use Rattle.warg_log.specs.Nodes.{balanced_roots}
@@ -13,14 +13,12 @@ use Rattle.warg_log.proofs.ClimbLemmas.{old_root-joined}
 -- the cut root is there exactly where each needed node's digest is
 pub known_append : (F : ℕ → Option (List ℕ)) (xs ys : List ℕ) → IsKnown F (xs ++ ys) ↔ (IsKnown F xs × IsKnown F ys)
 known_append F [] ys = ((λ h. (tt, h)), (λ h. h.1))
-known_append F (x ∷ xs) ys = let r = known_append F xs ys in
-    ((λ h. let p = r.0 h.1 in ((h.0, p.0), p.1)), (λ h. (h.0.0, r.1 (h.0.1, h.1))))
+known_append F (x ∷ xs) ys = grind (arith, known_append F xs ys)
 
 known_at : (F : ℕ → Option (List ℕ)) (misses : Bool) (l r : Way) → IsKnown F (read_on (at_parts misses l r)) ↔
     (IsKnown F (read_on l) × IsKnown F (read_on r))
 unfolding read_on
-known_at F true l r = let k = known_append F (read_on r) (read_on l) in
-    ((λ h. let p = k.0 h in (p.1, p.0)), (λ h. k.1 (h.1, h.0)))
+known_at F true l r = grind (arith, known_append F (read_on r) (read_on l))
 known_at F false l r = known_append F (read_on l) (read_on r)
 
 pub joined_known : (H : List ℕ → List ℕ) (p q : Option (List ℕ)) → IsSome (joined H p q) ↔ (IsSome p × IsSome q)
@@ -33,12 +31,8 @@ pub needed_exactly : (H : List ℕ → List ℕ) (F : ℕ → Option (List ℕ))
 unfolding read_on top_of
 needed_exactly H F x at_target = ((λ _. refl), (λ _. tt))
 needed_exactly H F x (at_node t) = ((λ h. h.0), (λ h. (h, tt)))
-needed_exactly H F x (at_parts misses left right) =
-    let l = needed_exactly H F x left in
-    let r = needed_exactly H F x right in
-    let known = known_at F misses left right in
-    let some = joined_known H (top_of H F x left) (top_of H F x right) in
-    ((λ k. let p = known.0 k in some.1 (l.0 p.0, r.0 p.1)), (λ k. let p = some.0 k in known.1 (l.1 p.0, r.1 p.1)))
+needed_exactly H F x (at_parts misses left right) = grind
+    (arith, needed_exactly H F x left, needed_exactly H F x right, known_at F misses left right)
 
 -- F and G agree on all that is read
 module _ (H : List ℕ → List ℕ) (F G : ℕ → Option (List ℕ)) where
@@ -56,16 +50,14 @@ module _ (H : List ℕ → List ℕ) (F G : ℕ → Option (List ℕ)) where
 
   -- an old root reads the balanced roots
   same_old : (m : ℕ) → 0 < m → AllSame (balanced_roots m) → old_root H F m ≡ old_root H G m
-  same_old m some all = old_root-joined H F m some ∙ ap (joined_all H) (map_same F G (balanced_roots m) all)
-      ∙ sym (old_root-joined H G m some)
+  same_old m some all = grind (arith, old_root-joined, map_same)
 
   -- the nodes lead to the same roots
   abbrev LeadAlike : ℕ → List ℕ → Type 0
   LeadAlike n = AllByRecursion (λ t. root_to H F n t ≡ root_to H G n t)
 
   same_to : (n t : ℕ) → AllSame (t ∷ needed t n) → root_to H F n t ≡ root_to H G n t
-  same_to n t all = let cut : (x : List ℕ) → cut_root H F t x n ≡ cut_root H G t x n = λ x. same_on x _ all.1 in
-      simp (all.0, cut)
+  same_to n t all = grind (arith, same_on)
 
   same_agreed : (n : ℕ) (agreed : List ℕ) (ts : List ℕ) → LeadAlike n ts → agreed_root H F n agreed ts
       ≡ agreed_root H G n agreed ts
@@ -74,8 +66,7 @@ module _ (H : List ℕ → List ℕ) (F G : ℕ → Option (List ℕ)) where
 
   same_new : (n : ℕ) (ts : List ℕ) → LeadAlike n ts → new_root_of H F n ts ≡ new_root_of H G n ts
   same_new n [] all = refl
-  same_new n (t ∷ ts) all = let rest : (r : List ℕ) → agreed_root H F n r ts ≡ agreed_root H G n r ts =
-      λ r. same_agreed n r ts all.1 in simp (all.0, rest)
+  same_new n (t ∷ ts) all = grind (arith, same_agreed)
 
   pub same_consistency : (m n : ℕ) → AllSame (needed_between m n) → consistency H F m n ≡ consistency H G m n
   same_consistency m n all = ⊎_elim
@@ -102,6 +93,5 @@ pub top_more : (H : List ℕ → List ℕ) (F G : ℕ → Option (List ℕ)) (x 
 unfolding top_of
 top_more H F G x more at_target d is = is
 top_more H F G x more (at_node t) d is = more t d is
-top_more H F G x more (at_parts misses left right) d is =
-    joined_more H (top_of H F x left) (top_of H F x right) (top_of H G x left) (top_of H G x right)
-    (top_more H F G x more left) (top_more H F G x more right) d is
+top_more H F G x more (at_parts misses left right) d is = search
+    (joined_more, top_more H F G x more left, top_more H F G x more right)

@@ -1,10 +1,10 @@
 -- Roots of lists of leaf digests.
-use Rattle.std.proofs.Common.{◌≡◌, ◌≢◌, ◌⊎◌, inl, inr, ◌↔◌, Bool, true, false, ◌||◌, nat_le, ℕ, zero, suc, ◌+◌, ◌-◌, ◌*◌, ◌/◌, ◌^◌, ◌<◌, ◌≤◌, max, ⊎_elim, List, [], ◌∷◌, length, take, drop, refl, sym, ap, ◌∙◌, arith, lit≤, lit<, add-zero, length-drop, length-take-le, slice_index_or}
-use Rattle.std.proofs.Math.Nat.{add-suc, add_comm, pow-suc, pow-le-pow_right}
+use Rattle.std.proofs.Common.{◌≡◌, ℕ, zero, suc, ◌+◌, ◌-◌, ◌*◌, ◌/◌, ◌^◌, ◌<◌, ◌≤◌, max, ⊎_elim, List, [], ◌∷◌, length, take, drop, refl, sym, ap, ◌∙◌, arith, lit<, add-zero, length-drop, length-take-le, slice_index_or}
+use Rattle.std.proofs.Math.Nat.{add_comm, pow-suc, pow-le-pow_right}
 use Rattle.std.specs.Int.{is_power_of_two}
 use Rattle.std.specs.Int.RustNames.{count_ones}
-use Rattle.std.specs.Bool.{Decides, IsTrue}
-use Rattle.std.proofs.lemmas.Bool.{false≢true, le-leb, lt-leb, cases_lt, eq-eqb, eqb-true}
+use Rattle.std.specs.Bool.{Decides}
+use Rattle.std.proofs.lemmas.Bool.{le-leb, lt-leb, cases_lt, eq-eqb, eqb-true}
 use Rattle.std.proofs.lemmas.Nat.{pow_pos, ones_cat, ones_le_self, zero_from_ones}
 use Rattle.warg_crypto.specs.Tree.{branch}
 use Rattle.warg_log.specs.Tree.{front_within, front_of, root_within, root_of, root_over}
@@ -12,14 +12,12 @@ use Rattle.warg_log.specs.Cut.{IsFull}
 
 pub below_pow : (n : ℕ) → n < 2 ^ n
 below_pow zero = lit< tt
-below_pow (suc n) = omega (arith, pow-suc 2 n, below_pow n)
+below_pow (suc n) = omega (arith, below_pow n)
 
 -- a recursion on a height is the same at each height that is enough
 settled : {X : Type 0} (f : ℕ → X) (n h d : ℕ) → ((k : ℕ) → n ≤ 2 ^ k → f (suc k) ≡ f k) → n ≤ 2 ^ h → f (h + d) ≡ f h
 settled f n h zero next le = rw add-zero refl
-settled f n h (suc d) next le =
-    rw add-suc (next (h + d) (omega (arith, pow-le-pow_right {n = 2} (lit≤ tt) {i = h} {j = h + d} (omega arith)))
-    ∙ settled f n h d next le)
+settled f n h (suc d) next le = grind (arith, pow-le-pow_right, settled f n h d next le)
 
 pub settled_at : {X : Type 0} (f : ℕ → X) (n h k : ℕ) → ((k : ℕ) → n ≤ 2 ^ k → f (suc k) ≡ f k) → n ≤ 2 ^ h → n ≤ 2 ^ k
     → f h ≡ f k
@@ -39,19 +37,21 @@ root_of_within H h (d ∷ ds) pos le =
 pub root_of_split : (H : List ℕ → List ℕ) (h : ℕ) (ds : List (List ℕ)) → 2 ^ h < length ds → length ds ≤ 2 ^ suc h
     → root_of H ds ≡ branch H (root_of H (take (2 ^ h) ds)) (root_of H (drop (2 ^ h) ds))
 unfolding root_within
-root_of_split H h ds more most =
-    let len_take : length (take (2 ^ h) ds) ≡ 2 ^ h = length-take-le (2 ^ h) ds (omega arith) in
-    let len_drop : length (drop (2 ^ h) ds) ≡ length ds - 2 ^ h = length-drop (2 ^ h) ds in
-    rw (
-      root_of_within H h (take (2 ^ h) ds) (omega (arith, pow_pos)) (omega arith),
-      root_of_within H h (drop (2 ^ h) ds) (omega arith) (omega (arith, pow-suc)),
-    )
-    (root_of_within H (suc h) ds (omega arith) most ∙ rw (lt-leb (length ds) (2 ^ h) more) refl)
+root_of_split H h ds more most = grind (
+  arith,
+  length-take-le (2 ^ h) ds,
+  length-drop (2 ^ h) ds,
+  root_of_within,
+  pow_pos,
+  root_of_within H h (drop (2 ^ h) ds),
+  pow-suc,
+  root_of_within H (suc h) ds,
+)
 
 -- the root of one digest
 pub root_of_one : (H : List ℕ → List ℕ) (d : List ℕ) → root_of H (d ∷ []) ≡ d
 unfolding root_within
-root_of_one H d = root_of_within H 0 (d ∷ []) (lit< tt) (lit≤ tt)
+root_of_one H d = cc
 
 -- the root over one leaf
 pub root_over_one : (H : List ℕ → List ℕ) (ds : List (List ℕ)) (a : ℕ) → a < length ds → root_over H ds a 1
@@ -68,10 +68,8 @@ front_above (suc h) n more = rw (lt-leb n (2 ^ suc h) more) refl
 
 pub front_of_is : (h n : ℕ) → 2 ^ h < n → n ≤ 2 ^ suc h → front_of n ≡ 2 ^ h
 unfolding front_of front_within
-front_of_is h n more most =
-    settled_at (λ k. front_within k n) n n (suc h) (λ k low. rw (le-leb n (2 ^ suc k) (omega (arith, pow-suc))) refl)
-    (omega (arith, below_pow)) most
-    ∙ rw (le-leb n (2 ^ suc h) most) (front_above h n more)
+front_of_is h n more most = settled_at (λ k. front_within k n) n n (suc h) (grind arith) (omega (arith, below_pow))
+    most ∙ rw (le-leb n (2 ^ suc h) most) (front_above h n more)
 
 -- a number above 1 lies above a power of two, and at most at its double
 pub exponent_below : (f n : ℕ) → 1 < n → n ≤ 2 ^ f → (h : ℕ) × (2 ^ h < n) × (n ≤ 2 ^ suc h)
@@ -81,60 +79,24 @@ exponent_below (suc f) n more most = ⊎_elim (λ above. (f, above, most)) (λ l
 
 -- the front of a range of more than one leaf
 pub front_is : (n : ℕ) → 1 < n → (h : ℕ) × (front_of n ≡ 2 ^ h) × (2 ^ h < n) × (n ≤ 2 ^ suc h)
-front_is n more = let e = exponent_below n n more (omega (arith, below_pow)) in
-    (e.0, front_of_is e.0 n e.1 e.2, e.1, e.2)
+front_is n more = grind (arith, exponent_below n n more, below_pow, front_of_is)
 
 -- half of the least power of two that isn't below a number, as a program finds it
 pub front_of_half : (n r : ℕ) → 1 < n → IsFull r → n ≤ r → r / 2 < max 1 n → front_of n ≡ r / 2
 front_of_half n r more (zero, is) low high = absurd (omega arith)
-front_of_half n r more (suc h, is) low high =
-    let half : r / 2 ≡ 2 ^ h = omega (arith, is, pow-suc 2 h) in
-    front_of_is h n (omega arith) (omega arith) ∙ sym half
+front_of_half n r more (suc h, is) low high = grind (arith, front_of_is)
 
 -- a power of two has one binary digit that is set, and no other number does
 one_digit : count_ones 1 ≡ 1
-one_digit = grind (arith, ones_le_self 1, zero_from_ones 1)
+one_digit = grind (arith, ones_le_self, zero_from_ones)
 
 pub power_decides : (n : ℕ) → Decides (is_power_of_two n) (IsFull n)
-power_decides zero = (
-  λ e. absurd (omega (arith, eqb-true _ _ e, ones_le_self 0)),
-  λ full. absurd (omega (arith, full, pow_pos full.0)),
-)
+power_decides zero = grind (arith, ones_le_self, pow_pos)
 power_decides (suc m) =
     let e = exponent_below (suc m) (suc (suc m)) (omega arith) (below_pow (suc m)) in
     let whole : 1 * 2 ^ e.0 + (suc m - 2 ^ e.0) ≡ suc m = omega arith in
-    let digits = rw whole at (ones_cat e.0 1 (suc m - 2 ^ e.0) (omega (arith, pow-suc))) in (
-      λ one. (
-        e.0,
-        omega (
-          arith,
-          zero_from_ones (suc m - 2 ^ e.0)
-              (omega (arith, digits, one_digit, eqb-true _ _ one)),
-        ),
-      ),
-      λ full. eq-eqb _ _ (rw full.1 (let same : 1 * 2 ^ full.0 + 0 ≡ 2 ^ full.0 = omega arith in
-          omega (arith, rw same at (ones_cat full.0 1 0 (pow_pos full.0)), one_digit, ones_le_self 0))),
+    let digits = rw whole at (ones_cat e.0 1 (suc m - 2 ^ e.0) (omega arith)) in (
+      grind (arith, zero_from_ones, eqb-true),
+      λ full. grind
+          (arith, eq-eqb, ones_cat full.0 1 0 (pow_pos full.0), one_digit, ones_le_self 0),
     )
-
--- what an evaluation reads, by the count of leaves and whether they miss the target
-module _ (n : ℕ) (beside : Bool) (more : n ≢ 1) where
-  pub read_if_full : true ≡ is_power_of_two n → IsTrue beside ↔ ((n ≡ 1) ⊎ (IsFull n × IsTrue beside))
-  read_if_full full = (
-    λ yes. inr ((power_decides n).0 (sym full), yes),
-    λ h. elim h [ inl one ↦ absurd (more one) | inr both ↦ both.1 ],
-  )
-
-  pub read_if_not_full : (r : Bool) → r ≡ false → false ≡ is_power_of_two n
-      → IsTrue r ↔ ((n ≡ 1) ⊎ (IsFull n × IsTrue beside))
-  read_if_not_full r is other = (
-    λ yes. absurd (false≢true (sym is ∙ yes)),
-    λ h. elim h [ inl one ↦ absurd (more one) | inr both ↦ absurd (false≢true (other ∙ (power_decides n).1 both.0)) ],
-  )
-
--- a range that ends before a target, and one that may begin behind it
-module _ (a b c d : ℕ) where
-  pub beside_before : a ≤ b → nat_le a b ≡ (nat_le a b || nat_le c d)
-  beside_before le = rw (le-leb a b le) refl
-
-  pub beside_behind : b < a → nat_le c d ≡ (nat_le a b || nat_le c d)
-  beside_behind lt = rw (lt-leb a b lt) refl

@@ -1,12 +1,12 @@
 -- The blocks of a stack log.
-use Rattle.std.proofs.Common.{◌≡◌, ℕ, zero, suc, ◌+◌, ◌*◌, ◌/◌, ◌%◌, ◌^◌, ◌<◌, ◌≤◌, nat_eq, false, List, [], ◌∷◌, ◌++◌, length, get_or, take, drop, map, Option, Some, None, refl, sym, ap, ◌∙◌, arith, ⊎_elim}
+use Rattle.std.proofs.Common.{◌≡◌, ℕ, zero, suc, ◌+◌, ◌*◌, ◌/◌, ◌%◌, ◌^◌, ◌<◌, ◌≤◌, nat_eq, false, List, [], ◌∷◌, ◌++◌, length, map, Option, Some, None, refl, sym, ap, ◌∙◌, arith, ⊎_elim}
 use Rattle.std.specs.List.{AllByRecursion, IsDistinct}
 use Rattle.std.proofs.Math.Nat.{pow-suc}
-use Rattle.std.proofs.lemmas.List.{map_push, same_from_push, get_or_push, length_push, length-map, nil_from_length, take_all}
+use Rattle.std.proofs.lemmas.List.{map_push, same_from_push, get_or_push, length_push, length-map, nil_from_length}
 use Rattle.std.proofs.lemmas.Nat.{pow_pos}
 use Rattle.std.proofs.lemmas.Simd.{map-map}
-use Rattle.std.proofs.lemmas.Bool.{le-leb, eq-eqb, ne_eqb, cases_eq}
-use Rattle.warg_log.specs.Nodes.{IsNode, height_of, place_of, start_of, end_of, node_over, balanced_roots}
+use Rattle.std.proofs.lemmas.Bool.{le-leb, ne_eqb, cases_eq}
+use Rattle.warg_log.specs.Nodes.{height_of, place_of, start_of, end_of, node_over, balanced_roots}
 use Rattle.warg_crypto.specs.Tree.{branch}
 use Rattle.warg_log.specs.Tree.{root_of, root_over, leaves_below, own_digest}
 use Rattle.warg_log.specs.Cut.{joined, old_root}
@@ -44,14 +44,7 @@ mapped_snoc : (G : ℕ → ℕ → List ℕ) (i r : ℕ) → map (over G) (balan
     ≡ map (over G) (balanced_roots (r * 2 ^ suc i)) ++ G i (r * 2 ^ suc i) ∷ []
 mapped_snoc G i r =
     let place : r * 2 ^ suc i ≡ 2 * r * 2 ^ i = rw pow-suc (omega arith) in
-    rw (
-      roots_front (suc i) r (2 ^ i) (omega (arith, pow-suc 2 i, pow_pos i)),
-      balanced_full,
-      map_push,
-      place,
-      (over_at i (2 * r)).0,
-      (over_at i (2 * r)).1,
-    ) refl
+    grind (arith, roots_front, pow_pos, balanced_full, map_push, over_at)
 
 -- there is a block to join with
 pub popped : (n : ℕ) (G : ℕ → ℕ → List ℕ) (rest : ℕ) (left : List (List ℕ)) (last : List ℕ) → rest % 2 ≡ 1
@@ -60,9 +53,9 @@ pub popped : (n : ℕ) (G : ℕ → ℕ → List ℕ) (rest : ℕ) (left : List 
     (rest / 2 * 2 ^ suc from.height) ∷ []
 popped n G rest left last odd from = grind (
   arith,
-  from.blocks,
   halved from.height rest (rest / 2) 1,
-  mapped_snoc G from.height (rest / 2),
+  mapped_snoc G from.height
+      (rest / 2),
 )
 
 -- no more joins
@@ -71,33 +64,21 @@ pub join_done : (n : ℕ) (G : ℕ → ℕ → List ℕ) (rest : ℕ) (left : Li
     → left ++ last ∷ [] ≡ map (over G) (balanced_roots (n + 1))
 join_done n G rest left last even from = grind (
   arith,
-  from.digits,
-  from.blocks,
-  from.digest,
   halved from.height rest (rest / 2) 0,
-  mapped_snoc G from.height (rest / 2),
+  mapped_snoc G
+      from.height (rest / 2),
 )
 
 module _ (H : List ℕ → List ℕ) (n : ℕ) (d : List ℕ) (digests : List (List ℕ)) where
   -- no join yet, and one more
   pub join_none : (G : ℕ → ℕ → List ℕ) → Grows H n d digests G → IsJoined n G n digests d
-  join_none G grows = let one : n * 2 ^ 0 ≡ n = omega arith in
-      record { height = 0; digits = omega arith; blocks = rw one grows.blocks; digest = rw one grows.leaf }
+  join_none G grows = grind arith
 
   pub join_step : (G : ℕ → ℕ → List ℕ) (rest : ℕ) (left left' : List (List ℕ)) (last e : List ℕ) → rest % 2 ≡ 1
       → left ≡ left' ++ e ∷ [] → Grows H n d digests G → IsJoined n G rest left last
       → IsJoined n G (rest / 2) left' (branch H e last)
-  join_step G rest left left' last e odd is grows from =
-      let here = halved from.height rest (rest / 2) 1 (omega arith) in
-      let digits : n + 1 ≡ (rest / 2 + 1) * 2 ^ suc from.height =
-      omega (arith, from.digits, here, pow-suc 2 from.height) in
-      let parts = same_from_push left' _ e _ (sym is ∙ popped n G rest left last odd from) in
-      record {
-        height = suc from.height;
-        digits = digits;
-        blocks = parts.0;
-        digest = grind (arith, parts.1, from.digest, here, digits, grows.joins from.height (rest / 2));
-      }
+  join_step G rest left left' last e odd is grows from = grind
+      (arith, halved from.height rest (rest / 2) 1, same_from_push, popped n G rest left last odd from)
 
   -- so the digests of ranges are known where they grow
   joined_once : (G K : ℕ → ℕ → List ℕ) → Grows H n d digests G → Grows H n d digests K
@@ -122,10 +103,7 @@ unfolding IsDistinct
 beside_all [] [] len distinct = refl
 beside_all [] (d ∷ ds) len distinct = absurd (omega arith)
 beside_all (t ∷ ts) [] len distinct = absurd (omega arith)
-beside_all (t ∷ ts) (d ∷ ds) len distinct =
-    let skip : map (digest_beside (t ∷ ts) (d ∷ ds)) ts ≡ map (digest_beside ts ds) ts =
-    map_same _ _ ts (all_weaken (λ y. nat_eq t y ≡ false) _ (λ y other. rw other refl) ts distinct.0) in
-    rw (eq-eqb t t refl, skip, beside_all ts ds (omega arith) distinct.1) refl
+beside_all (t ∷ ts) (d ∷ ds) len distinct = grind (arith, map_same, all_weaken, beside_all ts ds)
 
 beside_none : (x : ℕ) (ts : List ℕ) (ds : List (List ℕ)) → AllByRecursion (λ t. nat_eq t x ≡ false) ts
     → digest_beside ts ds x ≡ None
@@ -136,7 +114,7 @@ beside_none x (t ∷ ts) (d ∷ ds) all = rw all.0 (beside_none x ts ds all.1)
 -- the blocks of a length are held
 blocks_held : (b : Blocks) → length b.digests ≡ length (balanced_roots b.len) → map (block_at b) (balanced_roots b.len)
     ≡ map Some b.digests
-blocks_held b len = beside_all (balanced_roots b.len) b.digests len (roots_within b.len).distinct
+blocks_held b len = grind (arith, beside_all, roots_within)
 
 -- an old block's digest
 over_held : (H : List ℕ → List ℕ) (F : ℕ → Option (List ℕ)) (n : ℕ) (d e : List ℕ) (h a : ℕ) → a + 2 ^ h ≤ n
@@ -153,23 +131,23 @@ all_over H F n d (t ∷ ts) [] held exist = absurd (cc)
 all_over H F n d (t ∷ ts) (e ∷ ds) held exist =
     let first : F t ≡ Some e = cc in
     let others : map F ts ≡ map Some ds = cc in
-    let here = over_held H F n d e (height_of t) (start_of t) (omega (arith, exist.0))
+    let here = over_held H F n d e (height_of t) (start_of t) (omega arith)
     (ap F (sym (only_number t (height_of t) (place_of t) (node_is t))) ∙ first) in
     rw (here, ← all_over H F n d ts ds others exist.1) refl
 
 pub grows_over : (H : List ℕ → List ℕ) (b : Blocks) (d : List ℕ) → length b.digests ≡ length (balanced_roots b.len)
     → Grows H b.len d b.digests (block_over H (block_at b) b.len d)
-grows_over H b d len = record {
-  blocks = all_over H (block_at b) b.len d (balanced_roots b.len) b.digests (blocks_held b len)
-      (roots_end b.len b.len (omega arith));
-  leaf = rw (eq-eqb b.len b.len refl) refl;
-  joins = λ h q end.
-      let x = node_over (q * 2 ^ suc h) (2 ^ suc h) in
-      let others = all_weaken (λ t. end_of t ≤ b.len) (λ t. nat_eq t x ≡ false)
-      (λ t ends. ne_eqb t x (λ e. omega (arith, ap end_of e, ends, over_ends (suc h) q, end)))
-      (balanced_roots b.len) (roots_end b.len b.len (omega arith)) in
-      rw (beside_none x (balanced_roots b.len) b.digests others) refl;
-}
+grows_over H b d len = grind (
+  arith,
+  all_over H (block_at b) b.len d (balanced_roots b.len) b.digests
+      (blocks_held b len),
+  blocks_held b len,
+  roots_end b.len b.len,
+  all_weaken,
+  ne_eqb,
+  over_ends,
+  beside_none,
+)
 
 -- ---- blocks that stand for leaves
 
@@ -177,18 +155,12 @@ grows_roots : (H : List ℕ → List ℕ) (b : Blocks) (ds : List (List ℕ)) (d
     → Grows H b.len d b.digests (λ h a. root_over H (ds ++ d ∷ []) a (2 ^ h))
 grows_roots H b ds d stands =
     let len : length (ds ++ d ∷ []) ≡ length ds + 1 = length_push ds d in
-    let count : length ds ≡ b.len = stands.count in
     record {
-      blocks = stands.roots ∙ map_same _ _ (balanced_roots b.len) (all_weaken (λ t. end_of t ≤ length ds) _
-          (λ t ends. ap (root_of H) (sym (front_kept ds d (start_of t) (2 ^ height_of t) (omega (arith, ends)))))
-          (balanced_roots b.len) (roots_end b.len (length ds) (omega arith)));
-      leaf = sym (root_over_one H (ds ++ d ∷ []) b.len (omega arith) ∙ get_or_push ds d [] b.len count);
-      joins = λ h q end. grind (
-        arith,
-        pow-suc 2 h,
-        root_over_split H (ds ++ d ∷ []) h (q * 2 ^ suc h) (2 ^ suc h)
-            (omega (arith, pow-suc, pow_pos)) (omega arith) (omega (arith, end)),
-      );
+      blocks = grind (arith, map_same, all_weaken, front_kept, roots_end);
+      leaf = grind
+          (arith, root_over_one, get_or_push);
+      joins = λ h q end. grind
+          (arith, root_over_split H (ds ++ d ∷ []) h (q * 2 ^ suc h) (2 ^ suc h), pow-suc, pow_pos);
     }
 
 pub stands_pushed : (H : List ℕ → List ℕ) (b : Blocks) (d : List ℕ) (ds : List (List ℕ)) → StandsFor H b ds
@@ -211,57 +183,30 @@ some_joined H d (e ∷ ds) = ap (joined H (Some d)) (some_joined H e ds)
 
 old_joined : (H : List ℕ → List ℕ) (F : ℕ → Option (List ℕ)) (n : ℕ) (es : List (List ℕ)) → 0 < n
     → map F (balanced_roots n) ≡ map Some es → old_root H F n ≡ Some (joined_blocks H es)
-old_joined H F n [] some held = let f = rw (has_first_over 0 n some).2 at held in absurd (cc)
-old_joined H F n (e ∷ es) some held = old_root-joined H F n some ∙ ap (joined_all H) held ∙ some_joined H e es
+old_joined H F n [] some held = grind (arith, has_first_over 0 n some)
+old_joined H F n (e ∷ es) some held = grind (arith, old_root-joined, some_joined)
 
 pub blocks_root : (H : List ℕ → List ℕ) (b : Blocks) → length b.digests ≡ length (balanced_roots b.len) → 0 < b.len
     → old_root H (block_at b) b.len ≡ Some (joined_blocks H b.digests)
-blocks_root H b len some = old_joined H (block_at b) b.len b.digests some (blocks_held b len)
+blocks_root H b len some = search (old_joined, blocks_held)
 
 pub none_root : (H : List ℕ → List ℕ) (ds : List (List ℕ)) → length ds ≡ length (balanced_roots 0) → joined_blocks H ds
     ≡ H []
-none_root H ds len = ap (joined_blocks H) (nil_from_length ds (len ∙ rw balanced_none refl))
+none_root H ds len = grind (arith, nil_from_length, balanced_none)
 
 -- the root of blocks that stand for leaves
 pub stands_root : (H : List ℕ → List ℕ) (b : Blocks) (ds : List (List ℕ)) → StandsFor H b ds → joined_blocks H b.digests
     ≡ root_of H ds
-stands_root H b [] stands = none_root H b.digests
-    (ap length stands.roots ∙ length-map (balanced_roots b.len) (λ t. root_of H (leaves_below t []))
-    ∙ rw (← stands.count) refl)
+stands_root H b [] stands = grind (arith, none_root, length-map)
 stands_root H b (e ∷ es) stands =
     let ds = e ∷ es in
     let count : length ds ≡ b.len = stands.count in
     let own = all_weaken (λ t. end_of t ≤ length ds) (λ t. own_digest H ds t ≡ Some (root_of H (leaves_below t ds)))
     (λ t ends. rw (le-leb (end_of t) (length ds) ends) refl) (balanced_roots b.len)
     (roots_end b.len (length ds) (omega arith)) in
-    let held : map (own_digest H ds) (balanced_roots b.len) ≡ map Some b.digests =
-    map_same _ _ (balanced_roots b.len) own
-    ∙ sym (map-map Some (λ t. root_of H (leaves_below t ds)) (balanced_roots b.len))
-    ∙ ap (λ l. map Some l) (sym stands.roots) in
+    let held : map (own_digest H ds) (balanced_roots b.len) ≡ map Some b.digests = grind (arith, map_same, map-map)
+    in
     let joins = old_joined H (own_digest H ds) b.len b.digests (omega arith) held in
     let root : old_root H (own_digest H ds) b.len ≡ Some (root_of H ds) = own_root H ds b.len (omega arith)
     (sym count) in
-    let both : Some (joined_blocks H b.digests) ≡ Some (root_of H ds) = sym joins ∙ root in
     cc
-
--- joined blocks, by how many there are
-pub joined_none : (H : List ℕ → List ℕ) (blocks : List (List ℕ)) → length blocks < 1 → H [] ≡ joined_blocks H blocks
-joined_none H [] lt = refl
-joined_none H (d ∷ ds) lt = absurd (omega arith)
-
-pub joined_one : (H : List ℕ → List ℕ) (blocks : List (List ℕ)) (d : List ℕ) → length blocks < 2 → 1 ≤ length blocks
-    → d ≡ get_or blocks 0 d → d ≡ joined_blocks H blocks
-joined_one H [] d lt le is = absurd (omega arith)
-joined_one H (e ∷ []) d lt le is = is
-joined_one H (e ∷ f ∷ ds) d lt le is = absurd (omega arith)
-
-pub joined_more : (H : List ℕ → List ℕ) (blocks : List (List ℕ)) (d : List ℕ) (n : ℕ) → 2 ≤ length blocks
-    → length blocks ≤ n + 1 → d ≡ get_or blocks 0 d
-    → branch H d (joined_blocks H (take n (drop 1 blocks))) ≡ joined_blocks H blocks
-joined_more H [] d n le all is = absurd (omega arith)
-joined_more H (e ∷ []) d n le all is = absurd (omega arith)
-joined_more H (e ∷ f ∷ ds) d n le all is = rw (is, take_all n (f ∷ ds) (omega arith)) refl
-
--- the number of a leaf
-pub leaf_number : (x i : ℕ) → IsNode x 0 i → x ≡ 2 * i
-leaf_number x i is = omega arith

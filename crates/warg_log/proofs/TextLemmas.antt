@@ -1,5 +1,5 @@
 -- Checkpoints as text.
-use Rattle.std.proofs.Common.{◌≡◌, ◌≢◌, ℕ, ◌^◌, ◌<◌, List, ◌∷◌, ◌++◌, length, Option, Some, None, Ok, Err, Bor, ap, ◌∙◌, arith}
+use Rattle.std.proofs.Common.{◌≡◌, ◌≢◌, ℕ, ◌^◌, ◌<◌, List, length, Option, Some, None, Ok, Err, Bor, arith}
 use Rattle.std.specs.Prelude.{MatchOption}
 use Rattle.std.specs.Fmt.{decimal}
 use Rattle.std.specs.List.{AllPass}
@@ -14,16 +14,15 @@ use Rattle.warg_log.proofs.DecimalLemmas.{decimal_without}
 parts_at_space : (text : List ℕ) (n : ℕ) (digits : List ℕ) (r : Option (Bor (List ℕ) × Bor (List ℕ)))
     → IsSplitOnceResult 32 text r → n < 2 ^ 64 → text ≡ length_and_digits n digits
     → MatchOption r ⊥ (λ x. (x.0.now ≡ decimal n) × (x.1.now ≡ digits))
-parts_at_space text n digits r cut small is =
-    split_after 32 text (decimal n) digits r cut (omega arith) is
-    (λ i inside. decimal_without n 32 i small (λ a b. omega arith) inside)
+parts_at_space text n digits r cut small is = split_after 32 text (decimal n) digits r cut (omega arith) is
+    (grind (arith, decimal_without))
 
 -- a text that is no length and digits is refused
 refused : {E : Type 0} (e : E) (text : List ℕ)
     → ((n : ℕ) (digits : List ℕ) → n < 2 ^ 64 → text ≡ length_and_digits n digits → length digits ≡ 64
     → AllPass is_hex_digit digits → ⊥)
     → SpellsCheckpoint text (Err e)
-refused e text none = record { value = tt; exactly = (λ ok. cc, λ s. absurd (none s.0 s.1 s.2 s.3 s.4 s.5)) }
+refused e text none = grind arith
 
 pub without_space : {E : Type 0} (e : E) (text : List ℕ) (r : Option (Bor (List ℕ) × Bor (List ℕ)))
     → IsSplitOnceResult 32 text r → r ≡ None → SpellsCheckpoint text (Err e)
@@ -40,20 +39,16 @@ without_length e text before behind cut none =
 pub without_root : {E F : Type 0} (e : E) (f : F) (text : List ℕ) (before behind : Bor (List ℕ))
     → IsSplitOnceResult 32 text (Some (before, behind))
     → SpellsHash {E = F} behind.now (Err f) → SpellsCheckpoint text (Err e)
-without_root e f text before behind cut spells =
-    refused e text (λ n digits small same size all.
-    let digits_are : behind.now ≡ digits = (parts_at_space text n digits (Some (before, behind)) cut small same).1 in
-    let ok = spells.exactly.1 (ap length digits_are ∙ size, rw digits_are all) in cc)
+without_root e f text before behind cut spells = refused e text
+    (λ n digits small same size all. grind (
+      arith,
+      parts_at_space text n digits (Some (before, behind)) cut small
+          same,
+    ))
 
 pub with_both : {E F : Type 0} (text : List ℕ) (before behind : Bor (List ℕ)) (n : ℕ) (root : List ℕ)
     (c : RootAndLength) → IsSplitOnceResult 32 text (Some (before, behind))
     → n < 2 ^ 64 → before.now ≡ decimal n → SpellsHash {E = F} behind.now (Ok root) → c.root ≡ root → c.length ≡ n
     → SpellsCheckpoint {E = E} text (Ok c)
-with_both text before behind n root c cut small is spells root_is length_is =
-    let same : text ≡ length_and_digits n behind.now = (split_parts 32 text (Some (before, behind)) cut (omega arith)).0
-    ∙ ap (λ l. l ++ 32 ∷ behind.now) is in
-    let digits = spells.exactly.0 (cc) in
-    record {
-      value = (behind.now, rw length_is same, rw root_is spells.value);
-      exactly = (λ ok. (n, behind.now, small, same, digits.0, digits.1), λ s. cc);
-    }
+with_both text before behind n root c cut small is spells root_is length_is = grind
+    (arith, split_parts 32 text (Some (before, behind)) cut)

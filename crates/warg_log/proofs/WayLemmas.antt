@@ -1,10 +1,9 @@
 -- The way of an evaluation down a range.
-use Rattle.std.proofs.Common.{◌≡◌, ℕ, zero, suc, ◌+◌, ◌-◌, ◌*◌, ◌^◌, ◌<◌, ◌≤◌, ◌==◌, ◌&&◌, true, false, if◌then◌else◌, Bool, refl, sym, ap, ◌∙◌, arith, ⊎_elim, ◌⊎◌, inl, inr}
+use Rattle.std.proofs.Common.{◌≡◌, ℕ, zero, suc, ◌+◌, ◌-◌, ◌*◌, ◌^◌, ◌<◌, ◌≤◌, ◌==◌, ◌&&◌, true, false, if◌then◌else◌, Bool, refl, ap, ◌∙◌, arith, ⊎_elim, ◌⊎◌, inl, inr}
 use Rattle.std.specs.Prelude.{IsTrue}
 use Rattle.std.specs.Bool.{Decides}
 use Rattle.std.proofs.Math.Nat.{pow-suc}
-use Rattle.std.proofs.lemmas.Bool.{le-leb, lt-leb, leb-true, false_from_ne_true, false≢true, cond_both, cases_lt}
-use Rattle.std.proofs.lemmas.Bool.Decides.{Decides-and, Decides-or, Decides-eqb}
+use Rattle.std.proofs.lemmas.Bool.{le-leb, false≢true, cases_lt}
 use Rattle.std.proofs.lemmas.Nat.{pow_pos}
 use Rattle.warg_log.specs.Nodes.{node_over}
 use Rattle.warg_log.specs.Ranges.{Range, leaves_from, front_part, rest_part}
@@ -20,7 +19,7 @@ behind h r = leaves_from (r.start + 2 ^ h) (r.count - 2 ^ h)
 
 -- a range is known by where it starts and by its count
 pub same_range : (r t : Range) → r.start ≡ t.start → r.count ≡ t.count → r ≡ t
-same_range r t e f = ap (λ a. leaves_from a r.count) e ∙ ap (leaves_from t.start) f
+same_range r t e f = grind arith
 
 -- ranges that are one start at one leaf, and have one count
 pub starts : {r t : Range} → r ≡ t → r.start ≡ t.start
@@ -35,26 +34,18 @@ IsBeside t r = (r.start + r.count ≤ t.start) ⊎ (t.start + t.count ≤ r.star
 
 -- the tests
 pub target_decides : (t r : Range) → Decides (is_target t r) (r ≡ t)
-target_decides t r =
-    let both = Decides-and _ _ (Decides-eqb r.start t.start) (Decides-eqb r.count t.count) in
-    (λ e. let p = both.0 e in same_range r t p.0 p.1, λ same. both.1 (starts same, counts same))
+target_decides t r = grind arith
 
 pub beside_decides : (t r : Range) → Decides (is_beside t r) (IsBeside t r)
-beside_decides t r = Decides-or _ _ (leb-true (r.start + r.count) t.start, le-leb (r.start + r.count) t.start)
-    (leb-true (t.start + t.count) r.start, le-leb (t.start + t.count) r.start)
-
-read_decides : (t r : Range) (h : ℕ) → Decides (r.count == 2 ^ suc h && is_beside t r)
-    ((r.count ≡ 2 ^ suc h) × IsTrue (is_beside t r))
-read_decides t r h = Decides-and _ _ (Decides-eqb r.count (2 ^ suc h)) (λ e. e, λ e. e)
+beside_decides t r = grind arith
 
 pub refuted : {P : Type 0} (b : Bool) → Decides b P → (P → ⊥) → b ≡ false
-refuted b decides other = false_from_ne_true b (λ e. other (decides.0 e))
+refuted b decides other = grind arith
 
 -- the recursion without a height
 way_at : (t : Range) (h : ℕ) (r : Range) → r.count ≤ 2 ^ h → way_over t r ≡ way_within t h r
 unfolding way_within
-way_at t h r le = settled_at (λ k. way_within t k r) r.count r.count h (λ k low. rw (le-leb r.count (2 ^ k) low) refl)
-    (omega (arith, below_pow)) le
+way_at t h r le = settled_at (λ k. way_within t k r) r.count r.count h (search le-leb) (omega (arith, below_pow)) le
 
 way_more : (t r : Range) (h : ℕ) → 2 ^ h < r.count → r.count ≤ 2 ^ suc h
     → way_over t r ≡ (if is_target t r
@@ -63,9 +54,7 @@ way_more : (t r : Range) (h : ℕ) → 2 ^ h < r.count → r.count ≤ 2 ^ suc h
     then at_node (node_over r.start r.count)
     else at_parts (is_beside t (first h r)) (way_over t (first h r)) (way_over t (behind h r)))
 unfolding way_within
-way_more t r h more most =
-    rw (way_at t h (first h r) (omega arith), way_at t h (behind h r) (omega (arith, pow-suc)))
-    (way_at t (suc h) r most ∙ rw (lt-leb r.count (2 ^ h) more) refl)
+way_more t r h more most = grind (arith, way_at t h (first h r), way_at, pow-suc, way_at t (suc h) r most)
 
 -- the target's own range
 pub way_over_target : (t : Range) → way_over t t ≡ at_target
@@ -79,29 +68,19 @@ way_over_target t =
 pub way_over-read : (t r : Range) → (r ≡ t → ⊥) → (r.count ≡ 1) ⊎ (IsFull r.count × IsTrue (is_beside t r))
     → way_over t r ≡ at_node (node_over r.start r.count)
 unfolding way_within
-way_over-read t r other (inl one) = way_at t 0 r (omega arith) ∙ rw (refuted _ (target_decides t r) other) refl
-way_over-read t r other (inr ((zero, one), beside)) = way_at t 0 r (omega arith)
-    ∙ rw (refuted _ (target_decides t r) other) refl
-way_over-read t r other (inr ((suc k, width), beside)) =
-    way_more t r k (omega (arith, pow_pos, pow-suc)) (omega arith)
-    ∙ rw (refuted _ (target_decides t r) other, (read_decides t r k).1 (width, beside)) refl
+way_over-read t r other (inl one) = grind arith
+way_over-read t r other (inr ((zero, one), beside)) = grind arith
+way_over-read t r other (inr ((suc k, width), beside)) = grind (arith, way_more t r k, pow_pos, pow-suc, refuted)
 
 -- any other range
 pub way_over-split : (t r : Range) (h : ℕ) → 2 ^ h < r.count → r.count ≤ 2 ^ suc h → (r ≡ t → ⊥)
     → (r.count ≡ 2 ^ suc h → IsTrue (is_beside t r) → ⊥)
     → way_over t r ≡ at_parts (is_beside t (first h r)) (way_over t (first h r)) (way_over t (behind h r))
-way_over-split t r h more most other apart =
-    way_more t r h more most ∙ rw (
-      refuted _ (target_decides t r) other,
-      refuted _ (read_decides t r h)
-          (λ p. apart p.0 p.1),
-    ) refl
+way_over-split t r h more most other apart = grind (arith, way_more t r h more most, refuted)
 
 pub way_over_parts : (t r : Range) → 1 < r.count → (r ≡ t → ⊥) → (IsFull r.count → IsTrue (is_beside t r) → ⊥)
     → way_over t r ≡ at_parts (is_beside t (front_part r)) (way_over t (front_part r)) (way_over t (rest_part r))
-way_over_parts t r more other apart =
-    let f = front_is r.count more in
-    rw f.1 (way_over-split t r f.0 f.2 f.3 other (λ width. apart (suc f.0, width)))
+way_over_parts t r more other apart = grind (arith, front_is r.count more, way_over-split)
 
 -- P holds of each range and the way down it where it holds of the target, of a node that is read and, if it holds of
 -- both parts, of a range that is split; the ranges begin a multiple of their width behind the leaf o
@@ -114,32 +93,30 @@ pub record Rule (t : Range) (o : ℕ) (P : Range → Way → Type 0) : Type 0 wh
 
 at_end : (t : Range) (o : ℕ) (P : Range → Way → Type 0) → Rule t o P → (r : Range) → 0 < r.count → is_target t r ≡ true
     → P r at_target
-at_end t o P R r some e = let same = (target_decides t r).0 e in rw same (R.target (rw same at some))
+at_end t o P R r some e = grind arith
 
 read_at : (t : Range) (o : ℕ) (P : Range → Way → Type 0) → Rule t o P → (k c : ℕ) (r : Range) → r.start ≡ o + c * 2 ^ k
     → r.count ≡ 2 ^ k → P r (at_node (node_over r.start r.count))
-read_at t o P R k c r start width = let same : r ≡ leaves_from r.start (2 ^ k) = ap (leaves_from r.start) width in
-    rw same (R.node k c r.start start)
+read_at t o P R k c r start width = grind arith
 
 pub ways : (t : Range) (o : ℕ) (P : Range → Way → Type 0) → Rule t o P → (h c : ℕ) (r : Range) → r.start ≡ o + c * 2 ^ h
     → 0 < r.count → r.count ≤ 2 ^ h → P r (way_over t r)
 unfolding way_within
-ways t o P R zero c r start some most =
-    rw (way_at t 0 r most) (cond_both (is_target t r) at_target (at_node (node_over r.start r.count)) (P r)
-    (at_end t o P R r some) (λ _. read_at t o P R 0 c r start (omega arith)))
+ways t o P R zero c r start some most = grind (arith, read_at t o P R 0 c r start)
 ways t o P R (suc h) c r start some most =
     let twice : 2 ^ suc h ≡ 2 ^ h * 2 = pow-suc 2 h in
     let at_left : r.start ≡ o + 2 * c * 2 ^ h = start ∙ rw twice (omega arith) in
-    ⊎_elim
-    (λ more. rw (way_more t r h more most) (cond_both (is_target t r) _ _ (P r) (at_end t o P R r some) (λ _.
-    cond_both (r.count == 2 ^ suc h && is_beside t r) _ _ (P r)
-    (λ e. read_at t o P R (suc h) c r start ((read_decides t r h).0 e).0)
-    (λ e. R.parts h r _ _ more most (λ f b. false≢true (sym e ∙ (read_decides t r h).1 (f, b)))
-    (ways t o P R h (2 * c) (first h r) at_left (pow_pos h) (omega arith))
-    (ways t o P R h (2 * c + 1) (behind h r) (omega arith) (omega arith) (omega arith))))))
-    (λ low. ways t o P R h (2 * c) r at_left some low)
-    (cases_lt (2 ^ h) r.count)
+    ⊎_elim (λ more. rw (way_more t r h more most) (grind (
+      arith,
+      at_end,
+      read_at,
+      false≢true,
+      ways t o P R h (2 * c) (first h r) at_left (pow_pos h),
+      pow_pos,
+      ways t o P
+          R h (2 * c + 1) (behind h r),
+    ))) (λ low. ways t o P R h (2 * c) r at_left some low) (cases_lt (2 ^ h) r.count)
 
 pub ways_from : (t : Range) (o : ℕ) (P : Range → Way → Type 0) → Rule t o P → (n : ℕ) → 0 < n
     → P (leaves_from o n) (way_over t (leaves_from o n))
-ways_from t o P R n some = ways t o P R n 0 (leaves_from o n) (omega arith) some (omega (arith, below_pow))
+ways_from t o P R n some = grind (arith, ways t o P R n 0 (leaves_from o n), below_pow)

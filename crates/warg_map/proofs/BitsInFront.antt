@@ -1,5 +1,5 @@
 -- Laws of bits that are put in front of a map.
-use Rattle.std.proofs.Common.{◌≡◌, ℕ, length, ◌+◌, Bool, true, false, List, [], ◌∷◌, ◌++◌, Option, None, is_some, refl, sym, ap, ◌∙◌, arith, take}
+use Rattle.std.proofs.Common.{◌≡◌, ℕ, length, ◌+◌, Bool, true, false, List, [], ◌∷◌, ◌++◌, Option, None, is_some, refl, arith, not, ◌⊎◌, inl, inr}
 use Rattle.std.proofs.lemmas.List.{take_at}
 use Rattle.std.specs.FinMap.{get, insert, empty, contains_key, get-empty}
 use Rattle.warg_crypto.specs.EmptyTrees.{empty_root}
@@ -25,7 +25,7 @@ get-join_at_nil false x y = get-join_nil x y
 pub under-append : (a b : List Bool) (m : SparseMap) → under (a ++ b) m ≡ under a (under b m)
 unfolding under
 under-append [] b m = refl
-under-append (x ∷ a) b m = ap (λ t. join_at x t empty) (under-append a b m)
+under-append (x ∷ a) b m = rw (under-append a b m)
 
 pub under-none : (m : SparseMap) → under [] m ≡ m
 unfolding under
@@ -34,20 +34,18 @@ under-none m = refl
 pub get-under : (bs p : List Bool) (m : SparseMap) → get (under bs m) (bs ++ p) ≡ get m p
 unfolding under
 get-under [] p m = refl
-get-under (b ∷ bs) p m = get-join_at b (under bs m) empty (bs ++ p) ∙ get-under bs p m
+get-under (b ∷ bs) p m = rw (get-join_at, get-under bs p m)
 
 pub insert-under : (bs p : List Bool) (m : SparseMap) (v : List ℕ) → insert (under bs m) (bs ++ p) v
     ≡ under bs (insert m p v)
 unfolding under
 insert-under [] p m v = refl
-insert-under (b ∷ bs) p m v = insert-join_at b (under bs m) empty (bs ++ p) v
-    ∙ ap (λ t. join_at b t empty) (insert-under bs p m v)
+insert-under (b ∷ bs) p m v = rw (insert-join_at, insert-under bs p m v)
 
 -- bits that part from those in front
 pub get-under_head : (b c : Bool) (cs p : List Bool) (m : SparseMap) → ¬ (c ≡ b) → get (under (c ∷ cs) m) (b ∷ p) ≡ None
 unfolding under
-get-under_head b c cs p m h = rw (join_at-other b c (under cs m) empty h) (get-join_at b empty (under cs m) p
-    ∙ get-empty bits_cmp p)
+get-under_head b c cs p m h = rw (join_at-other b c (under cs m) empty h, get-join_at, get-empty)
 
 -- one key is bits in front of a leaf
 pub lone-under : (bs : List Bool) (v : List ℕ) → insert empty bs v ≡ under bs (insert empty [] v)
@@ -56,36 +54,32 @@ lone-under [] v = refl
 lone-under (b ∷ bs) v = rw (← lone-under bs v, ← insert-join_at b empty empty bs v, ← empty-is_join_at b)
 
 pub lone-append : (a bs : List Bool) (v : List ℕ) → insert empty (a ++ bs) v ≡ under a (insert empty bs v)
-lone-append a bs v = lone-under (a ++ bs) v ∙ under-append a bs (insert empty [] v)
-    ∙ ap (under a) (sym (lone-under bs v))
+lone-append a bs v = rw (lone-under (a ++ bs) v, under-append, ← lone-under bs v)
 
 -- what is held has the bits in front
 pub no_some : (o : Option (List ℕ)) → o ≡ None → is_some o ≡ true → ⊥
-no_some o n s = let e : false ≡ true = ap is_some (sym n) ∙ s in cc
+no_some o n s = cc
+
+-- a bit is another or its opposite
+pub same_or_other : (b c : Bool) → (c ≡ b) ⊎ (c ≡ not b)
+same_or_other b c = grind arith
 
 pub only-under : (bs q : List Bool) (m : SparseMap) → contains_key (under bs m) q ≡ true → (r : List Bool)
     × (q ≡ bs ++ r) × (contains_key m r ≡ true)
 unfolding under
 only-under [] q m h = (q, refl, h)
 only-under (b ∷ bs) [] m h = absurd (no_some _ (get-join_at_nil b (under bs m) empty) h)
-only-under (true ∷ bs) (true ∷ q) m h = let r =
-    only-under bs q m (ap is_some (sym (get-join_at true (under bs m) empty q)) ∙ h) in
-    (r.0, ap (λ t. true ∷ t) r.1, r.2)
-only-under (true ∷ bs) (false ∷ q) m h =
-    absurd (no_some _ (get-join_far true (under bs m) empty q ∙ get-empty bits_cmp q) h)
-only-under (false ∷ bs) (true ∷ q) m h =
-    absurd (no_some _ (get-join_far false (under bs m) empty q ∙ get-empty bits_cmp q) h)
-only-under (false ∷ bs) (false ∷ q) m h = let r =
-    only-under bs q m (ap is_some (sym (get-join_at false (under bs m) empty q)) ∙ h) in
-    (r.0, ap (λ t. false ∷ t) r.1, r.2)
+only-under (b ∷ bs) (c ∷ q) m h = elim (same_or_other b c) [
+  | inl e ↦ (let r = only-under bs q m (simp (e, get-join_at) at h) in (r.0, cc (e, r.1), r.2))
+  | inr e ↦ absurd (no_some _ (get-empty bits_cmp q) (simp (e, get-join_far) at h))
+]
 
 pub under_same : (a bs rest : List Bool) (m : SparseMap) → length a ≡ length bs → contains_key (under bs m) (a ++ rest)
     ≡ true → a ≡ bs
-under_same a bs rest m n h = let r = only-under bs (a ++ rest) m h in sym (take_at a rest (length bs) n)
-    ∙ ap (take (length bs)) r.1 ∙ take_at bs r.0 (length bs) refl
+under_same a bs rest m n h = grind (arith, only-under bs (a ++ rest) m h, take_at a rest (length bs) n, take_at)
 
 pub holds-under : (bs : List Bool) (m : SparseMap) → HoldsKey m → HoldsKey (under bs m)
-holds-under bs m h = (bs ++ h.0, ap is_some (get-under bs h.0 m) ∙ h.1)
+holds-under bs m h = (bs ++ h.0, rw get-under h.1)
 
 -- roots
 step_root : (H : List ℕ → List ℕ) (k : ℕ) (b : Bool) (m : SparseMap) → sparse_root H (k + 1) (join_at b m empty)
@@ -97,12 +91,10 @@ pub stem_root-under : (H : List ℕ → List ℕ) (k : ℕ) (bs : List Bool) (m 
     → stem_root H k (sparse_root H k m) bs ≡ sparse_root H (k + length bs) (under bs m)
 unfolding stem_root under
 stem_root-under H k [] m = let e : k + 0 ≡ k = omega arith in rw e
-stem_root-under H k (b ∷ bs) m =
-    let e : k + length (b ∷ bs) ≡ k + length bs + 1 = omega arith in
-    rw (e, stem_root-under H k bs m, step_root H (k + length bs) b (under bs m))
+stem_root-under H k (b ∷ bs) m = grind (arith, stem_root-under H k bs m, step_root H (k + length bs) b (under bs m))
 
 pub stem_root-more : (H : List ℕ → List ℕ) (k : ℕ) (x key : List ℕ) (i n : ℕ)
-    → stem_root H k x (bits_from key i (n + 1))
-    ≡ H (input_beside (bit_at key i) (empty_root H (k + n)) (stem_root H k x (bits_from key (i + 1) n)))
+    → stem_root H k x (bits_from key i (n + 1)) ≡ H (input_beside (bit_at key i) (empty_root H (k + n))
+    (stem_root H k x (bits_from key (i + 1) n)))
 unfolding stem_root
 stem_root-more H k x key i n = rw (bits_from-first key i n, length-bits_from key (i + 1) n)

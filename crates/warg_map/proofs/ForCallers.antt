@@ -43,9 +43,9 @@ pub same_bits-true : (q p : List Bool) → same_bits q p ≡ true → q ≡ p
 same_bits-true = tree.tied
 
 -- keys of the same bits have the same digest
-pub same_digest : (H : List ℕ → List ℕ) (key other : List ℕ) → IsDigest (H key) → IsDigest (H other)
-    → key_bits H key ≡ key_bits H other → H key ≡ H other
-same_digest H key other = bits.same_bits_same_digest (H key) (H other)
+pub same_digest : (H : List ℕ → List ℕ) (key other : List ℕ) → IsDigest (H key) → IsDigest (H other) → key_bits H key
+    ≡ key_bits H other → H key ≡ H other
+same_digest H key other = bits.same_bits_same_digest
 
 -- a map of insertions holds the leaf digest of the last one under the bits
 pub last_held : (H : List ℕ → List ℕ) (bits : List Bool) (insertions : List (List ℕ × List ℕ))
@@ -54,30 +54,30 @@ last_held = last.get-map_of
 
 -- the proof of held bits leads to the plain root at each prefix of them
 pub root_at_prefix : (H : List ℕ → List ℕ) (m : SparseMap) (prefix rest : List Bool) (peers : List (Option (List ℕ)))
-    (x : List ℕ) → length prefix + length rest ≡ 256 → length peers ≤ 256
-    → Proves H 256 m (prefix ++ rest) peers → get m (prefix ++ rest) ≡ Some x → proof_value H peers x rest
-    ≡ root_of_levels H (length rest) (λ q. get m (prefix ++ q))
-root_at_prefix H m prefix rest peers x n few p held = honest.honest_prefix H m prefix rest peers x
-    (honest.honest_held H 256 m _ peers (length-append prefix rest ∙ n) p) (ap (λ o. unwrap_or o (empty_root H 0)) held)
+    (x : List ℕ) → length prefix + length rest ≡ 256 → length peers ≤ 256 → Proves H 256 m (prefix ++ rest) peers
+    → get m (prefix ++ rest) ≡ Some x → proof_value H peers x rest ≡ root_of_levels H (length rest)
+    (λ q. get m (prefix ++ q))
+root_at_prefix H m prefix rest peers x n few p held = honest.honest_prefix H m prefix rest peers
+    (honest.honest_held (length-append prefix rest ∙ n) p) (ap (λ o. unwrap_or o (empty_root H 0)) held)
 
 -- from any leaf digest the proofs of a map lead to the root of the map that holds it
 pub replaced_root : (H : List ℕ → List ℕ) (m : SparseMap) (bits : List Bool) (peers : List (Option (List ℕ)))
-    (x : List ℕ) → length bits ≡ 256 → length peers ≤ 256
-    → Proves H 256 m bits peers → proof_value H peers x bits ≡ sparse_root H 256 (insert m bits x)
+    (x : List ℕ) → length bits ≡ 256 → length peers ≤ 256 → Proves H 256 m bits peers → proof_value H peers x bits
+    ≡ sparse_root H 256 (insert m bits x)
 replaced_root H m bits peers x n few p = honest.honest_replaced H m bits peers x n
-    (honest.honest_held H 256 m bits peers n p)
+    (honest.honest_held n p)
 
 pub absent_replaced_root : (H : List ℕ → List ℕ) (m : SparseMap) (bits : List Bool) (peers : List (Option (List ℕ)))
-    (x : List ℕ) → length bits ≡ 256 → length peers ≤ 256
-    → ProvesAbsent H m bits peers → proof_value H peers x bits ≡ sparse_root H 256 (insert m bits x)
+    (x : List ℕ) → length bits ≡ 256 → length peers ≤ 256 → ProvesAbsent H m bits peers → proof_value H peers x bits
+    ≡ sparse_root H 256 (insert m bits x)
 absent_replaced_root H m bits peers x n few p = honest.honest_replaced H m bits peers x n
-    (honest.honest_absent H m bits peers n p)
+    (honest.honest_absent n p)
 
 -- from an empty leaf the proof of an absence leads to the root
 pub absent_root : (H : List ℕ → List ℕ) (m : SparseMap) (bits : List Bool) (peers : List (Option (List ℕ)))
-    → length bits ≡ 256 → length peers ≤ 256
-    → ProvesAbsent H m bits peers → proof_value H peers (empty_root H 0) bits ≡ sparse_root H 256 m
-absent_root H m bits peers n few p = honest.honest_root H m bits peers _ n (honest.honest_absent H m bits peers n p)
+    → length bits ≡ 256 → length peers ≤ 256 → ProvesAbsent H m bits peers → proof_value H peers (empty_root H 0) bits
+    ≡ sparse_root H 256 m
+absent_root H m bits peers n few p = honest.honest_root H m bits peers n (honest.honest_absent n p)
     (honest.leaf_absent (get m bits) _ p.absent)
 
 -- proofs are compared by their peers
@@ -88,7 +88,7 @@ peers_decide = equal.peers_decide
 pub empty_root_held : (H : List ℕ → List ℕ) (m : SparseMap) (bits : List Bool) (peers : Peers) → length bits ≡ 256
     → ProvesEmpty H m bits peers → leaf_at H m bits ≡ empty_root H 0 → proof_value H peers (empty_root H 0) bits
     ≡ sparse_root H 256 m
-empty_root_held H m bits peers n p = honest.honest_root H m bits peers _ n
+empty_root_held H m bits peers n p = honest.honest_root H m bits peers n
     (honest.honest_empty H m bits peers (get m bits) n p)
 
 -- the peers of the proof of a key, held or not, are what stands beside its bits
@@ -99,15 +99,14 @@ key_beside H m key peers p = honest.honest_empty H m (key_bits H key) peers (get
 -- so they lead from the leaf digest of the bits to the root
 pub beside_root : (H : List ℕ → List ℕ) (m : SparseMap) (bits : List Bool) (peers : Peers) → length bits ≡ 256
     → IsBeside H peers (get m) bits → proof_value H peers (leaf_at H m bits) bits ≡ sparse_root H 256 m
-beside_root H m bits peers n p = honest.honest_root H m bits peers _ n p refl
+beside_root H m bits peers n p = honest.honest_root H m bits peers n p refl
 
 -- by the plain inputs on the way
 pub beside_input : (H : List ℕ → List ℕ) (m : SparseMap) (prefix below : List Bool) (b : Bool) (peers : Peers)
-    → IsBeside H peers (get m) (prefix ++ b ∷ below)
-    → input_beside b (peer_of H peers (length below)) (proof_value H peers (leaf_at H m (prefix ++ b ∷ below)) below)
-    ≡ branch_input (root_of_levels H (length below) (λ q. get m (prefix ++ false ∷ q)))
-    (root_of_levels H (length below) (λ q. get m (prefix ++ true ∷ q)))
-beside_input H m prefix below b peers p = honest.honest_input H m prefix below b peers _ p refl
+    → IsBeside H peers (get m) (prefix ++ b ∷ below) → input_beside b (peer_of H peers (length below))
+    (proof_value H peers (leaf_at H m (prefix ++ b ∷ below)) below) ≡ branch_input (root_of_levels H (length below)
+    (λ q. get m (prefix ++ false ∷ q))) (root_of_levels H (length below) (λ q. get m (prefix ++ true ∷ q)))
+beside_input H m prefix below b peers p = honest.honest_input H m prefix below b peers p refl
 
 -- and from any leaf digest to the root of the map that holds it
 pub beside_replaced : (H : List ℕ → List ℕ) (m : SparseMap) (bits : List Bool) (peers : Peers) (x : List ℕ)

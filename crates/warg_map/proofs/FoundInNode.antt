@@ -1,5 +1,5 @@
 -- What is found in a node.
-use Rattle.std.proofs.Common.{◌≡◌, ℕ, ◌+◌, ◌-◌, ◌<◌, ◌≤◌, Bool, true, false, cond, List, [], ◌∷◌, ◌++◌, Some, None, refl, sym, ap, ◌∙◌, arith}
+use Rattle.std.proofs.Common.{◌≡◌, ℕ, ◌+◌, ◌-◌, ◌<◌, ◌≤◌, Bool, true, false, cond, List, [], ◌∷◌, ◌++◌, Some, None, ◌∙◌, arith}
 use Rattle.std.proofs.lemmas.List.{append-nil}
 use Rattle.std.specs.FinMap.{insert, empty, get, get-empty}
 use Rattle.std.specs.declared.rc.Rc.{Rc}
@@ -23,17 +23,16 @@ pub get-lone_other : (p : List Bool) (v : List ℕ) (q : List Bool) → ¬ (q �
 get-lone_other p v q n = get-insert_other empty p q v n ∙ get-empty bits_cmp q
 
 -- in a fork
-fork_finds : {D A : _} (f : Rc (Fork' D A) A) (b : Bool) (p : List Bool) (d : ℕ × SparseMap)
-    → d ≡ (cond b f.value.right f.value.left) → get d.1 p ≡ get (held_by (Fork f)) (b ∷ p)
-fork_finds f true p d e = ap (λ x. get x.1 p) e ∙ sym (get-join_true f.value.left.1 f.value.right.1 p)
-fork_finds f false p d e = ap (λ x. get x.1 p) e ∙ sym (get-join_false f.value.left.1 f.value.right.1 p)
+fork_finds : {D A : _} {d : ℕ × SparseMap} (f : Rc (Fork' D A) A) (b : Bool) (p : List Bool) → d
+    ≡ (cond b f.value.right f.value.left) → get d.1 p ≡ get (held_by (Fork f)) (b ∷ p)
+fork_finds f true p e = rw (e, get-join_true)
+fork_finds f false p e = rw (e, get-join_false)
 
-pub finds_in_fork : {D A : _} (old child : Node D A) (f : Rc (Fork' D A) A) (key : List ℕ) (b : Bool) (depth : ℕ)
-    → old ≡ Fork f → depth < 256
-    → b ≡ bit_at key depth → seen child ≡ (cond b f.value.right f.value.left)
+pub finds_in_fork : {D A : _} {old : Node D A} {f : Rc (Fork' D A) A} {b : Bool} (child : Node D A) (key : List ℕ)
+    (depth : ℕ) → old ≡ Fork f → depth < 256 → b ≡ bit_at key depth → seen child ≡ (cond b f.value.right f.value.left)
     → get (held_by child) (last_bits key (256 - (depth + 1))) ≡ get (held_by old) (last_bits key (256 - depth))
-finds_in_fork old child f key b depth is lt e s = rw (is, last_bits-first key depth lt, ← e)
-    (fork_finds f b (last_bits key (256 - (depth + 1))) (seen child) s)
+finds_in_fork {f} {b} child key depth is lt e s = rw (is, last_bits-first key depth lt, ← e)
+    (fork_finds f b (last_bits key (256 - (depth + 1))) s)
 
 -- a run of bits in front of a map that holds a key: a stem, or a lone key with all its bits
 pub record IsRun (held : SparseMap) (height : ℕ) (one : List ℕ) (from len k : ℕ) (m : SparseMap) : Type 0 where
@@ -42,79 +41,53 @@ pub record IsRun (held : SparseMap) (height : ℕ) (one : List ℕ) (from len k 
   pub whole : from + len + k ≡ 256
   pub holds : HoldsKey m
 
-pub lone_run : (s : Lone) (one : List ℕ) (from len : ℕ) → one ≡ s.key → len ≡ s.height → s.height + from ≡ 256
+pub lone_run : {one from len : _} (s : Lone) → one ≡ s.key → len ≡ s.height → s.height + from ≡ 256
     → IsRun (held_alone s) s.height one from len 0 (insert empty [] s.value)
-lone_run s one from len key all height =
-    let sum : from + s.height ≡ 256 = omega (arith, height) in
-    rw (key, all) (record {
-      held_is = ap (λ q. insert empty q s.value) (last_bits-at s.key from s.height sum)
-          ∙ lone-under (bits_from s.key from s.height) s.value;
-      height_is = omega arith;
-      whole = omega (arith, sum);
-      holds = ([], contains_key-insert_same empty [] s.value);
-    })
+lone_run {from} s key all height = grind (arith, last_bits-at, lone-under, contains_key-insert_same)
 
-pub run_of_stem : {D A : _} (old : Node D A) (s : Rc (Stem' D A) A) (from : ℕ) → old ≡ Stem s → IsWellFormed old
-    → tree_height old + from ≡ 256 → (s.value.from ≡ from)
-    × IsRun (held_by old) (tree_height old) s.value.key from s.value.len s.value.below.0 s.value.below.1
-run_of_stem old s from is w height =
-    let ws : IsWellFormed (Stem s) = rw is at w in
-    let h : s.value.below.0 + s.value.len + from ≡ 256 = rw is at height in
-    let at : s.value.from ≡ from = omega (arith, ws.level, h) in
-    rw is (
-      at,
-      record {
-        held_is = ap (λ i. under (bits_from s.value.key i s.value.len) s.value.below.1) at;
-        height_is = refl;
-        whole = omega (arith, h);
-        holds = stem_holds s.value.len s.value.below ws.formed.1;
-      },
-    )
+pub run_of_stem : {D A : _} {old : Node D A} {s : Rc (Stem' D A) A} (from : ℕ) → old ≡ Stem s → IsWellFormed old
+    → tree_height old + from ≡ 256 → (s.value.from ≡ from) × IsRun (held_by old)
+    (tree_height old) s.value.key from s.value.len s.value.below.0 s.value.below.1
+run_of_stem {s} from is w height = grind (arith, stem_holds)
 
 -- all bits of the run are the key's
-pub found_below : (held : SparseMap) (height : ℕ) (one key : List ℕ) (from len k j : ℕ) (m : SparseMap)
-    → IsRun held height one from len k m → j ≤ len → len ≤ j → bits_from one from j ≡ bits_from key from j
-    → (bits_from one from len ≡ bits_from key from len)
-    × (get m (last_bits key (256 - (from + len))) ≡ get held (last_bits key (256 - from)))
-found_below held height one key from len k j m run most least same =
+pub found_below : {held height one from len k m : _} (key : List ℕ) (j : ℕ) → IsRun held height one from len k m
+    → j ≤ len → len ≤ j → bits_from one from j ≡ bits_from key from j → (bits_from one from len ≡ bits_from key from
+    len) × (get m (last_bits key (256 - (from + len))) ≡ get held (last_bits key (256 - from)))
+found_below {one} {from} {len} key j run most least same =
     let all : j ≡ len = omega (arith, most, least) in
     let alike : bits_from one from len ≡ bits_from key from len = rw all at same in
     let le : from + len ≤ 256 = omega (arith, run.whole) in
     (alike, rw (run.held_is, bits_left-split key from len le, alike, get-under))
 
-pub found_lone : (held : SparseMap) (height : ℕ) (one key v : List ℕ) (from len j : ℕ)
-    → IsRun held height one from len 0 (insert empty [] v) → j ≤ len → len ≤ j → bits_from one from j
-    ≡ bits_from key from j
-    → (last_bits key (256 - from) ≡ bits_from one from len) × (Some v ≡ get held (last_bits key (256 - from)))
-found_lone held height one key v from len j run most least same =
-    let below = found_below held height one key from len 0 j (insert empty [] v) run most least same in
-    let end : from + len ≡ 256 = omega (arith, run.whole) in
-    let le : from + len ≤ 256 = omega (arith, end) in
-    let none : last_bits key (256 - (from + len)) ≡ [] = rw end (bits_from-none key 256) in (
-      bits_left-split key from len le ∙ ap (λ t. bits_from key from len ++ t) none ∙ append-nil _ ∙ sym below.0,
-      sym (ap (get (insert empty [] v)) none ∙ get-insert_same empty [] v) ∙ below.1,
-    )
+pub found_lone : {held height one from len : _} (key v : List ℕ)
+    (j : ℕ) → IsRun held height one from len 0 (insert empty [] v) → j ≤ len → len ≤ j → bits_from one from j
+    ≡ bits_from key from j → (last_bits key (256 - from) ≡ bits_from one from len)
+    × (Some v ≡ get held (last_bits key (256 - from)))
+found_lone {from} {len} key v j run most least same = grind (
+  arith,
+  found_below key j run most least same,
+  bits_from-none key 256,
+  bits_left-split,
+  append-nil,
+  get-insert_same,
+)
 
 -- the key's bits part from the run's after j bits
-pub record IsApart (held : SparseMap) (one key : List ℕ) (from j rest low : ℕ) (m : SparseMap) : Type 0 where
-  pub held_is : held ≡ under (bits_from key from j ++ bit_at one (from + j) ∷ bits_from one (from + (j + 1)) rest) m
+pub record IsApart (held : SparseMap) (height : ℕ) (one key : List ℕ) (from len k j : ℕ) (m : SparseMap) : Type 0 where
+  pub run : IsRun held height one from len k m
+  pub less : j < len
+  pub apart : ¬ (bit_at one (from + j) ≡ bit_at key (from + j))
+  pub held_is : held ≡ under (bits_from key from j ++ bit_at one (from + j) ∷ bits_from one (from + (j + 1))
+      (len - (j + 1))) m
   pub bits_are : last_bits key (256 - from) ≡ bits_from key from j ++ bit_at key (from + j) ∷ bits_from key
-      (from + (j + 1)) low
+      (from + (j + 1)) (256 - from - (j + 1))
 
-pub run_apart : (held : SparseMap) (height : ℕ) (one key : List ℕ) (from len k j : ℕ) (m : SparseMap)
-    → IsRun held height one from len k m → j < len → bits_from one from j ≡ bits_from key from j
-    → ¬ (bit_at one (from + j) ≡ bit_at key (from + j)) → IsApart held one key from j (len - (j + 1))
-    (256 - from - (j + 1)) m
-run_apart held height one key from len k j m run less same apart = record {
-  held_is = run.held_is ∙ ap (λ t. under t m) (bits_from-part one from j len less
-      ∙ ap (λ t. t ++ bit_at one (from + j) ∷ bits_from one (from + (j + 1)) (len - (j + 1))) same);
-  bits_are = last_bits-at key from (256 - from) (omega (arith, run.whole)) ∙ bits_from-part key from j (256 - from)
-      (omega (arith, run.whole, less));
-}
+pub run_apart : {held height one key from len k j m : _} → IsRun held height one from len k m → j < len
+    → bits_from one from j ≡ bits_from key from j → ¬ (bit_at one (from + j) ≡ bit_at key (from + j))
+    → IsApart held height one key from len k j m
+run_apart {one} {key} {from} {len} {j} run less same apart = grind (arith, bits_from-part, last_bits-at)
 
-pub found_apart : (held : SparseMap) (height : ℕ) (one key : List ℕ) (from len k j : ℕ) (m : SparseMap)
-    → IsRun held height one from len k m → j < len → bits_from one from j ≡ bits_from key from j
-    → ¬ (bit_at one (from + j) ≡ bit_at key (from + j)) → get held (last_bits key (256 - from)) ≡ None
-found_apart held height one key from len k j m run less same apart =
-    let a = run_apart held height one key from len k j m run less same apart in
-    rw (a.held_is, a.bits_are, under-append, get-under) (get-under_head _ _ _ _ m apart)
+pub found_apart : {held height one key from len k j m : _} → IsApart held height one key from len k j m
+    → get held (last_bits key (256 - from)) ≡ None
+found_apart {m} a = rw (a.held_is, a.bits_are, under-append, get-under) (get-under_head _ _ _ _ m a.apart)

@@ -19,9 +19,4 @@ levels-insert m bits v n h = λ other held. elim (cases_Bool (eq_by_cmp bits_cmp
 -- a map that isn't full, or holds the key, has room for it
 pub fits-insert : (m : SparseMap) (bits : List Bool) (v : List ℕ) → len m ≤ 2 ^ 64 - 1
     → ¬ ((len m ≡ 2 ^ 64 - 1) × (contains_key m bits ≡ false)) → len (insert m bits v) ≤ 2 ^ 64 - 1
-fits-insert m bits v few room =
-    let one = len-insert bits_total m bits v in
-    elim (cases_Bool (contains_key m bits)) [
-      | inl held ↦ omega (arith, rw held at one, few)
-      | inr new ↦ (let less : ¬ (len m ≡ 2 ^ 64 - 1) = λ e. room (e, new) in omega (arith, rw new at one, few, less))
-    ]
+fits-insert m bits v few room = let one = len-insert bits_total m bits v in grind (arith, cases_Bool)

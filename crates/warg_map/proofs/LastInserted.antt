@@ -1,10 +1,10 @@
 -- What a map of insertions holds.
-use Rattle.std.proofs.Common.{◌≡◌, ℕ, Bool, true, false, cond, List, [], ◌∷◌, Option, Some, None, refl, sym, ap, ◌∙◌, arith, inl, inr}
+use Rattle.std.proofs.Common.{◌≡◌, ℕ, Bool, true, false, cond, List, [], ◌∷◌, Option, Some, None, refl, sym, ap, ◌∙◌, arith}
 use Rattle.std.proofs.lemmas.Bool.{both_ways, cases_order}
 use Rattle.std.proofs.lemmas.List.{get_or_default}
 use Rattle.std.proofs.lemmas.List.Elements.{All-nil, All-cons, All-contains, Contains-append_right}
 use Rattle.std.proofs.lemmas.List.Sorted.{Contains-permutation, IsPermutation-sym}
-use Rattle.std.specs.Prelude.{slice_index_or, MatchOption}
+use Rattle.std.specs.Prelude.{MatchOption}
 use Rattle.std.specs.List.{All, Contains}
 use Rattle.std.specs.List.Sorted.{IsPermutation}
 use Rattle.std.specs.Option.{option_or, option_map}
@@ -17,8 +17,7 @@ use Rattle.warg_map.proofs.SparseTree.{bits_total, same_sparse, tied}
 
 -- an insertion before the last one, and one that is the last
 either : (f : List ℕ × List ℕ → List ℕ) (later : Option (List ℕ × List ℕ)) (is : Bool) (e : List ℕ × List ℕ)
-    (before : Option (List ℕ))
-    → option_or (option_map f later) (cond is (Some (f e)) before)
+    (before : Option (List ℕ)) → option_or (option_map f later) (cond is (Some (f e)) before)
     ≡ option_or (option_map f (option_or later (cond is (Some e) None))) before
 either f later is e before = grind arith
 
@@ -27,10 +26,8 @@ get-inserted : (H : List ℕ → List ℕ) (bits : List Bool) (m : SparseMap) (e
 unfolding inserted last_with
 get-inserted H bits m [] = refl
 get-inserted H bits m (e ∷ es) =
-    get-inserted H bits (insert m (key_bits H e.0) (leaf_digest H e.1)) es
-    ∙ ap (option_or (option_map (λ (f : List ℕ × List ℕ). leaf_digest H f.1) (last_under H bits es)))
-    (get-insert bits_total m (key_bits H e.0) (leaf_digest H e.1) bits)
-    ∙ either (λ f. leaf_digest H f.1) (last_under H bits es) (same_bits bits (key_bits H e.0)) e (get m bits)
+    rw (get-inserted H bits (insert m (key_bits H e.0) (leaf_digest H e.1)) es, get-insert bits_total)
+    (either (λ f. leaf_digest H f.1) (last_under H bits es) (same_bits bits (key_bits H e.0)) e (get m bits))
 
 pub get-map_of : (H : List ℕ → List ℕ) (bits : List Bool) (es : List (List ℕ × List ℕ)) → get (map_of H es) bits
     ≡ option_map (λ e. leaf_digest H e.1) (last_under H bits es)
@@ -55,18 +52,9 @@ last_is {X} p (y ∷ xs) = before (last_with p xs) (last_is p xs)
     before (Some x) h = (Contains-append_right (y ∷ []) xs x h.0, h.1)
 
 -- distinct keys tell insertions apart
-same_insertion : (H : List ℕ → List ℕ) (es : List (List ℕ × List ℕ)) (e f : List ℕ × List ℕ) → HasDistinctKeys H es
+same_insertion : {e f : List ℕ × List ℕ} (H : List ℕ → List ℕ) (es : List (List ℕ × List ℕ)) → HasDistinctKeys H es
     → Contains es e → Contains es f → key_bits H e.0 ≡ key_bits H f.0 → e ≡ f
-same_insertion H es e f distinct x y k =
-    let at_f : slice_index_or es y.0 e ≡ f = get_or_default es y.0 e f y.1 ∙ y.2 in
-    elim (cases_order x.0 y.0) [
-      | inl i ↦ sym x.2 ∙ ap (λ j. slice_index_or es j e) i ∙ at_f
-      | inr o ↦ absurd (elim o [
-        | inl lt ↦ distinct x.0 y.0 e lt y.1 (rw (x.2, at_f) k)
-        | inr lt ↦ distinct y.0 x.0 e lt
-            x.1 (rw (x.2, at_f) (sym k))
-      ])
-    ]
+same_insertion {e} {f} H es distinct x y k = grind (arith, get_or_default es y.0 e f y.1, cases_order x.0 y.0)
 
 -- insertions in another order
 pub inserted-order : (H : List ℕ → List ℕ) (m : SparseMap) (xs ys : List (List ℕ × List ℕ)) → IsPermutation xs ys
@@ -94,5 +82,5 @@ inserted-order H m xs ys p distinct =
         absurd (both_ways (under q e) (All-contains (λ x. under q x ≡ false) ys e h
         (Contains-permutation xs ys e p g.0)) g.1)
     same_last q (Some e) (Some f) g h =
-        ap Some (same_insertion H xs e f distinct g.0 (Contains-permutation ys xs f back h.0)
+        ap Some (same_insertion H xs distinct g.0 (Contains-permutation ys xs f back h.0)
         (sym (tied q (key_bits H e.0) g.1) ∙ tied q (key_bits H f.0) h.1))

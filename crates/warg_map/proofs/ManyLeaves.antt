@@ -1,6 +1,5 @@
 -- Laws of leaves that are put into a tree.
-use Rattle.std.proofs.Common.{◌≡◌, ℕ, length, ◌+◌, ◌-◌, ◌<◌, ◌≤◌, Bool, true, false, cond, not, List, [], ◌∷◌, ◌++◌, refl, sym, ap, ◌∙◌, subst, arith, take, get_or, ◌⊎◌, inl, inr, ⊎_elim, length-append}
-use Rattle.std.specs.List.{AllByRecursion}
+use Rattle.std.proofs.Common.{◌≡◌, ℕ, length, ◌+◌, ◌-◌, ◌<◌, ◌≤◌, Bool, true, false, cond, not, List, [], ◌∷◌, ◌++◌, refl, sym, arith, take, get_or, ◌⊎◌, inl, inr, length-append}
 use Rattle.std.specs.FinMap.{insert, empty, contains_key, len, len-insert}
 use Rattle.std.proofs.lemmas.List.{take_more, take_all, append-nil, length_push}
 use Rattle.std.proofs.lemmas.List.Elements.{filter-append}
@@ -31,8 +30,8 @@ unfolding on_side
 on_side-push at b es e = filter-append (λ x. is_bit b (bit_at x.key at)) es (e ∷ [])
 
 pub push_near : (at : ℕ) (b : Bool) (es : List Lone) (e : Lone) → bit_at e.key at ≡ b
-    → (on_side at b (es ++ e ∷ []) ≡ on_side at b es ++ e ∷ [])
-    × (on_side at (not b) (es ++ e ∷ []) ≡ on_side at (not b) es)
+    → (on_side at b (es ++ e ∷ []) ≡ on_side at b es ++ e ∷ []) × (on_side at (not b) (es ++ e ∷ []) ≡ on_side at
+    (not b) es)
 push_near at b es e h = grind (
   arith,
   on_side-push at b es e,
@@ -41,24 +40,14 @@ push_near at b es e h = grind (
 )
 
 pub push_far : (at : ℕ) (b : Bool) (es : List Lone) (e : Lone) → ¬ (bit_at e.key at ≡ b)
-    → (on_side at b (es ++ e ∷ []) ≡ on_side at b es)
-    × (on_side at (not b) (es ++ e ∷ []) ≡ on_side at (not b) es ++ e ∷ [])
+    → (on_side at b (es ++ e ∷ []) ≡ on_side at b es) × (on_side at (not b) (es ++ e ∷ []) ≡ on_side at (not b) es ++ e
+    ∷ [])
 push_far at b es e h = grind (arith, on_side-push at b es e, on_side-push at (not b) es e, append-nil (on_side at b es))
 
 pub on_side-append : (at : ℕ) (b : Bool) (es os : List Lone) → on_side at b (es ++ os)
     ≡ on_side at b es ++ on_side at b os
 unfolding on_side
 on_side-append at b es os = filter-append (λ x. is_bit b (bit_at x.key at)) es os
-
-pub one_near : (at : ℕ) (b : Bool) (e : Lone) → bit_at e.key at ≡ b → (on_side at b (e ∷ []) ≡ e ∷ [])
-    × (on_side at (not b) (e ∷ []) ≡ [])
-unfolding on_side
-one_near at b e h = push_near at b [] e h
-
-pub one_far : (at : ℕ) (b : Bool) (e : Lone) → ¬ (bit_at e.key at ≡ b) → (on_side at b (e ∷ []) ≡ [])
-    × (on_side at (not b) (e ∷ []) ≡ e ∷ [])
-unfolding on_side
-one_far at b e h = push_far at b [] e h
 
 -- leaves of both sides of a bit
 pub with_leaves-join_at : (b : Bool) (at k : ℕ) → at + 1 + k ≡ 256 → (x y : SparseMap) (es : List Lone)
@@ -69,33 +58,36 @@ with_leaves-join_at b at k sum x y [] = refl
 with_leaves-join_at b at k sum x y (e ∷ es) =
     let q = last_bits e.key k in
     let place : 255 - k ≡ at = omega (arith, sum) in
-    let first : last_bits e.key (k + 1) ≡ bit_at e.key at ∷ last_bits e.key k =
-    rw place at (last_bits-step e.key k (omega (arith, sum))) in
-    elim (side_of b (bit_at e.key at)) [
-      | inl w ↦ rw (w.0, w.1, first, w.2, insert-join_at b x y q e.value)
-          (with_leaves-join_at b at k sum (insert x q e.value) y es)
-      | inr w ↦ rw (w.0, w.1, first, w.2, insert-join_far b x y q e.value)
-          (with_leaves-join_at b at k sum x (insert y q e.value) es)
-    ]
+    let first : last_bits e.key (k + 1) ≡ bit_at e.key at ∷ last_bits e.key k = rw place at
+    (last_bits-step e.key k (omega (arith, sum))) in
+    grind (
+      arith,
+      side_of,
+      insert-join_at,
+      with_leaves-join_at b at k sum (insert x q e.value) y es,
+      insert-join_far,
+      with_leaves-join_at b at k sum x (insert y q e.value) es,
+    )
 
 -- leaves below shared bits
 pub with_leaves-under : (key : List ℕ) (i n k : ℕ) → i + n + k ≡ 256 → (m : SparseMap) (es : List Lone)
-    → ShareBits key i n es → with_leaves (k + n) (under (bits_from key i n) m) es ≡ under (bits_from key i n)
-    (with_leaves k m es)
+    → ShareBits key i n es → with_leaves (k + n) (under (bits_from key i n) m) es
+    ≡ under (bits_from key i n) (with_leaves k m es)
 unfolding with_leaves
 with_leaves-under key i n k h m [] s = refl
-with_leaves-under key i n k h m (e ∷ es) s =
-    let top : 256 - i ≡ k + n = omega (arith, h) in
-    let low : 256 - (i + n) ≡ k = omega (arith, h) in
-    let bits : last_bits e.key (k + n) ≡ bits_from key i n ++ last_bits e.key k = rw (top, low, s.0) at
-    (bits_left-split e.key i n (omega (arith, h))) in
-    rw (bits, insert-under (bits_from key i n) (last_bits e.key k) m e.value)
-    (with_leaves-under key i n k h (insert m (last_bits e.key k) e.value) es s.1)
+with_leaves-under key i n k h m (e ∷ es) s = grind (
+  arith,
+  bits_left-split e.key i n,
+  insert-under
+      (bits_from key i n) (last_bits e.key k) m e.value,
+  with_leaves-under key i n k h
+      (insert m (last_bits e.key k) e.value) es s.1,
+)
 
 under-empty : (bs : List Bool) → under bs empty ≡ empty
 unfolding under
 under-empty [] = refl
-under-empty (b ∷ bs) = ap (λ m. join_at b m empty) (under-empty bs) ∙ sym (empty-is_join_at b)
+under-empty (b ∷ bs) = rw (under-empty bs, ← empty-is_join_at b)
 
 pub empty_parted : (key : List ℕ) (i n : ℕ) (b : Bool) → empty ≡ under (bits_from key i n) (join_at b empty empty)
 empty_parted key i n b = rw (← empty-is_join_at b) (sym (under-empty (bits_from key i n)))
@@ -112,19 +104,16 @@ with_leaves-again : (k : ℕ) (key : List ℕ) (m : SparseMap) (es : List Lone) 
 unfolding with_leaves
 with_leaves-again k key m [] v s = refl
 with_leaves-again k key m (e ∷ es) v s =
-    with_leaves-again k key (insert m (last_bits e.key k) e.value) es v s.1
-    ∙ ap (λ q. insert (insert m q e.value) (last_bits key k) v) s.0 ∙ insert-again m (last_bits key k) e.value v
+    rw (with_leaves-again k key (insert m (last_bits e.key k) e.value) es v s.1, s.0, insert-again)
 
 -- all leaves are of one key
-pub one_key : (es fs : List Lone) (e : Lone) (depth : ℕ) → es ≡ fs ++ e ∷ [] → depth ≤ 256
+pub one_key : {es : List Lone} (fs : List Lone) (e : Lone) (depth : ℕ) → es ≡ fs ++ e ∷ [] → depth ≤ 256
     → ShareBits e.key depth (256 - depth) es → with_leaves (256 - depth) empty es
     ≡ insert empty (last_bits e.key (256 - depth)) e.value
-one_key es fs e depth is le s =
-    let k : depth ≡ 256 - (256 - depth) = omega (arith, le) in
-    let share : ShareBits e.key (256 - (256 - depth)) (256 - depth) (fs ++ e ∷ []) =
-    subst (λ i. ShareBits e.key i (256 - depth) (fs ++ e ∷ [])) k (rw is at s) in
+one_key fs e depth is le s =
+    let k : 256 - (256 - depth) ≡ depth = omega (arith, le) in
     rw (is, with_leaves-push (256 - depth) empty fs e)
-    (with_leaves-again (256 - depth) e.key empty fs e.value (all_parts _ fs (e ∷ []) share).0)
+    (with_leaves-again (256 - depth) e.key empty fs e.value (rw k (all_parts _ fs (e ∷ []) (rw is at s)).0))
 
 -- keys that are held
 pub with_leaves-held : (k : ℕ) (m : SparseMap) (es : List Lone) (q : List Bool) → contains_key m q ≡ true
@@ -141,8 +130,8 @@ with_leaves-holds k m es (inl h) = (h.0, with_leaves-held k m es h.0 h.1)
 with_leaves-holds k m [] (inr h) = absurd (omega arith)
 with_leaves-holds k m (e ∷ es) (inr h) = (
   last_bits e.key k,
-  with_leaves-held k (insert m (last_bits e.key k) e.value) es (last_bits e.key k)
-      (contains_key-insert_same m (last_bits e.key k) e.value),
+  grind
+      (arith, with_leaves-held, contains_key-insert_same),
 )
 
 -- how many keys are held
@@ -156,42 +145,26 @@ len-with_leaves k m (e ∷ es) =
     (grind (arith, h.0, one), grind (arith, h.1, one))
 
 -- the last leaf
-pub split_at_last : (es : List Lone) (n : ℕ) (e : Lone) → n ≡ length es → 0 < length es → e ≡ get_or es (n - 1) e
-    → es ≡ take (n - 1) es ++ e ∷ []
-split_at_last es n e len some is =
-    let up : n ≡ n - 1 + 1 = omega (arith, len, some) in
-    sym (take_all n es (omega (arith, len))) ∙ ap (λ j. take j es) up
-    ∙ take_more es (n - 1) e (omega (arith, len, some)) ∙ ap (λ x. take (n - 1) es ++ x ∷ []) (sym is)
+pub split_at_last : {n : ℕ} {e : Lone} (es : List Lone) → n ≡ length es → 0 < length es → e ≡ get_or es (n - 1) e → es
+    ≡ take (n - 1) es ++ e ∷ []
+split_at_last {n} {e} es len some is = grind (arith, take_all, take_more)
 
-pub share_last : (key : List ℕ) (i n : ℕ) (es fs : List Lone) (e : Lone) → es ≡ fs ++ e ∷ [] → ShareBits key i n es
-    → ShareBits e.key i n es
-share_last key i n es fs e is share = subst (λ bits. AllByRecursion (λ x. bits_from x.key i n ≡ bits) es)
-    (sym (all_parts _ fs (e ∷ []) (rw is at share)).1.0) share
-
--- leaves on a side
-some_near : (es fs : List Lone) (e : Lone) (key : List ℕ) (at : ℕ) → es ≡ fs ++ e ∷ [] → key ≡ e.key
-    → 0 < length (on_side at (bit_at key at) es)
-some_near es fs e key at is ek = let more = length_push (on_side at (bit_at e.key at) fs) e in
-    rw (is, ek, (push_near at (bit_at e.key at) fs e refl).0) (omega (arith, more))
+pub share_last : {es : List Lone} (key : List ℕ) (i n : ℕ) (fs : List Lone) (e : Lone) → es ≡ fs ++ e ∷ []
+    → ShareBits key i n es → ShareBits e.key i n es
+share_last key i n fs e is share = rw (all_parts _ fs (e ∷ []) (rw is at share)).1.0 share
 
 -- the side of the last leaf's key
-pub near_some : (es zs : List Lone) (n : ℕ) (e : Lone) (key : List ℕ) (at : ℕ) (b : Bool) → n ≡ length es
+pub near_some : {zs : List Lone} {n : ℕ} {e : Lone} {key : List ℕ} {b : Bool} (es : List Lone) (at : ℕ) → n ≡ length es
     → 0 < length es → e ≡ get_or es (n - 1) e → key ≡ e.key → b ≡ bit_at key at → zs ≡ on_side at b es → 0 < length zs
-near_some es zs n e key at b len some is ek bit z =
-    rw (z, bit) (some_near es _ e key at (split_at_last es n e len some is) ek)
+near_some {n} {e} es at len some is ek bit z = grind (arith, split_at_last es len some is, push_near, length_push)
 
 -- one leaf more
 pub apart_step : (key : List ℕ) (i bound old new : ℕ) (es : List Lone) (e : Lone)
     → (old < bound → 0 < length (on_side (i + old) (not (bit_at key (i + old))) es)) → new ≤ old
     → (new < old → ¬ (bit_at key (i + new) ≡ bit_at e.key (i + new))) → new < bound
     → 0 < length (on_side (i + new) (not (bit_at key (i + new))) (es ++ e ∷ []))
-apart_step key i bound old new es e was le apart lt = ⊎_elim
-    (λ (less : new < old). let more = length_push (on_side (i + new) (not (bit_at key (i + new))) es) e in
-    rw (push_far (i + new) (bit_at key (i + new)) es e (λ h. apart less (sym h))).1 (omega (arith, more)))
-    (λ (not_less : old ≤ new). let same : new ≡ old = omega (arith, le, not_less) in
-    let some = was (omega (arith, same, lt)) in
-    rw (same, on_side-push (i + old) (not (bit_at key (i + old))) es e) (omega (arith, some, length-append {A = Lone})))
-    (cases_lt new old)
+apart_step key i bound old new es e was le apart lt = grind
+    (arith, push_far, length_push, on_side-push, length-append, cases_lt)
 
 pub levels-with_leaves : (m : SparseMap) (es : List Lone) → HasLevels 256 m → HasLevels 256 (with_leaves 256 m es)
 unfolding with_leaves

@@ -1,8 +1,7 @@
 -- The number of nodes.
-use Rattle.std.proofs.Common.{◌≡◌, ℕ, zero, suc, length, ◌+◌, ◌<◌, Bool, true, false, cond, not, List, [], ◌∷◌, Some, is_some, refl, sym, ap, ◌∙◌, arith, add-one, ◌⊎◌, inl, inr}
+use Rattle.std.proofs.Common.{◌≡◌, ℕ, zero, suc, length, ◌+◌, ◌<◌, Bool, true, false, cond, not, List, [], ◌∷◌, is_some, refl, ap, ◌∙◌, arith, add-one, ◌⊎◌, inl, inr}
 use Rattle.std.proofs.lemmas.Bool.Decides.{nat_tests}
-use Rattle.std.specs.FinMap.{from_entries, entries, find, get, insert, empty, len, contains_key, get-entries, get-from_entries, len-insert, len-empty, len-remove, get-remove, remove, empty_of_len}
-use Rattle.std.specs.Ordering.{eq_by_cmp}
+use Rattle.std.specs.FinMap.{from_entries, entries, find, get, insert, empty, len, get-entries, get-from_entries, len-insert, len-empty, len-remove, get-remove, remove, empty_of_len}
 use Rattle.std.specs.declared.rc.Rc.{Rc}
 use Rattle.warg_map.specs.declared.node.Node.{Node}
 use Rattle.warg_map.specs.declared.node.Node.TheVariants.{Fork, Stem}
@@ -24,42 +23,53 @@ unfolding stripped
 find-stripped b q [] = refl
 find-stripped true q (([], v) ∷ es) = find-stripped true q es
 find-stripped false q (([], v) ∷ es) = find-stripped false q es
-find-stripped true q ((true ∷ p, v) ∷ es) = ap (cond (eq_by_cmp bits_cmp q p) (Some v)) (find-stripped true q es)
+find-stripped true q ((true ∷ p, v) ∷ es) = rw (find-stripped true q es)
 find-stripped true q ((false ∷ p, v) ∷ es) = find-stripped true q es
 find-stripped false q ((true ∷ p, v) ∷ es) = find-stripped false q es
-find-stripped false q ((false ∷ p, v) ∷ es) = ap (cond (eq_by_cmp bits_cmp q p) (Some v)) (find-stripped false q es)
+find-stripped false q ((false ∷ p, v) ∷ es) = rw (find-stripped false q es)
 
 get-half_after : (b : Bool) (m : SparseMap) (q : List Bool) → get (half_after b m) q ≡ get m (b ∷ q)
 unfolding half_after
-get-half_after b m q = get-from_entries bits_total (stripped b (entries m)) q ∙ find-stripped b q (entries m)
-    ∙ sym (get-entries m (b ∷ q))
+get-half_after b m q = rw (get-from_entries bits_total, get-entries) (find-stripped b q (entries m))
 
 half-near : (b : Bool) (near far : SparseMap) → half_after b (join_at b near far) ≡ near
-half-near b near far = same_sparse _ _ (λ q. get-half_after b (join_at b near far) q ∙ get-join_at b near far q)
+half-near b near far = same_sparse _ _ (λ q. rw (get-half_after, get-join_at))
 
 half-far : (b : Bool) (near far : SparseMap) → half_after (not b) (join_at b near far) ≡ far
-half-far b near far = same_sparse _ _ (λ q. get-half_after (not b) (join_at b near far) q ∙ get-join_far b near far q)
+half-far b near far = same_sparse _ _ (λ q. rw (get-half_after, get-join_far))
 
 -- how many keys a join holds
 from_entries_same : (m : SparseMap) → from_entries (entries m) ≡ m
-from_entries_same m = same_sparse _ _ (λ q. get-from_entries bits_total (entries m) q ∙ sym (get-entries m q))
+from_entries_same m = same_sparse _ _ (λ q. rw (get-from_entries bits_total, get-entries))
 
 len_near : (b : Bool) (es : List (List Bool × List ℕ)) (far : SparseMap) → len (join_at b (from_entries es) far)
     ≡ len (from_entries {R = bits_cmp} es) + len (join_at b empty far)
-len_near b [] far = let z = len-empty bits_cmp (List ℕ) in omega (arith, z)
+len_near b [] far = omega (arith, len-empty bits_cmp (List ℕ))
 len_near b (e ∷ es) far =
     let m = from_entries {R = bits_cmp} es in
-    let ih = len_near b es far in
-    let one = len-insert bits_total m e.0 e.1 in
-    let both = len-insert bits_total (join_at b m far) (b ∷ e.0) e.1 in
-    let same = ap is_some (get-join_at b m far e.0) in
-    rw (← insert-join_at b m far e.0 e.1) (grind (arith, ih, one, both, same))
+    rw (← insert-join_at b m far e.0 e.1) (grind (
+      arith,
+      len_near b es far,
+      len-insert bits_total m e.0 e.1,
+      len-insert bits_total (join_at b m far) (b ∷ e.0) e.1,
+      ap is_some (get-join_at b m far e.0),
+    ))
 
 len_far : (b : Bool) (far : SparseMap) → len (join_at b empty far) ≡ len far
-len_far true far = let e = rw (from_entries_same far) at (len_near false (entries far) empty) in
-    let z = ap len (empty-is_join_at false) in let o = len-empty bits_cmp (List ℕ) in omega (arith, e, z, o)
-len_far false far = let e = rw (from_entries_same far) at (len_near true (entries far) empty) in
-    let z = ap len (empty-is_join_at true) in let o = len-empty bits_cmp (List ℕ) in omega (arith, e, z, o)
+len_far true far = omega (
+  arith,
+  rw (from_entries_same far) at (len_near false (entries far) empty),
+  ap len
+      (empty-is_join_at false),
+  len-empty bits_cmp (List ℕ),
+)
+len_far false far = omega (
+  arith,
+  rw (from_entries_same far) at (len_near true (entries far) empty),
+  ap len
+      (empty-is_join_at true),
+  len-empty bits_cmp (List ℕ),
+)
 
 pub len-join_at : (b : Bool) (near far : SparseMap) → len (join_at b near far) ≡ len near + len far
 len-join_at b near far = rw (from_entries_same near) at (len_near b (entries near) far)
@@ -71,13 +81,11 @@ len-lone q v = rw (len-insert bits_total empty q v, contains_key-empty q, len-em
 pub len-under : (bs : List Bool) (m : SparseMap) → len (under bs m) ≡ len m
 unfolding under
 len-under [] m = refl
-len-under (b ∷ bs) m = let e = len-join_at b (under bs m) empty in let z = len-empty bits_cmp (List ℕ) in
-    let h = len-under bs m in omega (arith, e, z, h)
+len-under (b ∷ bs) m = omega (arith, len-join_at b (under bs m) empty, len-empty bits_cmp (List ℕ), len-under bs m)
 
 pub some_held : (m : SparseMap) → HoldsKey m → 0 < len m
 some_held m h =
-    let not_none : ¬ (len m ≡ 0) = λ e. (let x = ap (λ t. contains_key t h.0) (empty_of_len m e) in
-    let y : true ≡ false = sym h.1 ∙ x ∙ contains_key-empty h.0 in cc) in
+    let not_none : ¬ (len m ≡ 0) = λ e. (let held = rw (empty_of_len m e, contains_key-empty) at h.1 in cc) in
     omega (arith, not_none)
 
 -- how many nodes
@@ -95,39 +103,27 @@ nodes-join k l r run hl hr = rw (add-one k, half-near false l r, half-far false 
 nodes-step : (k : ℕ) (b : Bool) (m : SparseMap) (run : Bool) → 1 < len m → nodes (k + 1) (join_at b m empty) run
     ≡ nodes k m true + cond run 0 1
 unfolding nodes
-nodes-step k true m run h = rw (
-  add-one k,
-  half-near true m empty,
-  half-far true m empty,
-  len-join_at true m empty,
-  len-empty bits_cmp (List ℕ),
-) (grind (arith, nat_tests))
-nodes-step k false m run h = rw (
-  add-one k,
-  half-near false m empty,
-  half-far false m empty,
-  len-join_at false m empty,
-  len-empty bits_cmp (List ℕ),
-) (grind (arith, nat_tests))
+nodes-step k true m run h =
+    rw (add-one k, half-near true, half-far true, len-join_at, len-empty) (grind (arith, nat_tests))
+nodes-step k false m run h =
+    rw (add-one k, half-near false, half-far false, len-join_at, len-empty) (grind (arith, nat_tests))
 
 nodes-under : (k : ℕ) (a : List Bool) (m : SparseMap) (run : Bool) → 1 < len m → 0 < length a
     → nodes (k + length a) (under a m) run ≡ nodes k m true + cond run 0 1
 unfolding under
 nodes-under k [] m run h some = absurd (omega (arith, some))
 nodes-under k (b ∷ []) m run h some = nodes-step k b m run h
-nodes-under k (b ∷ c ∷ a) m run h some =
-    let up : k + length (b ∷ c ∷ a) ≡ k + length (c ∷ a) + 1 = omega arith in
-    let more = len-under (c ∷ a) m in
-    let step = nodes-step (k + length (c ∷ a)) b (under (c ∷ a) m) run (omega (arith, more, h)) in
-    let ih = nodes-under k (c ∷ a) m true h (omega arith) in
-    rw up (omega (arith, step, ih))
+nodes-under k (b ∷ c ∷ a) m run h some = grind (
+  arith,
+  nodes-step (k + length (c ∷ a)) b (under (c ∷ a) m) run,
+  len-under (c ∷ a) m,
+  nodes-under k (c ∷ a) m true h,
+)
 
 pub splits_more : (m : SparseMap) → Splits m → 1 < len m
 splits_more m s =
-    let others = some_held (remove m (false ∷ s.0.0))
-    (true ∷ s.1.0, ap is_some (get-remove bits_total m (false ∷ s.0.0) (true ∷ s.1.0)) ∙ s.1.1) in
-    let fewer = rw s.0.1 at (len-remove bits_total m (false ∷ s.0.0)) in
-    omega (arith, others, fewer)
+    let others = some_held (remove m (false ∷ s.0.0)) (true ∷ s.1.0, rw (get-remove bits_total) s.1.1) in
+    omega (arith, others, rw s.0.1 at (len-remove bits_total m (false ∷ s.0.0)))
 
 split_step : (k : ℕ) (m : SparseMap) → 1 < len m → 0 < len (half_after false m) → 0 < len (half_after true m)
     → nodes (suc k) m true ≡ nodes (suc k) m false
@@ -137,9 +133,7 @@ split_step k m h l r = grind (arith, nat_tests)
 nodes-split : (k : ℕ) (m : SparseMap) → Splits m → nodes k m true ≡ nodes k m false
 unfolding nodes
 nodes-split zero m s = refl
-nodes-split (suc k) m s = split_step k m (splits_more m s)
-    (some_held (half_after false m) (s.0.0, ap is_some (get-half_after false m s.0.0) ∙ s.0.1))
-    (some_held (half_after true m) (s.1.0, ap is_some (get-half_after true m s.1.0) ∙ s.1.1))
+nodes-split (suc k) m s = grind (arith, split_step, splits_more, some_held, get-half_after)
 
 -- the count of a tree by the counts below it
 counted_more : (k : ℕ) (m : SparseMap) → 1 < len m → counted k m ≡ nodes k m false
@@ -149,8 +143,7 @@ counted_low : (k : ℕ) (m : SparseMap) → 0 < len m → k < 256 → counted k 
 counted_low k m h lt = grind (arith, nat_tests, nodes-lone k m false)
 
 pub counted_lone : (k : ℕ) (q : List Bool) (v : List ℕ) → k < 256 → 1 ≡ counted k (insert empty q v)
-counted_lone k q v lt = let one = len-lone q v in
-    sym (counted_low k (insert empty q v) (omega (arith, one)) lt ∙ nodes-lone k (insert empty q v) false one)
+counted_lone k q v lt = rw (len-lone q v) (grind (arith, nat_tests))
 
 -- a fork
 pub record IsForkCount (count size : ℕ) (l r : ℕ × SparseMap) : Type 0 where
@@ -159,24 +152,17 @@ pub record IsForkCount (count size : ℕ) (l r : ℕ × SparseMap) : Type 0 wher
   pub some : (0 < len l.1) × (0 < len r.1)
   pub low : (l.0 < 256) × (r.0 < 256)
 
-pub fork_count : {D A : _} (old : Node D A) (f : Rc (Fork' D A) A) (l r : ℕ × SparseMap) → old ≡ Fork f
+pub fork_count : {D A : _} {old : Node D A} {f : Rc (Fork' D A) A} {l r : ℕ × SparseMap} → old ≡ Fork f
     → IsWellFormed old → l ≡ f.value.left → r ≡ f.value.right → IsForkCount (counted (tree_height old) (held_by old))
     (len (held_by old)) l r
-fork_count old f l r is w le re =
-    let ws : IsWellFormed (Fork f) = rw is at w in
-    let k = f.value.left.0 in
-    let x = some_held f.value.left.1 ws.formed.0 in
-    let y = some_held f.value.right.1 ws.formed.1 in
-    let size = len-join_at false f.value.left.1 f.value.right.1 in
-    let top = counted_more (k + 1) (join f.value.left.1 f.value.right.1) (omega (arith, size, x, y))
-    ∙ nodes-join k f.value.left.1 f.value.right.1 false x y in
-    rw (is, le, re) (record {
-      exact = rw (counted_low k f.value.left.1 x ws.level.1, ← ws.level.0, counted_low k f.value.right.1 y ws.level.1)
-          top;
-      size_is = size;
-      some = (x, y);
-      low = (ws.level.1, omega (arith, ws.level.0, ws.level.1));
-    })
+fork_count {f} is w le re = grind (
+  arith,
+  some_held,
+  len-join_at false f.value.left.1 f.value.right.1,
+  counted_more,
+  nodes-join,
+  counted_low,
+)
 
 -- a stem
 pub record IsStemCount (old below : ℕ × SparseMap) : Type 0 where
@@ -187,33 +173,26 @@ pub record IsStemCount (old below : ℕ × SparseMap) : Type 0 where
   pub splits : (old.0 < 256) ⊎ (1 < len old.1) → Splits below.1
   pub runs : ¬ Splits old.1
 
-stem_exact : (n k : ℕ) (a : List Bool) (m : SparseMap) → IsBelow n (k, m) → length a ≡ n → 0 < n
+stem_exact : {n : ℕ} (k : ℕ) (a : List Bool) (m : SparseMap) → IsBelow n (k, m) → length a ≡ n → 0 < n
     → counted (k + n) (under a m) ≡ 1 + counted k m
-stem_exact n k a m (inl s) la some =
-    let more = splits_more m s in
-    let size = len-under a m in
-    let nodes_are = nodes-under k a m false more (omega (arith, la, some)) in
-    let split = nodes-split k m s in
-    counted_more (k + n) (under a m) (omega (arith, size, more)) ∙ rw (← la) (omega (arith, nodes_are, split))
-    ∙ sym (ap (λ j. 1 + j) (counted_more k m more))
-stem_exact n k a m (inr o) la some = rw (len-under a m, o.2.2, len-lone o.2.0 o.2.1, o.0, o.1)
+stem_exact {n} k a m (inl s) la some = grind (arith, splits_more, counted_more, len-under, nodes-under, nodes-split)
+stem_exact k a m (inr o) la some = rw (len-under a m, o.2.2, len-lone o.2.0 o.2.1, o.0, o.1)
 
 stem_splits : (n k : ℕ) (m : SparseMap) → IsBelow n (k, m) → (k + n < 256) ⊎ (1 < len m) → Splits m
 stem_splits n k m (inl s) more = s
 stem_splits n k m (inr o) (inl low) = absurd (omega (arith, low, o.0, o.1))
-stem_splits n k m (inr o) (inr more) = absurd (let one = ap len o.2.2 ∙ len-lone o.2.0 o.2.1 in
-    omega (arith, more, one))
+stem_splits n k m (inr o) (inr more) = absurd (omega (arith, more, ap len o.2.2 ∙ len-lone o.2.0 o.2.1))
 
-pub stem_count : {D A : _} (old : Node D A) (s : Rc (Stem' D A) A) (b : ℕ × SparseMap) → old ≡ Stem s → IsWellFormed old
+pub stem_count : {D A : _} {old : Node D A} {s : Rc (Stem' D A) A} {b : ℕ × SparseMap} → old ≡ Stem s → IsWellFormed old
     → b ≡ s.value.below → IsStemCount (seen old) b
-stem_count old s b is w be =
+stem_count {s} is w be =
     let ws : IsWellFormed (Stem s) = rw is at w in
     let a = bits_from s.value.key s.value.from s.value.len in
     let la : length (bits_from s.value.key s.value.from s.value.len) ≡ s.value.len =
     length-bits_from s.value.key s.value.from s.value.len in
     let size = len-under a s.value.below.1 in
     rw (is, be) (record {
-      exact = stem_exact s.value.len s.value.below.0 a s.value.below.1 ws.formed.1 la ws.formed.0;
+      exact = stem_exact s.value.below.0 a s.value.below.1 ws.formed.1 la ws.formed.0;
       size_is = size;
       some = some_held s.value.below.1 (stem_holds s.value.len s.value.below ws.formed.1);
       low = omega (arith, ws.level, ws.formed.0);

@@ -5,6 +5,7 @@ use Rattle.std.specs.FinMap.{get, insert, empty, contains_key, get-empty}
 use Rattle.std.proofs.lemmas.List.{append_cancel_left, append_cancel_right, length-replicate}
 use Rattle.warg_crypto.proofs.ForCallers.{zeros, ones}
 use Rattle.warg_crypto.specs.EmptyTrees.{empty_root}
+use Rattle.warg_map.specs.Messages.{Peers}
 use Rattle.warg_map.specs.Sparse.{SparseMap, bits_cmp, root_of_levels, sparse_root}
 use Rattle.warg_map.specs.Peers.{IsPeers, Proves, ProvesAbsent, ProvesEmpty}
 use Rattle.warg_map.specs.ProofValue.{peer_of, proof_value}
@@ -28,18 +29,8 @@ abbrev pub apart : List ℕ → List ℕ
 apart [] = zeros
 apart (b ∷ bytes) = ones
 
--- What a law would say of numbers, byte strings, digests and peers.
-abbrev pub SameNumber : ℕ → ℕ → Type 0
-SameNumber m n = m ≡ n
-
-abbrev pub SameList : List ℕ → List ℕ → Type 0
-SameList xs ys = xs ≡ ys
-
 abbrev pub SameDigest : Option (List ℕ) → Option (List ℕ) → Type 0
 SameDigest x y = x ≡ y
-
-abbrev pub SamePeers : List (Option (List ℕ)) → List (Option (List ℕ)) → Type 0
-SamePeers ps qs = ps ≡ qs
 
 -- One bit, the other one, and 256.
 abbrev pub one_bit : List Bool
@@ -69,12 +60,12 @@ abbrev pub lone : List ℕ → SparseMap
 lone x = insert empty one_bit x
 
 -- A peer at the top.
-abbrev pub with_top : ℕ → List (Option (List ℕ))
+abbrev pub with_top : ℕ → Peers
 with_top byte = Some (byte ∷ []) ∷ []
 
 -- What is held there alone.
-only_lone : (p q : List Bool) (x : List ℕ)
-    → contains_key (insert (empty {K = List Bool} {X = List ℕ} {R = bits_cmp}) p x) q ≡ true → q ≡ p
+only_lone : (p q : List Bool) (x : List ℕ) → contains_key (insert (empty {K = List Bool} {X = List ℕ} {R = bits_cmp}) p
+    x) q ≡ true → q ≡ p
 only_lone p q x held = tied q p (not_other (same_bits q p) refl)
   where
     not_other : (b : Bool) → same_bits q p ≡ b → same_bits q p ≡ true
@@ -125,17 +116,14 @@ nothing_empty H bits = rw (get-empty bits_cmp bits) (nothing_proof H bits)
 -- The proof of an absence beside one bit has its digest.
 pub beside_proof : (H : List ℕ → List ℕ) (y : List ℕ) → ProvesAbsent H (insert empty other_bit y) one_bit (Some y ∷ [])
 unfolding IsPeers root_of_levels
-beside_proof H y = record {
-  absent = ap is_some (get-lone_other other_bit y one_bit (λ same. cc));
-  peers_from_top = (
-    inr (rw (get-insert_same empty other_bit y) refl, ([], contains_key-insert_same empty other_bit y)),
-    λ q other. get-lone_other other_bit y (true ∷ q) (λ same. cc),
-  );
-  count = record {
-    above = λ q held other. rw (only_lone other_bit q y held) (omega arith);
-    reached = inr (other_bit, contains_key-insert_same empty other_bit y, (λ same. cc), refl);
-  };
-}
+beside_proof H y = grind (
+  arith,
+  is_some,
+  get-lone_other,
+  get-insert_same empty other_bit y,
+  contains_key-insert_same empty other_bit y,
+  only_lone,
+)
 
 -- And the tree over both has it on the other side.
 abbrev pub seven : SparseMap
@@ -156,15 +144,12 @@ pub both_proof : (H : List ℕ → List ℕ) → Proves H 256 both one_bit (Some
 unfolding IsPeers root_of_levels
 both_proof H = record {
   held = contains_key-insert_same seven one_bit [];
-  peers_from_top = (
-    inr (rw seven_there refl, ([], ap is_some seven_there)),
-    λ q other. get-insert_other seven one_bit (true ∷ q) [] (λ same. other (cc)) ∙ get-lone_other other_bit (7 ∷ [])
-        (true ∷ q) (λ same. cc),
-  );
+  peers_from_top = grind
+      (arith, seven_there, is_some, get-insert_other, get-lone_other);
   count = record {
-    above = λ q held other. rw (only_lone other_bit q (7 ∷ [])
-        (ap is_some (sym (get-insert_other seven one_bit q [] other)) ∙ held)) (omega arith);
-    reached = inr (other_bit, ap is_some seven_there, (λ same. cc), refl);
+    above = grind (arith, only_lone, is_some, get-insert_other);
+    reached = inr
+        (other_bit, ap is_some seven_there, (λ same. cc), refl);
   };
 }
 
@@ -173,23 +158,22 @@ unfolding root_of_levels
 both_root = rw (seven_there, get-insert_same seven one_bit []) refl
 
 -- A tree of two levels or more begins with two branches.
-two_branches : (k : ℕ) (f : List Bool → Option (List ℕ)) → (t : List ℕ)
-    × (root_of_levels own (suc (suc k)) f ≡ 1 ∷ 1 ∷ t)
+two_branches : (k : ℕ) (f : List Bool → Option (List ℕ)) → (t : List ℕ) × (root_of_levels own (suc (suc k)) f ≡ 1 ∷ 1 ∷
+    t)
 unfolding root_of_levels
 two_branches k f = (_, refl)
 
 -- So one of one level or of none is another.
-pub one_level : (x : List ℕ) → proof_value own (Some (empty_root own 0) ∷ []) x one_bit ≡ sparse_root own 256
-    (insert (lone x) one_bit x) → ⊥
+pub one_level : (x : List ℕ) → proof_value own (Some (empty_root own 0) ∷ []) x one_bit
+    ≡ sparse_root own 256 (insert (lone x) one_bit x) → ⊥
 unfolding proof_value empty_root
 one_level x is =
     let root = two_branches 254 (get (insert (lone x) one_bit x)) in
-    let byte : 1 ∷ 0 ∷ x ≡ 1 ∷ 1 ∷ root.0 = is ∙ root.1 in let wrong : SameNumber 0 1 = cc in omega arith
+    cc (is ∙ root.1)
 
 pub no_level : proof_value own [] [] [] ≡ sparse_root own 256 (insert empty [] []) → ⊥
 unfolding proof_value
-no_level is = let root = two_branches 254 (get (insert (empty {K = List Bool} {X = List ℕ} {R = bits_cmp}) [] [])) in
-    let byte : [] ≡ 1 ∷ 1 ∷ root.0 = is ∙ root.1 in cc
+no_level is = grind (arith, two_branches 254 (get (insert (empty {K = List Bool} {X = List ℕ} {R = bits_cmp}) [] [])))
 
 -- Another peer at the top leads elsewhere.
 top_is : (byte k : ℕ) → k ≡ 255 → peer_of own (with_top byte) k ≡ byte ∷ []
@@ -198,17 +182,13 @@ top_is byte k is = rw is refl
 peer_matters : (rest : List Bool) (x : List ℕ) → length rest ≡ 255 → proof_value own (with_top 5) x (true ∷ rest)
     ≡ proof_value own (with_top 6) x (true ∷ rest) → ⊥
 unfolding proof_value
-peer_matters rest x count is =
-    let byte : 1 ∷ 5 ∷ proof_value own (with_top 5) x rest ≡ 1 ∷ 6 ∷ proof_value own (with_top 6) x rest =
-    ap (λ p. 1 ∷ p ++ proof_value own (with_top 5) x rest) (sym (top_is 5 (length rest) count)) ∙ is
-    ∙ ap (λ p. 1 ∷ p ++ proof_value own (with_top 6) x rest) (top_is 6 (length rest) count) in
-    let wrong : SameNumber 5 6 = cc in omega arith
+peer_matters rest x count is = cc (rw (top_is 5 (length rest) count, top_is 6 (length rest) count) at is)
 
 pub peers_matter : (x : List ℕ) → proof_value own (with_top 5) x all_bits ≡ proof_value own (with_top 6) x all_bits → ⊥
 peers_matter x is = peer_matters below x below_255 is
 
 -- Another leaf digest leads elsewhere.
-pub leaf_matters : (peers : List (Option (List ℕ))) (x y : List ℕ) (bits : List Bool) → proof_value own peers x bits
+pub leaf_matters : (peers : Peers) (x y : List ℕ) (bits : List Bool) → proof_value own peers x bits
     ≡ proof_value own peers y bits → x ≡ y
 unfolding proof_value
 leaf_matters peers x y [] is = is
@@ -223,9 +203,8 @@ leaf_matters peers x y (false ∷ bits) is =
 
 -- A map of one key has the root to which its proof leads.
 pub own_root : (H : List ℕ → List ℕ) (b : Bool) (rest : List Bool) (x : List ℕ) → length (b ∷ rest) ≡ 256
-    → proof_value H (Some (empty_root H (length rest)) ∷ []) x (b ∷ rest)
-    ≡ sparse_root H 256 (insert empty (b ∷ rest) x)
+    → proof_value H (Some (empty_root H (length rest)) ∷ []) x (b ∷ rest) ≡ sparse_root H 256 (insert empty (b ∷ rest)
+    x)
 own_root H b rest x count =
     let m : SparseMap = insert empty (b ∷ rest) x in
-    root_at_prefix H m [] (b ∷ rest) _ x (omega (arith, count)) (omega arith) (lone_proof H b rest x)
-    (get-insert_same empty (b ∷ rest) x) ∙ ap (λ k. root_of_levels H k (get m)) count
+    grind (arith, root_at_prefix H m [] (b ∷ rest), lone_proof H b rest x, get-insert_same empty (b ∷ rest) x)

@@ -1,9 +1,9 @@
 -- Laws of the plain sparse tree.
-use Rattle.std.proofs.Common.{◌≡◌, ℕ, zero, suc, ◌+◌, Bool, true, false, cond, not, List, [], ◌∷◌, ◌++◌, map, Option, Some, None, is_some, refl, sym, ap, ◌∙◌, add-one}
+use Rattle.std.proofs.Common.{◌≡◌, ℕ, zero, suc, ◌+◌, Bool, true, false, cond, not, List, [], ◌∷◌, ◌++◌, map, Option, Some, None, is_some, refl, ap, ◌∙◌, add-one}
 use Rattle.std.specs.FinMap.{entries, get, insert, empty, find, get-empty, get-insert, get-entries, get-from_entries, same_map, IsAntisymmetric, slice_cmp-IsAntisymmetric, contains_key}
 use Rattle.std.specs.Ordering.{bool_cmp, eq_by_cmp}
 use Rattle.std.specs.Cmp.{IsTotalOrder, bool_cmp_total, Equal-is, eq_by_cmp_equiv}
-use Rattle.std.proofs.lemmas.Bool.{cond-true, cond-false, false_from_ne_true}
+use Rattle.std.proofs.lemmas.Bool.{false_from_ne_true}
 use Rattle.std.specs.Cmp.Lexicographic.{lists_total}
 use Rattle.warg_crypto.specs.EmptyTrees.{empty_root}
 use Rattle.warg_map.specs.Sparse.{SparseMap, bits_cmp, root_of_levels, sparse_root}
@@ -34,11 +34,10 @@ same_sparse m n h = same_map bits_total bits_IsAntisymmetric m n h
 
 -- what an insertion leaves
 pub get-insert_same : (m : SparseMap) (p : List Bool) (v : List ℕ) → get (insert m p v) p ≡ Some v
-get-insert_same m p v = get-insert bits_total m p v p ∙ cond-true _ _ _ (tied_itself_bits p)
+get-insert_same m p v = rw (get-insert bits_total m p v p, tied_itself_bits p)
 
 pub get-insert_other : (m : SparseMap) (p q : List Bool) (v : List ℕ) → ¬ (q ≡ p) → get (insert m p v) q ≡ get m q
-get-insert_other m p q v n = get-insert bits_total m p v q
-    ∙ cond-false _ _ _ (false_from_ne_true _ (λ e. n (tied q p e)))
+get-insert_other m p q v n = rw (get-insert bits_total m p v q, false_from_ne_true _ (λ e. n (tied q p e)))
 
 pub contains_key-insert_same : (m : SparseMap) (p : List Bool) (v : List ℕ) → contains_key (insert m p v) p ≡ true
 contains_key-insert_same m p v = ap is_some (get-insert_same m p v)
@@ -54,25 +53,21 @@ find_joined : (q : List Bool) (es fs : List (List Bool × List ℕ)) → (find b
     × (find bits_cmp (false ∷ q) (entries_of_join es fs) ≡ find bits_cmp q es)
     × (find bits_cmp (true ∷ q) (entries_of_join es fs) ≡ find bits_cmp q fs)
 find_joined q [] [] = (refl, refl, refl)
-find_joined q [] (f ∷ fs) = let h = find_joined q [] fs in
-    (h.0, h.1, ap (cond (eq_by_cmp bits_cmp q f.0) (Some f.1)) h.2)
-find_joined q (e ∷ es) fs = let h = find_joined q es fs in
-    (h.0, ap (cond (eq_by_cmp bits_cmp q e.0) (Some e.1)) h.1, h.2)
+find_joined q [] (f ∷ fs) = let h = find_joined q [] fs in (h.0, h.1, rw h.2)
+find_joined q (e ∷ es) fs = let h = find_joined q es fs in (h.0, rw h.1, h.2)
 
 -- what a join holds
 pub get-join_nil : (l r : SparseMap) → get (join l r) [] ≡ None
 unfolding join
-get-join_nil l r = get-from_entries bits_total _ [] ∙ (find_joined [] (entries l) (entries r)).0
+get-join_nil l r = rw (get-from_entries bits_total) (find_joined [] (entries l) (entries r)).0
 
 pub get-join_false : (l r : SparseMap) (q : List Bool) → get (join l r) (false ∷ q) ≡ get l q
 unfolding join
-get-join_false l r q = get-from_entries bits_total _ (false ∷ q) ∙ (find_joined q (entries l) (entries r)).1
-    ∙ sym (get-entries l q)
+get-join_false l r q = rw (get-from_entries bits_total, get-entries) (find_joined q (entries l) (entries r)).1
 
 pub get-join_true : (l r : SparseMap) (q : List Bool) → get (join l r) (true ∷ q) ≡ get r q
 unfolding join
-get-join_true l r q = get-from_entries bits_total _ (true ∷ q) ∙ (find_joined q (entries l) (entries r)).2
-    ∙ sym (get-entries r q)
+get-join_true l r q = rw (get-from_entries bits_total, get-entries) (find_joined q (entries l) (entries r)).2
 
 pub get-join_at : (b : Bool) (near far : SparseMap) (q : List Bool) → get (join_at b near far) (b ∷ q) ≡ get near q
 get-join_at true near far q = get-join_true far near q

@@ -1,5 +1,5 @@
 -- The form of the tree.
-use Rattle.std.proofs.Common.{◌≡◌, ℕ, ◌+◌, ◌-◌, ◌<◌, Bool, true, false, List, [], ◌∷◌, ◌++◌, length, cond, refl, sym, ap, ◌∙◌, subst, arith, inl, inr}
+use Rattle.std.proofs.Common.{◌≡◌, ℕ, ◌+◌, ◌-◌, ◌<◌, Bool, true, false, List, [], ◌∷◌, ◌++◌, length, cond, refl, arith, inl, inr}
 use Rattle.std.specs.FinMap.{insert, empty, contains_key, get-insert, get-empty}
 use Rattle.std.specs.declared.rc.Rc.{Rc}
 use Rattle.warg_map.specs.declared.node.Node.{Node}
@@ -17,15 +17,15 @@ use Rattle.warg_map.proofs.KeyBits.{length-bits_from, bits_from-none, bits_from-
 -- a node by what was read out of its variant
 pub of_content : {X A N : Type 0} (variant : Rc X A → N) {n : N} {rc : Rc X A} {x : X} → n ≡ variant rc → x ≡ rc.value
     → n ≡ variant (record rc { value = x })
-of_content variant {rc = rc} is e = is ∙ ap (λ v. variant (record rc { value = v })) (sym e)
+of_content variant is e = rw (is, e)
 
 -- what is held after an insertion, and by a lone key
 pub held_after : (m : SparseMap) (p q : List Bool) (v : List ℕ) → contains_key m q ≡ true
     → contains_key (insert m p v) q ≡ true
 held_after m p q v h = grind (arith, get-insert bits_total m p v q)
 
-pub lone_only : (p q : List Bool) (v : List ℕ)
-    → contains_key (insert (empty {K = List Bool} {X = List ℕ} {R = bits_cmp}) p v) q ≡ true → q ≡ p
+pub lone_only : (p q : List Bool) (v : List ℕ) → contains_key (insert
+    (empty {K = List Bool} {X = List ℕ} {R = bits_cmp}) p v) q ≡ true → q ≡ p
 lone_only p q v h = grind (arith, get-insert bits_total empty p v q, get-empty {X = List ℕ} bits_cmp q, tied q p)
 
 -- what splits
@@ -57,96 +57,60 @@ stands_below (Stem s) key from len w n z h b = absurd (n s refl)
 stands_below Empty key from len w n z h b = absurd (omega (arith, h, z))
 
 -- a link with a stem above it
-pub with_no_stem : (link : ℕ × SparseMap) (key : List ℕ) (from len : ℕ) → len ≡ 0
-    → link ≡ (link.0 + len, under (bits_from key from len) link.1)
+pub with_no_stem : (link : ℕ × SparseMap) (key : List ℕ) (from len : ℕ) → len ≡ 0 → link
+    ≡ (link.0 + len, under (bits_from key from len) link.1)
 with_no_stem link key from len h = let e : link.0 + 0 ≡ link.0 = omega arith in
     rw (h, bits_from-none key from, under-none link.1, e)
 
-pub with_new_stem : {D A : _} (node : Node D A) (s : Stem' D A) (link : ℕ × SparseMap) (key : List ℕ) (from len : ℕ)
+pub with_new_stem : {D A : _} {node : Node D A} {s : Stem' D A} {link : ℕ × SparseMap} (key : List ℕ) (from len : ℕ)
     → IsWellFormed node → seen node ≡ link → ((x : Rc (Stem' D A) A) → node ≡ Stem x → ⊥) → 0 < len
-    → from + len + link.0 ≡ 256 → MayCarry key link
-    → s ≡ record { key = key; from = from; len = len; below = link }
+    → from + len + link.0 ≡ 256 → MayCarry key link → s ≡ record { key = key; from = from; len = len; below = link }
     → IsStemOver s (link.0 + len) (under (bits_from key from len) link.1)
-with_new_stem node s link key from len w sn n z h below is =
-    let stands = subst (IsBelow len) sn (stands_below node key from len w n z (rw (← sn) at h) (rw (← sn) at below)) in
-    record {
-      level = rw is h;
-      formed = rw is (omega (arith, z), stands, below);
-      height_is = rw is refl;
-      held_is = rw is refl;
-    }
+with_new_stem {node} key from len w sn n z h below is = grind (arith, stands_below node key from len w n z)
 
-pub with_longer_stem : {D A : _} (node : Node D A) (lower : Rc (Stem' D A) A) (s : Stem' D A) (link : ℕ × SparseMap)
+pub with_longer_stem : {D A : _} {node : Node D A} {lower : Rc (Stem' D A) A} {s : Stem' D A} {link : ℕ × SparseMap}
     (key : List ℕ) (from len : ℕ) → node ≡ Stem lower → IsWellFormed node → seen node ≡ link → 0 < len
-    → from + len + link.0 ≡ 256 → MayCarry key link
-    → s ≡ record { key = key; from = from; len = len + lower.value.len; below = lower.value.below }
-    → IsStemOver s (link.0 + len) (under (bits_from key from len) link.1)
-with_longer_stem node lower s link key from len at_node wf sn z high below is =
+    → from + len + link.0 ≡ 256 → MayCarry key link → s ≡ record {
+      key = key;
+      from = from;
+      len = len + lower.value.len;
+      below = lower.value.below;
+    } → IsStemOver s (link.0 + len) (under (bits_from key from len) link.1)
+with_longer_stem {lower} {s} {link} key from len at_node wf sn z high below is =
     let w : IsWellFormed (Stem lower) = rw at_node at wf in
-    let top : seen (Stem lower) ≡ link = sym (ap seen at_node) ∙ sn in
+    let top : seen (Stem lower) ≡ link = rw at_node at sn in
     let k = lower.value.below.0 in
     let m = lower.value.below.1 in
     let l = lower.value.len in
     let own = bits_from lower.value.key lower.value.from l in
     let length_own : length own ≡ l = length-bits_from lower.value.key lower.value.from l in
     let h : from + len + (k + l) ≡ 256 = rw (← top) at high in
-    let has : contains_key (under own m) (last_bits key (k + l)) ≡ true = elim (rw (← top) at below) as
-    (λ _. contains_key (under own m) (last_bits key (k + l)) ≡ true) [
-      | inl s ↦ absurd (stem_no_split own m (omega (arith, length_own, w.formed.0)) s)
-      | inr o ↦ rw o.0 o.1
-    ] in
+    let has : contains_key (under own m) (last_bits key (k + l)) ≡ true = grind (arith, stem_no_split own m) in
     let swap : k + l ≡ l + k = omega arith in
-    let whole : last_bits key (k + l) ≡ bits_from key (from + len) l ++ bits_from key (from + len + l) k =
-    last_bits-at key (from + len) (k + l) h ∙ ap (bits_from key (from + len)) swap
-    ∙ bits_from-append key (from + len) l k in
-    let same : bits_from key (from + len) l ≡ own = under_same _ _ (bits_from key (from + len + l) k) m
-    (length-bits_from key (from + len) l ∙ sym length_own) (rw whole at has) in
-    let sum : k + (len + l) ≡ k + l + len = omega arith in
+    let whole : last_bits key (k + l) ≡ bits_from key (from + len) l ++ bits_from key (from + len + l) k = rw
+    (last_bits-at key (from + len) (k + l) h, swap, bits_from-append key (from + len) l k) in
+    let same : bits_from key (from + len) l ≡ own = grind (arith, under_same, length-bits_from) in
     let stands = elim w.formed.1 as (λ _. IsBelow (len + l) (k, m) × MayCarry key (k, m))
     [ inl s ↦ (inl s, inl s) | inr o ↦ absurd (omega (arith, o.0, o.1, z, h)) ] in
-    rw (← top) (record {
-      level = rw is (omega (arith, h));
-      formed = rw is (omega (arith, z), stands.0, stands.1);
-      height_is = rw is sum;
-      held_is = rw (
-        is,
-        bits_from-append key from len l,
-        under-append (bits_from key from len)
-            (bits_from key (from + len) l) m,
-        same,
-      ) refl;
-    })
+    grind (arith, bits_from-append, under-append)
 
 -- a new fork
-pub with_fork : {D A : _} (b : Bool) (f : Rc (Fork' D A) A) (near far : ℕ × SparseMap)
-    → f.value ≡ record { left = cond b far near; right = cond b near far } → (near.0 ≡ far.0) × (near.0 < 256)
-    → HoldsKey near.1 × HoldsKey far.1
-    → IsSeen (Fork f) (near.0 + 1) (join_at b near.1 far.1)
-with_fork true f near far is level hold = record {
-  seen_as = rw (is, level.0) refl;
-  well_formed = record {
-    level = rw is (sym level.0, omega (arith, level.0, level.1));
-    formed = rw is (hold.1, hold.0);
-  };
-}
-with_fork false f near far is level hold = record {
+pub with_fork : {D A : _} {f : Rc (Fork' D A) A} (b : Bool) (near far : ℕ × SparseMap) → f.value
+    ≡ record { left = cond b far near; right = cond b near far } → (near.0 ≡ far.0) × (near.0 < 256) → HoldsKey near.1
+    × HoldsKey far.1 → IsSeen (Fork f) (near.0 + 1) (join_at b near.1 far.1)
+with_fork true near far is level hold = grind arith
+with_fork false near far is level hold = record {
   seen_as = rw is refl;
   well_formed = record { level = rw is level; formed = rw is hold };
 }
 
 -- a lone key with bits above it
-pub lone_with_stem : (key v : List ℕ) (from len k : ℕ) (below l : ℕ × SparseMap) → from + len + k ≡ 256
-    → below ≡ (k, insert empty (last_bits key k) v) → l ≡ (below.0 + len, under (bits_from key from len) below.1)
-    → l ≡ (256 - from, insert empty (last_bits key (256 - from)) v)
-lone_with_stem key v from len k below l h b e =
-    let up : k + len ≡ 256 - from = omega (arith, h) in
-    let low : 256 - (from + len) ≡ k = omega (arith, h) in
-    rw (
-      e,
-      b,
-      up,
-      bits_left-split key from len (omega (arith, h)),
-      low,
-      lone-append (bits_from key from len)
-          (last_bits key k) v,
-    )
+pub lone_with_stem : {k : ℕ} {below l : ℕ × SparseMap} (key v : List ℕ) (from len : ℕ) → from + len + k ≡ 256 → below
+    ≡ (k, insert empty (last_bits key k) v) → l ≡ (below.0 + len, under (bits_from key from len) below.1) → l
+    ≡ (256 - from, insert empty (last_bits key (256 - from)) v)
+lone_with_stem {k} key v from len h b e = grind (
+  arith,
+  bits_left-split key from len,
+  lone-append
+      (bits_from key from len) (last_bits key k) v,
+)

@@ -1,71 +1,41 @@
 -- The map in pages is the one that insertions make, where each insertion is in them and they hold nothing else.
-use Rattle.std.proofs.Common.{◌≡◌, ◌≢◌, ℕ, ◌+◌, ◌<◌, Bool, true, false, cond, List, [], ◌∷◌, ◌++◌, length, Option, Some, None, refl, sym, ap, ◌∙◌, arith, inl, inr, append_assoc, length-append}
-use Rattle.std.proofs.lemmas.Bool.{cond-false, false_from_ne_true}
+use Rattle.std.proofs.Common.{◌≡◌, ◌≢◌, ℕ, ◌+◌, ◌<◌, Bool, true, List, [], ◌∷◌, ◌++◌, length, Option, Some, None, refl, sym, ap, ◌∙◌, arith, inl, inr, append_assoc, length-append}
+use Rattle.std.proofs.lemmas.Bool.{false_from_ne_true}
 use Rattle.std.proofs.lemmas.Bool.Decides.{eqb_tells}
 use Rattle.std.specs.Prelude.{find}
-use Rattle.std.specs.List.{AllPairs, Contains, filter_map, cons_option}
+use Rattle.std.specs.List.{AllPairs, Contains, filter_map}
 use Rattle.std.specs.Option.{option_map}
 use Rattle.std.specs.FinMap.{get}
 use Rattle.warg_crypto.specs.Digests.{IsDigest}
 use Rattle.warg_crypto.specs.Tree.{leaf_digest}
 use Rattle.warg_map.specs.Bits.{last_bits, key_bits}
 use Rattle.warg_map.specs.Last.{last_with, same_bits, last_under}
-use Rattle.warg_map.specs.Sparse.{sparse_root, map_of}
+use Rattle.warg_map.specs.Sparse.{map_of}
 use Rattle.warg_map.proofs.ForCallers.{same_bits-true, same_digest, last_held}
 use Rattle.warg_pages.specs.Slots.{SlotAt}
 use Rattle.warg_pages.specs.ChangedPages.{ChangedPageAt}
-use Rattle.warg_pages.specs.Visits.{held_by, AreAllPages, lone_slots, lone_keys}
+use Rattle.warg_pages.specs.Visits.{held_by, lone_slots, lone_keys}
 use Rattle.warg_pages.specs.Audits.{IsLoneAmong, IsInPages, AreInPages, count_last}
-use Rattle.warg_pages.proofs.Members.{among, first_among, later_among, around, AllPairs-cons, all_among}
-use Rattle.warg_pages.proofs.PageRoots.{root-same}
-use Rattle.warg_pages.proofs.VisitedRoots.{AreApart, root_of_pages, lone_digests, lone_apart}
+use Rattle.warg_pages.proofs.Members.{among, around, AllPairs-cons, all_among, find_some, find_none, in_filter_map, from_filter_map}
+use Rattle.warg_pages.proofs.LastPassing.{none_is}
+use Rattle.warg_pages.proofs.VisitedRoots.{AreApart}
 
 -- slots by what is found
 abbrev FoundIn : List SlotAt → (List ℕ × List ℕ → Bool) → List ℕ × List ℕ → Type 0
 FoundIn xs test l = (x : SlotAt) × Contains xs x × (x.lone ≡ Some l) × (test l ≡ true)
 
-found_here : (test : List ℕ × List ℕ → Bool) (b : Bool) (x : SlotAt) (m l : List ℕ × List ℕ) (xs : List SlotAt)
-    (rest : Option (List ℕ × List ℕ)) → test m ≡ b → x.lone ≡ Some m → cond b (Some m) rest ≡ Some l
-    → (rest ≡ Some l → FoundIn xs test l) → FoundIn (x ∷ xs) test l
-found_here test true x m l xs rest t is e h =
-    let same : m ≡ l = cc in
-    (x, first_among x xs, is ∙ e, rw (← same) t)
-found_here test false x m l xs rest t is e h = let found = h e in
-    (found.0, later_among x xs found.0 found.1, found.2, found.3)
-
-found_one : (test : List ℕ × List ℕ → Bool) (o : Option (List ℕ × List ℕ)) (x : SlotAt) (l : List ℕ × List ℕ)
-    (xs : List SlotAt) → x.lone ≡ o → find test (cons_option o (filter_map (λ x. x.lone) xs)) ≡ Some l
-    → (find test (filter_map (λ x. x.lone) xs) ≡ Some l → FoundIn xs test l) → FoundIn (x ∷ xs) test l
-found_one test None x l xs is e h = let found = h e in (found.0, later_among x xs found.0 found.1, found.2, found.3)
-found_one test (Some m) x l xs is e h = found_here test _ x m l xs _ refl is e h
-
 found_slot : (xs : List SlotAt) (test : List ℕ × List ℕ → Bool) (l : List ℕ × List ℕ)
     → find test (filter_map (λ x. x.lone) xs) ≡ Some l → FoundIn xs test l
-found_slot [] test l e = absurd cc
-found_slot (x ∷ xs) test l e = found_one test x.lone x l xs refl e (found_slot xs test l)
-
-none_here : (test : List ℕ × List ℕ → Bool) (b : Bool) (m : List ℕ × List ℕ) (rest : Option (List ℕ × List ℕ))
-    → test m ≡ b → cond b (Some m) rest ≡ None → (rest ≡ None) × (test m ≡ true → ⊥)
-none_here test true m rest t e = absurd cc
-none_here test false m rest t e = (e, λ pass. cc)
-
-none_one : (test : List ℕ × List ℕ → Bool) (o : Option (List ℕ × List ℕ)) (ls : List (List ℕ × List ℕ))
-    → find test (cons_option o ls) ≡ None
-    → (find test ls ≡ None) × ((l : List ℕ × List ℕ) → o ≡ Some l → test l ≡ true → ⊥)
-none_one test None ls e = (e, λ l is pass. cc)
-none_one test (Some m) ls e =
-    let parts = none_here test _ m _ refl e in
-    (parts.0, λ l is pass. parts.1 (let same : m ≡ l = cc in rw same pass))
+found_slot xs test l e =
+    let found = find_some test (filter_map (λ x. x.lone) xs) e in
+    let at = from_filter_map (λ (x : SlotAt). x.lone) xs l found.0 in
+    (at.0, at.1, at.2, found.1)
 
 none_found : (xs : List SlotAt) (test : List ℕ × List ℕ → Bool) → find test (filter_map (λ x. x.lone) xs) ≡ None
     → (x : SlotAt) (l : List ℕ × List ℕ) → Contains xs x → x.lone ≡ Some l → test l ≡ true → ⊥
-none_found [] test e x l c is pass = omega arith
-none_found (y ∷ xs) test e x l c is pass =
-    let parts = none_one test y.lone _ e in
-    elim (among y xs x c) [
-      | inl same ↦ parts.1 l (rw same is) pass
-      | inr later ↦ none_found xs test parts.0 x l later is pass
-    ]
+none_found xs test e x l c is pass =
+    let no = find_none test _ e (in_filter_map (λ (x : SlotAt). x.lone) xs c is) in
+    cc
 
 -- the last element that passes
 last_is : {X : Type 0} (p : X → Bool) (before : List X) (e : X) (after : List X) → p e ≡ true → last_with p after ≡ None
@@ -73,13 +43,6 @@ last_is : {X : Type 0} (p : X → Bool) (before : List X) (e : X) (after : List 
 unfolding last_with
 last_is p [] e after pass none = rw (none, pass) refl
 last_is p (b ∷ before) e after pass none = rw (last_is p before e after pass none) refl
-
-none_passes : {X : Type 0} (p : X → Bool) (xs : List X) → ((x : X) → Contains xs x → p x ≡ true → ⊥)
-    → last_with p xs ≡ None
-unfolding last_with
-none_passes p [] h = refl
-none_passes p (x ∷ xs) h = rw (none_passes p xs (λ y c. h y (later_among x xs y c)))
-    (cond-false _ _ _ (false_from_ne_true _ (h x (first_among x xs))))
 
 -- an insertion among others is in pages
 record IsEntryIn (H : List ℕ → List ℕ) (all : List ChangedPageAt) (least : ℕ) (e : List ℕ × List ℕ) : Type 0 where
@@ -203,7 +166,7 @@ last_slots H all first (e ∷ es) (v ∷ vs) h =
     ]
 
 -- the law
-held_is : (H : List ℕ → List ℕ) (es : List (List ℕ × List ℕ)) (all : List ChangedPageAt) (vs : List ℕ)
+pub held_is : (H : List ℕ → List ℕ) (es : List (List ℕ × List ℕ)) (all : List ChangedPageAt) (vs : List ℕ)
     → ((x : SlotAt) (l : List ℕ × List ℕ) → Contains (lone_slots all) x → x.lone ≡ Some l → IsDigest l.0)
     → AreApart (lone_slots all) → AreInPages H all 0 es vs → count_last 0 vs ≡ length (lone_slots all)
     → (bits : List Bool) → held_by (lone_keys all) bits ≡ get (map_of H es) bits
@@ -244,10 +207,10 @@ held_is H es all vs digests apart are same bits = either _ refl
 
     either : (o : Option (List ℕ × List ℕ)) → find lone_has (lone_keys all) ≡ o
         → option_map (λ (l : List ℕ × List ℕ). l.1) o ≡ get (map_of H es) bits
-    either None e = in_map None (none_passes has es (λ f c pass.
+    either None e = in_map None (none_is has es (λ f c. false_from_ne_true _ (λ pass.
         let split = around es f c in
         let in_pages = entry_in H all 0 split.0 split.1 f vs (rw split.2 at are) in
-        none_found _ lone_has e _ (H f.0, in_pages.leaf) in_pages.held.there in_pages.held.is_lone pass))
+        none_found _ lone_has e _ (H f.0, in_pages.leaf) in_pages.held.there in_pages.held.is_lone pass)))
     either (Some l) e =
         let found = found_slot (lone_slots all) lone_has l e in
         let many = lasts.as_many in
@@ -256,11 +219,5 @@ held_is H es all vs digests apart are same bits = either _ refl
         let is : l ≡ (H last.e.0, leaf_digest H last.e.1) = cc (found.2, last.is_lone) in
         rw is (in_map _ (ap (last_under H bits) last.is_there
         ∙ last_is has last.before last.e last.after (ap lone_has (sym is) ∙ found.3)
-        (none_passes has last.after (no_other found.0 found.1 last (ap lone_has (sym is) ∙ found.3)))))
-
-pub audited : (H : List ℕ → List ℕ) (IsThere : List ℕ → ℕ → List SlotAt → Type 0) (root : List ℕ) (version : ℕ)
-    (es : List (List ℕ × List ℕ)) (all : List ChangedPageAt) (vs : List ℕ) → AreAllPages H IsThere root version all
-    → AreInPages H all 0 es vs → count_last 0 vs ≡ length (lone_slots all) → root ≡ sparse_root H 256 (map_of H es)
-audited H IsThere root version es all vs are in_pages same = root_of_pages H IsThere root version all are
-    ∙ root-same H 256 _ _ (held_is H es all vs (lone_digests H IsThere root version all are)
-    (lone_apart H IsThere root version all are) in_pages same)
+        (none_is has last.after (λ f c. false_from_ne_true _
+        (no_other found.0 found.1 last (ap lone_has (sym is) ∙ found.3) f c)))))

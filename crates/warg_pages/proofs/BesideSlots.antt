@@ -1,21 +1,17 @@
 -- The peers of a page are those of the map.
 use Rattle.std.proofs.Common.{◌≡◌, ℕ, ◌+◌, ◌*◌, ◌<◌, Bool, not, List, [], ◌∷◌, ◌++◌, length, Option, refl, sym, ap, ◌∙◌, arith, inl, inr, append_assoc, length-append}
 use Rattle.std.proofs.lemmas.Bool.{cases_lt}
-use Rattle.std.specs.Prelude.{slice_index}
 use Rattle.std.specs.FinMap.{get}
-use Rattle.warg_map.specs.Bits.{key_bits}
 use Rattle.warg_map.specs.Sparse.{root_of_levels, map_of}
 use Rattle.warg_map.specs.ProofValue.{peer_of}
-use Rattle.warg_map.specs.Peers.{IsBeside, ProvesEmpty}
-use Rattle.warg_map.proofs.ForCallers.{key_beside, length-last_bits}
-use Rattle.warg_crypto.specs.Digests.{IsDigest}
+use Rattle.warg_map.specs.Peers.{IsBeside}
 use Rattle.warg_pages.specs.Prefixes.{byte_bits, below}
 use Rattle.warg_pages.specs.Slots.{page_of}
 use Rattle.warg_pages.specs.Pages.{digest_at, root_over, slot_height}
-use Rattle.warg_pages.specs.PagePeers.{first_beside, page_peer, prefix_of}
+use Rattle.warg_pages.specs.PagePeers.{first_beside, page_peer}
 use Rattle.warg_pages.proofs.ByteNumbers.{number, number-byte_bits, number-beside}
 use Rattle.warg_pages.proofs.PageRoots.{root_over-below, page_slot, root-same}
-use Rattle.warg_pages.proofs.KeyPrefixes.{length-bits_from, key_split}
+use Rattle.warg_pages.proofs.KeyPrefixes.{length-bits_from}
 
 -- bits around one of them
 split : (q : List Bool) (k : ℕ) → k < length q → (a : List Bool) × (b : Bool) × (c : List Bool) × (q ≡ a ++ b ∷ c)
@@ -57,12 +53,12 @@ around : (H : List ℕ → List ℕ) (es : List (List ℕ × List ℕ)) (p rest 
 around H es p rest a c b depth s k peers lt n m byte e len h =
     let all : length (a ++ b ∷ c) ≡ 8 = ap length (sym e) ∙ length-bits_from _ 0 8 in
     let is : number (a ++ b ∷ c) ≡ s = ap number (sym e) ∙ number-byte_bits s byte in
-    let path : p ++ (byte_bits s ++ rest) ≡ (p ++ a) ++ b ∷ (c ++ rest) = ap (λ t. p ++ (t ++ rest)) e
-    ∙ ap (λ t. p ++ t) (append_assoc a _ rest) ∙ sym (append_assoc p a _) in
+    let path : p ++ (byte_bits s ++ rest) ≡ (p ++ a) ++ b ∷ (c ++ rest) =
+    rw (e, append_assoc a (b ∷ c) rest, append_assoc p a (b ∷ (c ++ rest))) refl in
     let height : length (c ++ rest) ≡ slot_height depth + k = rw (length-append c rest, len, m) (omega arith) in
     let swap : k + slot_height depth ≡ slot_height depth + k = omega arith in
     let far = rw height at (beside_at H peers _ _ _ b (rw path at h)) in
-    let near = rw (is, len) at (beside_tree H (slot_height depth) (digest_at H (slot_height depth) (page_of H es p))
+    let near = rw (is, len) at (beside_tree H _ (digest_at H (slot_height depth) (page_of H es p))
     (below _ p) a c b (λ q eight. page_slot H es p q depth lt n eight) all) in
     near ∙ ap (λ j. root_of_levels H j (λ q. get (map_of H es) (p ++ (a ++ not b ∷ q)))) swap
     ∙ root-same H _ _ _ (λ q. ap (get (map_of H es)) (sym (append_assoc p a _))) ∙ sym far
@@ -76,12 +72,3 @@ pub page_peers : (H : List ℕ → List ℕ) (es : List (List ℕ × List ℕ)) 
 page_peers H es p rest depth s k peers lt n m byte low h =
     let r = split _ k (rw (length-bits_from _ 0 8) low) in
     around H es p rest r.0 r.2 r.1 depth s k peers lt n m byte r.3 r.4 h
-
--- and those of the proof of a key, held or not
-pub key_peers : (H : List ℕ → List ℕ) (es : List (List ℕ × List ℕ)) (key : List ℕ) (peers : List (Option (List ℕ)))
-    (depth k : ℕ) → IsDigest (H key) → ProvesEmpty H (map_of H es) (key_bits H key) peers → depth < 32 → k < 8
-    → page_peer H depth (page_of H es (prefix_of H key depth)) (slice_index (H key) depth) k
-    ≡ peer_of H peers (slot_height depth + k)
-key_peers H es key peers depth k is proves lt low =
-    page_peers H es _ _ depth _ k peers lt (length-bits_from _ 0 _) (length-last_bits _ _)
-    (is.are_bytes depth 0 (omega arith)) low (rw (key_split H key depth lt) at (key_beside H _ key peers proves))

@@ -1,5 +1,5 @@
 -- The bits of digests, in parts.
-use Rattle.std.proofs.Common.{◌≡◌, ℕ, suc, ◌+◌, ◌-◌, ◌*◌, ◌<◌, ◌≤◌, Bool, true, false, not, List, [], ◌∷◌, ◌++◌, length, get_or, drop, Option, refl, sym, ap, ◌∙◌, arith, unwrap_or}
+use Rattle.std.proofs.Common.{◌≡◌, ℕ, suc, ◌+◌, ◌-◌, ◌*◌, ◌<◌, ◌≤◌, Bool, not, List, [], ◌∷◌, ◌++◌, length, get_or, drop, Option, refl, sym, ap, ◌∙◌, arith, unwrap_or}
 use Rattle.std.proofs.Math.Seq.{drop-cons}
 use Rattle.warg_crypto.specs.EmptyTrees.{empty_root}
 use Rattle.warg_crypto.specs.Tree.{input_beside}
@@ -14,23 +14,21 @@ unfolding bits_from
 bits_from-one k i = refl
 
 pub bits_from-cons : (k : List ℕ) (i n : ℕ) → bits_from k i (n + 1) ≡ bit_at k i ∷ bits_from k (i + 1) n
-bits_from-cons k i n = let all : n + 1 ≡ 1 + n = omega arith in rw all (bits_from-append k i 1 n
-    ∙ ap (λ t. t ++ bits_from k (i + 1) n) (bits_from-one k i))
+bits_from-cons k i n = let all : n + 1 ≡ 1 + n = omega arith in
+    rw (all, bits_from-append k i 1 n, bits_from-one k i) refl
 
 pub one_bit_more : (a b : List ℕ) (n : ℕ) → bits_from a 0 n ≡ bits_from b 0 n → bit_at a n ≡ bit_at b n
     → bits_from a 0 (n + 1) ≡ bits_from b 0 (n + 1)
 one_bit_more a b n e same =
     let at : 0 + n ≡ n = omega arith in
-    bits_from-append a 0 n 1 ∙ ap (λ i. bits_from a 0 n ++ bits_from a i 1) at
-    ∙ (λ i. e i ++ (bits_from-one a n ∙ ap (λ t. t ∷ []) same ∙ sym (bits_from-one b n)) i)
-    ∙ sym (bits_from-append b 0 n 1 ∙ ap (λ i. bits_from b 0 n ++ bits_from b i 1) at)
+    rw (bits_from-append a 0 n 1, bits_from-append b 0 n 1, at, bits_from-one a n, bits_from-one b n, e, same) refl
 
 -- the first bits of a digest, and the others
 pub key_at : (k : List ℕ) (n : ℕ) → n ≤ 256 → last_bits k 256 ≡ bits_from k 0 n ++ last_bits k (256 - n)
 key_at k n le =
     let all : 256 ≡ n + (256 - n) = omega arith in
     let at : 0 + n ≡ 256 - (256 - n) = omega arith in
-    ap (bits_from k 0) all ∙ bits_from-append k 0 n _ ∙ ap (λ i. bits_from k 0 n ++ bits_from k i (256 - n)) at
+    ap (bits_from k 0) all ∙ rw (bits_from-append k 0 n (256 - n), at) refl
 
 -- the bits from one on, around another
 pub last_at : (k : List ℕ) (i s : ℕ) → i ≤ s → s < 256 → last_bits k (256 - i) ≡ bits_from k i (s - i) ++ bit_at k s
@@ -40,9 +38,7 @@ last_at k i s le lt =
     let all : 256 - i ≡ s - i + (255 - s + 1) = omega arith in
     let at : i + (s - i) ≡ s = omega arith in
     let next : s + 1 ≡ 256 - (255 - s) = omega arith in
-    rw from (ap (bits_from k i) all ∙ bits_from-append k i _ _
-    ∙ ap (λ j. bits_from k i (s - i) ++ bits_from k j (255 - s + 1)) at ∙ ap (λ t. bits_from k i (s - i) ++ t)
-    (bits_from-cons k s _ ∙ ap (λ j. bit_at k s ∷ bits_from k j (255 - s)) next))
+    rw (from, all, bits_from-append k i (s - i) (255 - s + 1), at, bits_from-cons k s (255 - s), next) refl
 
 -- bits that are shared
 pub shared_from : (a b : List ℕ) (i n : ℕ) → i ≤ n → bits_from a 0 n ≡ bits_from b 0 n
@@ -50,24 +46,19 @@ pub shared_from : (a b : List ℕ) (i n : ℕ) → i ≤ n → bits_from a 0 n �
 shared_from a b i n le e =
     let all : n ≡ i + (n - i) = omega arith in
     let at : 0 + i ≡ i = omega arith in
-    let split : (k : List ℕ) → bits_from k 0 n ≡ bits_from k 0 i ++ bits_from k i (n - i) = λ k. ap (bits_from k 0) all
-    ∙ bits_from-append k 0 i _ ∙ ap (λ j. bits_from k 0 i ++ bits_from k j (n - i)) at in
+    let split : (k : List ℕ) → bits_from k 0 n ≡ bits_from k 0 i ++ bits_from k i (n - i) =
+    λ k. ap (bits_from k 0) all ∙ rw (bits_from-append k 0 i (n - i), at) refl in
     same_parts _ _ _ _ (length-bits_from a 0 i ∙ sym (length-bits_from b 0 i)) (sym (split a) ∙ e ∙ split b)
 
 pub shared_bit : (a b : List ℕ) (n s : ℕ) → s < n → bits_from a 0 n ≡ bits_from b 0 n → bit_at a s ≡ bit_at b s
 shared_bit a b n s lt e =
-    let up = shared_from a b s n (omega arith) e in
     let all : n - s ≡ n - s - 1 + 1 = omega arith in
-    let cons : bit_at a s ∷ bits_from a (s + 1) (n - s - 1) ≡ bit_at b s ∷ bits_from b (s + 1) (n - s - 1) =
-    sym (ap (bits_from a s) all ∙ bits_from-cons a s (n - s - 1)) ∙ up.1 ∙ ap (bits_from b s) all
-    ∙ bits_from-cons b s (n - s - 1) in
+    let up = (shared_from a b s n (omega arith) e).1 in
+    let cons = rw (all, bits_from-cons a s (n - s - 1), bits_from-cons b s (n - s - 1)) at up in
     cc
 
 pub other_bit_is : (b c : Bool) → ¬ (b ≡ c) → c ≡ not b
-other_bit_is true true n = absurd (n refl)
-other_bit_is true false n = refl
-other_bit_is false true n = refl
-other_bit_is false false n = absurd (n refl)
+other_bit_is b c n = grind arith
 
 -- one level more
 pub lone_root-none : (H : List ℕ → List ℕ) (k leaf : List ℕ) → leaf ≡ lone_root H k leaf 0

@@ -1,11 +1,12 @@
 -- The pages that change, by the kinds of their prefixes.
-use Rattle.std.proofs.Common.{◌≡◌, ◌≢◌, ℕ, suc, ◌+◌, ◌-◌, ◌<◌, List, [], ◌∷◌, ◌++◌, length, get_or, refl, sym, ap, ◌∙◌, arith, inl, inr, append_assoc, length-append}
+use Rattle.std.proofs.Common.{◌≡◌, ◌≢◌, ℕ, ◌+◌, ◌-◌, ◌<◌, List, [], ◌∷◌, ◌++◌, length, get_or, refl, sym, ap, ◌∙◌, arith, inl, inr, append_assoc, length-append}
 use Rattle.std.proofs.lemmas.Bool.{cases_lt}
 use Rattle.std.proofs.lemmas.List.{get_or_append_left, get_or-append_right, append_cancel_left, append-nil}
 use Rattle.std.proofs.lemmas.List.Elements.{All-append, All-cons, Contains-append_left, Contains-append_right}
 use Rattle.std.specs.List.{All, AllPairs, Contains}
 use Rattle.warg_pages.specs.ChangedPages.{ChangedPageAt, page_at, ChangesAt}
 use Rattle.warg_pages.specs.Private.Updates.{GoesOn, GoesBelow, AreChangedAmong}
+use Rattle.std.proofs.Math.Seq.{get_or-append_seam}
 
 -- pairs of two lists
 AllPairs-append : {X : Type 0} (R : X → X → Type 0) (xs ys : List X) → AllPairs R xs → AllPairs R ys
@@ -29,6 +30,11 @@ AllPairs-append {X = X} R xs ys one two cross = λ i j d lt within.
       ]
     ]
 
+-- a page that changes, at a prefix of a kind
+abbrev IsAmong : (List ℕ → List ℕ) → List (List ℕ × List ℕ) → List (List ℕ × List ℕ) → (List ℕ → Type 0)
+    → ChangedPageAt → Type 0
+IsAmong H old more Kind c = Kind c.prefix × ChangesAt H old more c.prefix × (c ≡ page_at H (old ++ more) c.prefix)
+
 -- no page
 pub none_among : (H : List ℕ → List ℕ) (old more : List (List ℕ × List ℕ)) (Kind : List ℕ → Type 0)
     → ((prefix : List ℕ) → Kind prefix → ChangesAt H old more prefix → ⊥) → AreChangedAmong H old more Kind []
@@ -41,10 +47,8 @@ none_among H old more Kind none = record {
 -- where a prefix goes on with bytes
 byte_behind : (front : List ℕ) (x y : ℕ) (rest other : List ℕ) → front ++ x ∷ rest ≡ (front ++ y ∷ []) ++ other → x ≡ y
 byte_behind front x y rest other e =
-    first (append_cancel_left front _ _ (e ∙ append_assoc front _ other))
-  where
-    first : x ∷ rest ≡ y ∷ other → x ≡ y
-    first e = cc
+    let same = append_cancel_left front _ _ (e ∙ append_assoc front _ other) in
+    cc
 
 -- those of the next byte
 pub next_among : (H : List ℕ → List ℕ) (old more : List (List ℕ × List ℕ)) (front : List ℕ) (byte : ℕ)
@@ -52,11 +56,10 @@ pub next_among : (H : List ℕ → List ℕ) (old more : List (List ℕ × List 
     → AreChangedAmong H old more (GoesOn (front ++ byte ∷ [])) ys
     → AreChangedAmong H old more (GoesBelow front (byte + 1)) (xs ++ ys)
 next_among H old more front byte xs ys one two = record {
-  each = All-append (λ c. GoesBelow front (byte + 1) c.prefix × ChangesAt H old more c.prefix
-      × (c ≡ page_at H (old ++ more) c.prefix)) xs ys
+  each = All-append (IsAmong H old more (GoesBelow front (byte + 1))) xs ys
       (λ i d lt. let h = one.each i d lt in ((h.0.0, h.0.1, below h.0.2, h.0.3), h.1, h.2))
       (λ i d lt. let h = two.each i d lt in (
-        (byte, h.0.0, omega arith, h.0.1 ∙ append_assoc front (byte ∷ []) h.0.0),
+        (byte, h.0.0, omega arith, h.0.1 ∙ append_assoc front _ h.0.0),
         h.1,
         h.2,
       ));
@@ -90,10 +93,9 @@ pub whole_among : (H : List ℕ → List ℕ) (old more : List (List ℕ × List
     → AreChangedAmong H old more (GoesBelow front 256) xs → ChangesAt H old more front
     → AreChangedAmong H old more (GoesOn front) (xs ++ page_at H (old ++ more) front ∷ [])
 whole_among H old more front xs below here = record {
-  each = All-append (λ c. GoesOn front c.prefix × ChangesAt H old more c.prefix
-      × (c ≡ page_at H (old ++ more) c.prefix)) xs (page_at H (old ++ more) front ∷ [])
+  each = All-append (IsAmong H old more (GoesOn front)) xs _
       (λ i d lt. let h = below.each i d lt in ((h.0.0 ∷ h.0.1, h.0.3), h.1, h.2))
-      (All-cons (λ c. GoesOn front c.prefix × ChangesAt H old more c.prefix × (c ≡ page_at H (old ++ more) c.prefix))
+      (All-cons (IsAmong H old more (GoesOn front))
       (page_at H (old ++ more) front) [] (([], sym (append-nil front)), here, refl)
       (λ i d lt. absurd (omega arith)));
   all = λ prefix kind changes. all prefix kind.0 kind.1 changes;
@@ -114,13 +116,7 @@ whole_among H old more front xs below here = record {
         rw same (Contains-append_right xs (page_at H (old ++ more) front ∷ []) (page_at H (old ++ more) front)
         (0, omega arith, refl))
     all prefix (b ∷ rest) e changes =
-        let byte : b < 256 = byte_at prefix b rest e changes.are_bytes in
+        let bytes : All (λ n. n < 256) (front ++ b ∷ rest) = rw e at changes.are_bytes in
+        let byte : b < 256 = rw (get_or-append_seam front b rest 0) at
+        (bytes (length front) 0 (let n = length-append front (b ∷ rest) in omega arith)) in
         Contains-append_left xs _ _ (below.all prefix (b, rest, byte, e) changes)
-      where
-        byte_at : (prefix : List ℕ) (b : ℕ) (rest : List ℕ) → prefix ≡ front ++ b ∷ rest → All (λ n. n < 256) prefix
-            → b < 256
-        byte_at prefix b rest e bytes =
-            let at : get_or prefix (length front) 0 ≡ b = rw e (get_or-append_right front _ _ _ 0 refl (omega arith)
-            ∙ ap (λ n. get_or (b ∷ rest) n 0) (let z : length front - length front ≡ 0 = omega arith in z)) in
-            let size : length prefix ≡ length front + suc (length rest) = rw e (length-append front _) in
-            omega arith

@@ -1,5 +1,5 @@
 -- What insertions below a prefix put under key digests.
-use Rattle.std.proofs.Common.{◌≡◌, ℕ, suc, ◌+◌, ◌-◌, Bool, true, false, cond, not, ◌||◌, ◌&&◌, eqb, List, [], ◌∷◌, length, Option, Some, None, refl, sym, ap, ◌∙◌, arith}
+use Rattle.std.proofs.Common.{◌≡◌, ℕ, suc, ◌+◌, ◌-◌, Bool, true, false, cond, not, ◌||◌, ◌&&◌, eqb, List, [], ◌∷◌, length, Option, Some, None, refl, sym, ◌∙◌, arith}
 use Rattle.std.proofs.lemmas.Bool.{and_parts, false_from_ne_true, eqb-true}
 use Rattle.std.proofs.lemmas.List.Elements.{All-cons, All-nil}
 use Rattle.std.specs.Option.{option_or, option_map}
@@ -11,8 +11,7 @@ use Rattle.warg_map.specs.Last.{last_with, same_bits}
 use Rattle.warg_map.proofs.ForCallers.{same_bits-true, same_bits-itself, same_digest}
 use Rattle.warg_pages.specs.Prefixes.{is_below, last_place}
 use Rattle.warg_pages.specs.Private.Updates.{ChangeAt, changes_below}
-use Rattle.warg_pages.proofs.OwnWays.{some_version}
-use Rattle.warg_pages.proofs.MoreInsertions.{last_place-none}
+use Rattle.warg_pages.proofs.LastPassing.{place_some, place_none}
 
 -- the last element of a list
 abbrev pub last_of : {X : Type 0} → List X → Option X
@@ -24,19 +23,11 @@ last_of-get [] = refl
 last_of-get (x ∷ []) = refl
 last_of-get (x ∷ y ∷ xs) =
     let at : length (x ∷ y ∷ xs) - 1 ≡ suc (length (y ∷ xs) - 1) = omega arith in
-    rw at (last_of-get (y ∷ xs) ∙ over (last_of xs) x y)
-  where
-    over : {X : Type 0} (o : Option X) (x y : X) → option_or o (Some y) ≡ option_or (option_or o (Some y)) (Some x)
-    over None x y = refl
-    over (Some z) x y = refl
+    rw at (last_of-get (y ∷ xs) ∙ grind arith)
 
 pub last_of-none : {X : Type 0} (xs : List X) → last_of xs ≡ None → xs ≡ []
 last_of-none [] e = refl
-last_of-none (x ∷ xs) e = absurd (some (last_of xs) x e)
-  where
-    some : {X : Type 0} (o : Option X) (x : X) → option_or o (Some x) ≡ None → ⊥
-    some None x e = cc
-    some (Some y) x e = cc
+last_of-none (x ∷ xs) e = absurd (grind arith)
 
 -- what the last insertion below a prefix puts there
 abbrev pub put_by : (List ℕ → List ℕ) → ℕ → List ℕ × List ℕ → ChangeAt
@@ -49,30 +40,23 @@ pub last_change : (H : List ℕ → List ℕ) (p : List Bool) (n : ℕ) (es : Li
     → last_of (changes_below H n es p) ≡ later_change H p n es
 unfolding last_with last_place
 last_change H p n [] = refl
-last_change H p n (x ∷ es) = step (is_below H p x) (last_change H p (n + 1) es) ∙ both _ _ refl
+last_change H p n (x ∷ es) = either (is_below H p x) _ refl (last_change H p (n + 1) es)
   where
-    step : (b : Bool) → last_of (changes_below H (n + 1) es p) ≡ later_change H p (n + 1) es
+    either : (b : Bool) (o : Option (List ℕ × List ℕ)) → last_with (is_below H p) es ≡ o
+        → last_of (changes_below H (n + 1) es p) ≡ later_change H p (n + 1) es
         → last_of (cond b (put_by H (n + 1) x ∷ changes_below H (n + 1) es p) (changes_below H (n + 1) es p))
-        ≡ option_or (later_change H p (n + 1) es) (cond b (Some (put_by H (n + 1) x)) None)
-    step true h = ap (λ o. option_or o (Some (put_by H (n + 1) x))) h
-    step false h = h ∙ nothing _
-      where
-        nothing : (o : Option ChangeAt) → o ≡ option_or o None
-        nothing None = refl
-        nothing (Some c) = refl
-
-    both : (b : Bool) (o : Option (List ℕ × List ℕ)) → last_with (is_below H p) es ≡ o
-        → option_or (later_change H p (n + 1) es) (cond b (Some (put_by H (n + 1) x)) None)
         ≡ option_map (put_by H (n + cond (eqb (last_place (is_below H p) es) 0) (cond b 1 0)
         (suc (last_place (is_below H p) es)))) (option_or (last_with (is_below H p) es) (cond b (Some x) None))
-    both true None e = let z = last_place-none _ es e in rw (e, z) refl
-    both false None e = rw (e) refl
-    both b (Some y) e =
-        let some = some_version _ es y e in
+    either true None e rest = let z = place_none _ es e in rw (rest, e, z) refl
+    either false None e rest = rw (rest, e) refl
+    either b (Some y) e rest =
+        let some = place_some _ es y e in
         let no : eqb (last_place (is_below H p) es) 0 ≡ false = false_from_ne_true _
         (λ t. let z = eqb-true _ 0 t in omega arith) in
         let number : n + 1 + last_place (is_below H p) es ≡ n + suc (last_place (is_below H p) es) = omega arith in
-        rw (e, no, number) refl
+        let same : last_of (changes_below H (n + 1) es p)
+        ≡ Some (put_by H (n + suc (last_place (is_below H p) es)) y) = rw (rest, e, number) refl in
+        rw (e, no) (grind (arith, same))
 
 -- where they are of one key, all insertions below the prefix are
 pub all_of_key : (H : List ℕ → List ℕ) (p : List Bool) (n : ℕ) (key : List ℕ) (es : List (List ℕ × List ℕ))
@@ -119,6 +103,4 @@ filtered_again {X = X} p q r (x ∷ xs) h = either (r x) (p x) (q x)
   where
     either : (c a b : Bool) → filter r xs ≡ filter q (filter p xs) → c ≡ (a && b) → q x ≡ b
         → cond c (x ∷ filter r xs) (filter r xs) ≡ filter q (cond a (x ∷ filter p xs) (filter p xs))
-    either c true true rest e is = rw (e, is) (ap (λ t. x ∷ t) rest)
-    either c true false rest e is = rw (e, is) rest
-    either c false b rest e is = rw e rest
+    either c a b rest e is = grind arith

@@ -1,30 +1,30 @@
 -- The peers of a proof, from those of a way down.
-use Rattle.std.proofs.Common.{◌≡◌, ℕ, zero, suc, ◌+◌, ◌-◌, ◌<◌, ◌≤◌, Bool, true, false, not, cond, eqb, List, [], ◌∷◌, ◌++◌, length, take, get_or, Option, Some, None, is_some, refl, sym, ap, ◌∙◌, ◌^◌, arith, inl, inr, ◌⊎◌, unwrap_or}
-use Rattle.std.proofs.lemmas.Bool.{cond-false, eqb-true, false_from_ne_true}
+use Rattle.std.proofs.Common.{◌≡◌, ℕ, suc, ◌+◌, ◌-◌, ◌<◌, ◌≤◌, Bool, true, not, List, [], ◌∷◌, ◌++◌, length, take, get_or, Option, Some, None, is_some, refl, sym, ap, ◌∙◌, ◌^◌, arith, inl, inr, ◌⊎◌, unwrap_or}
 use Rattle.std.proofs.lemmas.List.{take_more, take-append-drop, length-take, append_assoc}
 use Rattle.std.specs.Prelude.{reverse, replicate}
 use Rattle.std.proofs.lemmas.List.{reverse-reverse, length-reverse}
-use Rattle.std.specs.Option.{option_map, option_or}
+use Rattle.std.specs.Option.{option_map}
 use Rattle.std.specs.FinMap.{get}
 use Rattle.warg_crypto.specs.EmptyTrees.{empty_root}
 use Rattle.warg_crypto.specs.Tree.{leaf_digest}
 use Rattle.warg_map.specs.Bits.{bits_from, last_bits}
 use Rattle.warg_map.specs.Last.{last_with}
-use Rattle.warg_map.specs.Sparse.{SparseMap, root_of_levels, map_of}
+use Rattle.warg_map.specs.Sparse.{SparseMap, map_of}
 use Rattle.warg_map.specs.ProofValue.{proof_value}
 use Rattle.warg_map.specs.Peers.{IsPeer, IsPeers, IsPeerCount, Proves, ProvesAbsent}
 use Rattle.warg_map.proofs.ForCallers.{last_held, length-last_bits}
-use Rattle.warg_pages.specs.Prefixes.{is_below, below, version, last_place}
+use Rattle.warg_pages.specs.Prefixes.{is_below, version, last_place}
 use Rattle.warg_pages.specs.OwnPages.{stands, stands_over}
 use Rattle.warg_pages.specs.ProvedKeys.{IsOwnSource}
 use Rattle.warg_pages.specs.Private.Descents.{value_above, IsOwnAt, IsOwnWay, IsWayDown}
 use Rattle.warg_pages.specs.Private.Finals.{IsWholeWay, IsWholeWayOf, EndsInSome, AreLeft, filled_from, presence_peers}
 use Rattle.warg_pages.proofs.PageRoots.{root-same, root-nothing}
 use Rattle.warg_pages.proofs.HeldHalves.{short_bits}
-use Rattle.warg_pages.proofs.LoneEnds.{heads, tails, nothing_end}
+use Rattle.warg_pages.proofs.LoneEnds.{nothing_end}
 use Rattle.warg_pages.proofs.OwnWays.{nothing_value}
 use Rattle.warg_pages.proofs.PeerCounts.{trimmed_peers, trimmed_value, some_count, no_count}
 use Rattle.warg_pages.proofs.ProofValues.{reversed_value}
+use Rattle.warg_pages.proofs.ValuesAbove.{heads, tails}
 
 -- peers that are filled
 abbrev pub lone_peer : (List ℕ → List ℕ) → List (Option (List ℕ)) → List (Option (List ℕ))
@@ -34,12 +34,10 @@ lone_peer H (o ∷ os) = []
 pub filled_from-push : (H : List ℕ → List ℕ) (at : ℕ) (os : List (Option (List ℕ))) (o : Option (List ℕ))
     → filled_from H at (os ++ o ∷ []) ≡ filled_from H at os ++ Some
     (unwrap_or o (empty_root H (255 - (at + length os)))) ∷ []
-filled_from-push H at [] o = let none : at + 0 ≡ at = omega arith in
-    ap (λ n. Some (unwrap_or o (empty_root H (255 - n))) ∷ []) (sym none)
+filled_from-push H at [] o = let none : at + 0 ≡ at = omega arith in rw none refl
 filled_from-push H at (p ∷ os) o =
     let more : at + 1 + length os ≡ at + suc (length os) = omega arith in
-    ap (λ t. Some (unwrap_or p (empty_root H (255 - at))) ∷ t) (filled_from-push H (at + 1) os o
-    ∙ ap (λ n. filled_from H (at + 1) os ++ Some (unwrap_or o (empty_root H (255 - n))) ∷ []) more)
+    rw (filled_from-push H (at + 1) os o, more) refl
 
 length-filled_from : (H : List ℕ → List ℕ) (at : ℕ) (os : List (Option (List ℕ))) → length (filled_from H at os)
     ≡ length os
@@ -67,7 +65,7 @@ filled_value : (H : List ℕ → List ℕ) (x : List ℕ) (bits : List Bool) (at
     → at + length bits ≡ 256 → value_above H 0 (filled_from H at os) x bits ≡ value_above H 0 os x bits
 unfolding value_above
 filled_value H x [] at os n = refl
-filled_value H x (b ∷ bits) at [] n = refl
+filled_value H x _ at [] n = refl
 filled_value H x (b ∷ bits) at (o ∷ os) n =
     let height : 255 - at ≡ length bits + 0 = omega arith in
     rw (filled_value H x bits (at + 1) os (omega arith), height) refl
@@ -94,109 +92,97 @@ lone_value H x (b ∷ bits) n = let height : 255 ≡ length bits + 0 = omega ari
 left_is : (os : List (Option (List ℕ))) (n : ℕ) → AreLeft os n → os ≡ take n os ++ replicate (length os - n) None
 left_is os n h = sym (take-append-drop n os) ∙ ap (λ t. take n os ++ t) h.dropped
 
-short_held : (H : List ℕ → List ℕ) (es : List (List ℕ × List ℕ)) (q : List Bool) → ¬ (length q ≡ 256)
-    → get (map_of H es) q ≡ None
-short_held H es q n = last_held H q es ∙ ap (option_map (λ (x : List ℕ × List ℕ). leaf_digest H x.1))
-    (short_bits H q es n)
+module _ (H : List ℕ → List ℕ) where
+  short_held : (es : List (List ℕ × List ℕ)) (q : List Bool) → ¬ (length q ≡ 256) → get (map_of H es) q ≡ None
+  short_held es q n = last_held H q es ∙ ap (option_map (λ (x : List ℕ × List ℕ). leaf_digest H x.1))
+      (short_bits H q es n)
 
-left_peers : (H : List ℕ → List ℕ) (es : List (List ℕ × List ℕ)) (key : List ℕ) (os : List (Option (List ℕ))) (n : ℕ)
-    → AreLeft os n → IsPeers H (λ k. None) (get (map_of H es)) (last_bits key 256) os
-    → IsPeers H (λ k. None) (get (map_of H es)) (last_bits key 256) (take n os)
-left_peers H es key os n h p =
-    trimmed_peers H _ _ _ _ (λ q m. short_held H es q (λ e. m (e ∙ sym (length-last_bits key 256))))
-    (rw (left_is os n h) at p)
+  left_peers : (es : List (List ℕ × List ℕ)) (key : List ℕ) (os : List (Option (List ℕ))) (n : ℕ) → AreLeft os n
+      → IsPeers H (λ k. None) (get (map_of H es)) (last_bits key 256) os
+      → IsPeers H (λ k. None) (get (map_of H es)) (last_bits key 256) (take n os)
+  left_peers es key os n h p =
+      trimmed_peers H _ _ _ _ (λ q m. short_held es q (λ e. m (e ∙ sym (length-last_bits key 256))))
+      (rw (left_is os n h) at p)
 
-left_value : (H : List ℕ → List ℕ) (x : List ℕ) (bits : List Bool) (os : List (Option (List ℕ))) (n : ℕ) → AreLeft os n
-    → value_above H 0 (take n os) x bits ≡ value_above H 0 os x bits
-left_value H x bits os n h = sym (trimmed_value H x bits _ _)
-    ∙ ap (λ t. value_above H 0 t x bits) (sym (left_is os n h))
+  left_value : (x : List ℕ) (bits : List Bool) (os : List (Option (List ℕ))) (n : ℕ) → AreLeft os n
+      → value_above H 0 (take n os) x bits ≡ value_above H 0 os x bits
+  left_value x bits os n h = sym (trimmed_value H x bits _ _)
+      ∙ ap (λ t. value_above H 0 t x bits) (sym (left_is os n h))
 
-left_count : (H : List ℕ → List ℕ) (m : SparseMap) (bits : List Bool) (os : List (Option (List ℕ)))
-    → IsPeers H (λ k. None) (get m) bits os → (os ≡ []) ⊎ EndsInSome os → IsPeerCount 0 m bits (length os)
-left_count H m bits os p (inl none) = rw none (no_count H m bits 0 (rw none at p))
-left_count H m bits os p (inr some) = some_count H m bits os 0 p some
+  left_count : (m : SparseMap) (bits : List Bool) (os : List (Option (List ℕ))) → IsPeers H (λ k. None) (get m) bits os
+      → (os ≡ []) ⊎ EndsInSome os → IsPeerCount 0 m bits (length os)
+  left_count m bits os p (inl none) = rw none (no_count H m bits 0 (rw none at p))
+  left_count m bits os p (inr some) = some_count H m bits os 0 p some
 
-presence_count : (H : List ℕ → List ℕ) (m : SparseMap) (bits : List Bool) (os : List (Option (List ℕ)))
-    → IsPeers H (λ k. None) (get m) bits os → (os ≡ []) ⊎ EndsInSome os
-    → IsPeerCount 1 m bits (length (presence_peers H os))
-presence_count H m bits [] p ends = no_count H m bits 1 p
-presence_count H m bits _ p (inl none) = absurd (cc none)
-presence_count H m bits (o ∷ os) p (inr some) = rw (length-filled_from H 1 os) (some_count H m bits _ 1 p some)
+  presence_count : (m : SparseMap) (bits : List Bool) (os : List (Option (List ℕ)))
+      → IsPeers H (λ k. None) (get m) bits os → (os ≡ []) ⊎ EndsInSome os
+      → IsPeerCount 1 m bits (length (presence_peers H os))
+  presence_count m bits [] p ends = no_count H m bits 1 p
+  presence_count m bits _ p (inl none) = absurd (cc none)
+  presence_count m bits (o ∷ os) p (inr some) = rw (length-filled_from H 1 os) (some_count H m bits _ 1 p some)
 
-presence_are : (H : List ℕ → List ℕ) (held : List Bool → Option (List ℕ)) (bits : List Bool)
-    (os : List (Option (List ℕ))) → length bits ≡ 256 → IsPeers H (λ k. None) held bits os
-    → IsPeers H (λ k. Some (empty_root H k)) held bits (presence_peers H os)
-presence_are H held bits [] n p = lone_ends H held bits n p
-presence_are H held bits _ n p = filled_peers H held bits 0 _ (omega arith) p
+  presence_are : (held : List Bool → Option (List ℕ)) (bits : List Bool) (os : List (Option (List ℕ)))
+      → length bits ≡ 256 → IsPeers H (λ k. None) held bits os
+      → IsPeers H (λ k. Some (empty_root H k)) held bits (presence_peers H os)
+  presence_are held bits [] n p = lone_ends H held bits n p
+  presence_are held bits _ n p = filled_peers H held bits 0 _ (omega arith) p
 
-presence_value : (H : List ℕ → List ℕ) (x : List ℕ) (bits : List Bool) (os : List (Option (List ℕ))) → length bits ≡ 256
-    → value_above H 0 (presence_peers H os) x bits ≡ value_above H 0 os x bits
-presence_value H x bits [] n = lone_value H x bits n
-presence_value H x bits _ n = filled_value H x bits 0 _ (omega arith)
+  presence_value : (x : List ℕ) (bits : List Bool) (os : List (Option (List ℕ))) → length bits ≡ 256
+      → value_above H 0 (presence_peers H os) x bits ≡ value_above H 0 os x bits
+  presence_value x bits [] n = lone_value H x bits n
+  presence_value x bits _ n = filled_value H x bits 0 _ (omega arith)
 
-presence_few : (H : List ℕ → List ℕ) (os : List (Option (List ℕ))) → length os ≤ 256
-    → length (presence_peers H os) ≤ 256
-presence_few H [] le = omega arith
-presence_few H (o ∷ os) le = let n = length-filled_from H 0 (o ∷ os) in omega arith
+  presence_few : (os : List (Option (List ℕ))) → length os ≤ 256 → length (presence_peers H os) ≤ 256
+  presence_few os le = let n = length-filled_from H 0 os in grind arith
 
--- the proof of presence
-pub held_proof : (H : List ℕ → List ℕ) (es : List (List ℕ × List ℕ)) (key leaf : List ℕ) (os : List (Option (List ℕ)))
-    (n : ℕ) → AreLeft os n → IsPeers H (λ k. None) (get (map_of H es)) (last_bits key 256) os
-    → get (map_of H es) (last_bits key 256) ≡ Some leaf
-    → Proves H 256 (map_of H es) (last_bits key 256) (reverse (presence_peers H (take n os)))
-held_proof H es key leaf os n h p held =
-    let left = left_peers H es key os n h p in record {
-      held = ap is_some held;
-      peers_from_top = rw (reverse-reverse _) (presence_are H _ _ _ (length-last_bits key 256) left);
-      count = rw (length-reverse _) (presence_count H _ _ _ left h.ends);
-    }
+  -- the proof of presence
+  pub held_proof : (es : List (List ℕ × List ℕ)) (key leaf : List ℕ) (os : List (Option (List ℕ))) (n : ℕ)
+      → AreLeft os n → IsPeers H (λ k. None) (get (map_of H es)) (last_bits key 256) os
+      → get (map_of H es) (last_bits key 256) ≡ Some leaf
+      → Proves H 256 (map_of H es) (last_bits key 256) (reverse (presence_peers H (take n os)))
+  held_proof es key leaf os n h p held =
+      let left = left_peers es key os n h p in record {
+        held = ap is_some held;
+        peers_from_top = rw (reverse-reverse _) (presence_are _ _ _ (length-last_bits key 256) left);
+        count = rw (length-reverse _) (presence_count _ _ _ left h.ends);
+      }
 
-pub held_leads : (H : List ℕ → List ℕ) (key leaf root : List ℕ) (os : List (Option (List ℕ))) (n : ℕ) → AreLeft os n
-    → length os ≤ 256 → value_above H 0 os leaf (last_bits key 256) ≡ root
-    → proof_value H (reverse (presence_peers H (take n os))) leaf (last_bits key 256) ≡ root
-held_leads H key leaf root os n h few leads =
-    let size : length (take n os) ≤ 256 = let all = length-take n os in omega arith in
-    reversed_value H _ leaf _ (length-last_bits key 256) (presence_few H _ size)
-    ∙ presence_value H leaf _ _ (length-last_bits key 256) ∙ left_value H leaf _ os n h ∙ leads
+  pub held_leads : (key leaf root : List ℕ) (os : List (Option (List ℕ))) (n : ℕ) → AreLeft os n → length os ≤ 256
+      → value_above H 0 os leaf (last_bits key 256) ≡ root
+      → proof_value H (reverse (presence_peers H (take n os))) leaf (last_bits key 256) ≡ root
+  held_leads key leaf root os n h few leads =
+      let size : length (take n os) ≤ 256 = let all = length-take n os in omega arith in
+      reversed_value H _ leaf _ (length-last_bits key 256) (presence_few _ size)
+      ∙ presence_value leaf _ _ (length-last_bits key 256) ∙ left_value leaf _ os n h ∙ leads
 
--- and of absence
-pub absent_proof : (H : List ℕ → List ℕ) (es : List (List ℕ × List ℕ)) (key : List ℕ) (os : List (Option (List ℕ)))
-    (n : ℕ) → AreLeft os n → IsPeers H (λ k. None) (get (map_of H es)) (last_bits key 256) os
-    → get (map_of H es) (last_bits key 256) ≡ None
-    → ProvesAbsent H (map_of H es) (last_bits key 256) (reverse (take n os))
-absent_proof H es key os n h p none =
-    let left = left_peers H es key os n h p in record {
-      absent = ap is_some none;
-      peers_from_top = rw (reverse-reverse _) left;
-      count = rw (length-reverse _) (left_count H _ _ _ left h.ends);
-    }
+  -- and of absence
+  pub absent_proof : (es : List (List ℕ × List ℕ)) (key : List ℕ) (os : List (Option (List ℕ))) (n : ℕ) → AreLeft os n
+      → IsPeers H (λ k. None) (get (map_of H es)) (last_bits key 256) os → get (map_of H es) (last_bits key 256) ≡ None
+      → ProvesAbsent H (map_of H es) (last_bits key 256) (reverse (take n os))
+  absent_proof es key os n h p none =
+      let left = left_peers es key os n h p in record {
+        absent = ap is_some none;
+        peers_from_top = rw (reverse-reverse _) left;
+        count = rw (length-reverse _) (left_count _ _ _ left h.ends);
+      }
 
-pub absent_leads : (H : List ℕ → List ℕ) (key x root : List ℕ) (os : List (Option (List ℕ))) (n : ℕ) → AreLeft os n
-    → length os ≤ 256 → value_above H 0 os x (last_bits key 256) ≡ root
-    → proof_value H (reverse (take n os)) x (last_bits key 256) ≡ root
-absent_leads H key x root os n h few leads =
-    let size : length (take n os) ≤ 256 = let all = length-take n os in omega arith in
-    reversed_value H _ x _ (length-last_bits key 256) size ∙ left_value H x _ os n h ∙ leads
+  pub absent_leads : (key x root : List ℕ) (os : List (Option (List ℕ))) (n : ℕ) → AreLeft os n → length os ≤ 256
+      → value_above H 0 os x (last_bits key 256) ≡ root → proof_value H (reverse (take n os)) x (last_bits key 256)
+      ≡ root
+  absent_leads key x root os n h few leads =
+      let size : length (take n os) ≤ 256 = let all = length-take n os in omega arith in
+      reversed_value H _ x _ (length-last_bits key 256) size ∙ left_value x _ os n h ∙ leads
 
--- the way from the root, where there are insertions
-pub last_of_all : (H : List ℕ → List ℕ) (e : List ℕ × List ℕ) (es : List (List ℕ × List ℕ))
-    → stands_over H (e ∷ es) [] (last_with (is_below H []) (e ∷ es)) ≡ true
-unfolding last_with
-last_of_all H e es = by_last _
-  where
-    by_last : (o : Option (List ℕ × List ℕ)) → stands_over H (e ∷ es) [] (option_or o (Some e)) ≡ true
-    by_last None = refl
-    by_last (Some f) = refl
+  -- the way from the root, where there are insertions
+  pub last_of_all : (e : List ℕ × List ℕ) (es : List (List ℕ × List ℕ))
+      → stands_over H (e ∷ es) [] (last_with (is_below H []) (e ∷ es)) ≡ true
+  unfolding last_with
+  last_of_all e es = grind arith
 
-pub version_of_all : (H : List ℕ → List ℕ) (es : List (List ℕ × List ℕ)) → version H es [] ≡ length es
-unfolding last_place
-version_of_all H [] = refl
-version_of_all H (e ∷ es) = rw (version_of_all H es) (more _)
-  where
-    more : (n : ℕ) → cond (eqb n 0) 1 (suc n) ≡ suc n
-    more zero = refl
-    more (suc n) = let some : eqb (suc n) 0 ≡ false = false_from_ne_true _ (λ e. let z = eqb-true _ 0 e in
-        omega arith) in cond-false _ _ _ some
+  pub version_of_all : (es : List (List ℕ × List ℕ)) → version H es [] ≡ length es
+  unfolding last_place
+  version_of_all [] = refl
+  version_of_all (e ∷ es) = rw (version_of_all es) (grind arith)
 
 pub no_bits : (key : List ℕ) → bits_from key 0 0 ≡ []
 unfolding bits_from
@@ -209,8 +195,8 @@ own_at_root H bytes_at root key count es fits some own = record {
   pages = own.pages;
   fits = omega arith;
   is_there = rw (no_bits key) (there es own.all);
-  is_version = sym own.all ∙ sym (version_of_all H es) ∙ ap (version H es) (sym (no_bits key));
-  is_digest = own.is_root ∙ ap (λ p. root_of_levels H 256 (below (map_of H es) p)) (sym (no_bits key));
+  is_version = rw (no_bits key, version_of_all H es) (sym own.all);
+  is_digest = rw (no_bits key) own.is_root;
 }
   where
     there : (es : List (List ℕ × List ℕ)) → length es ≡ count → stands H es [] ≡ true
@@ -224,14 +210,10 @@ whole_way H root key os more held e way = rw e record { few = way.few; leads = w
 pub whole_own : (H : List ℕ → List ℕ) (key : List ℕ) (os more : List (Option (List ℕ))) (held : Option (ℕ × List ℕ))
     (es : List (List ℕ × List ℕ)) → os ≡ more → IsOwnWay H es key 0 more held → IsWholeWayOf H es key os held
 whole_own H key os more held es e own = rw e record {
-  are_peers = at_root own.are_peers;
+  are_peers = rw (no_bits key) at own.are_peers;
   is_leaf = own.is_leaf;
   is_index = own.is_index;
 }
-  where
-    at_root : IsPeers H (λ k. None) (below (map_of H es) (bits_from key 0 0)) (last_bits key 256) more
-        → IsPeers H (λ k. None) (get (map_of H es)) (last_bits key 256) more
-    at_root h = rw (no_bits key) at h
 
 -- where there are none
 pub nothing_held : (H : List ℕ → List ℕ) (es : List (List ℕ × List ℕ)) → length es ≡ 0 → (q : List Bool)

@@ -1,13 +1,12 @@
 -- The page at the empty prefix, before and after more insertions.
-use Rattle.std.proofs.Common.{◌≡◌, ◌≢◌, ℕ, ◌+◌, ◌^◌, ◌<◌, Bool, true, List, [], ◌∷◌, ◌++◌, length, Option, Some, refl, sym, ap, ◌∙◌, arith, length-append}
+use Rattle.std.proofs.Common.{◌≡◌, ◌≢◌, ℕ, ◌+◌, ◌^◌, ◌<◌, true, List, [], ◌∷◌, ◌++◌, length, Option, Some, refl, sym, ap, ◌∙◌, arith, length-append}
 use Rattle.std.proofs.lemmas.List.Elements.{All-nil}
 use Rattle.std.specs.Prelude.{IfSome}
 use Rattle.std.specs.List.{filter}
-use Rattle.std.specs.FinMap.{get}
 use Rattle.warg_crypto.specs.Digests.{IsByte}
 use Rattle.warg_crypto.specs.Collisions.{GivesHashes}
 use Rattle.warg_map.specs.Bits.{bits_from, last_bits}
-use Rattle.warg_map.specs.Sparse.{root_of_levels, sparse_root, map_of}
+use Rattle.warg_map.specs.Sparse.{sparse_root, map_of}
 use Rattle.warg_pages.specs.Prefixes.{begins, is_below, bits_of_bytes, version}
 use Rattle.warg_pages.specs.Slots.{SlotAt, IsPage, page_of}
 use Rattle.warg_pages.specs.PageBytes.{page_bytes}
@@ -15,34 +14,29 @@ use Rattle.warg_pages.specs.OwnPages.{stands}
 use Rattle.warg_pages.specs.ProvedKeys.{IsOwnSource}
 use Rattle.warg_pages.specs.ChangedPages.{ChangedPageAt, AreChangedPages}
 use Rattle.warg_pages.specs.ChangedPages.StoodAt.{first}
-use Rattle.warg_pages.specs.Private.Updates.{AreChangesAt, IsNamedAt, ChangeAt, changes_from, changes_below, IsFirstPage, IsOwnUpdate, IsUpdated}
+use Rattle.warg_pages.specs.Private.Updates.{AreChangesAt, IsNamedAt, ChangeAt, changes_from, IsFirstPage, IsOwnUpdate, IsUpdated}
 use Rattle.warg_pages.proofs.PremiseLemmas.{empty_page}
-use Rattle.warg_pages.proofs.OwnPages.{own_slots, version_within}
-use Rattle.warg_pages.proofs.OwnWays.{own_bytes, own_page_is}
-use Rattle.warg_pages.proofs.FinalPeers.{no_bits, own_at_root, last_of_all, version_of_all}
+use Rattle.warg_pages.proofs.OwnPages.{version_within}
+use Rattle.warg_pages.proofs.FinalPeers.{last_of_all, version_of_all}
+use Rattle.warg_pages.proofs.VisitedPages.{own_root, own_page, own_refused}
 
-own_first_bytes : (H : List ℕ → List ℕ) → GivesHashes H → (bytes_at : List ℕ → ℕ → Option (List ℕ)) (root : List ℕ)
-    (count : ℕ) (es : List (List ℕ × List ℕ)) → count < 2 ^ 64 → ¬ (count ≡ 0) → IsOwnSource H bytes_at root count es
-    → bytes_at [] count ≡ Some (page_bytes (page_of H es []))
-own_first_bytes H gives bytes_at root count es fits some own =
-    own_bytes gives (own_at_root H bytes_at root (H []) count es fits some own) (omega arith) (gives _)
-    ∙ ap (λ p. Some (page_bytes (page_of H es p))) (no_bits (H []))
+no_prefix : bits_of_bytes [] ≡ []
+unfolding bits_from
+no_prefix = refl
 
-pub own_first_page : (H : List ℕ → List ℕ) → GivesHashes H → (bytes_at : List ℕ → ℕ → Option (List ℕ)) (root : List ℕ)
-    (count : ℕ) (page : List SlotAt) (es : List (List ℕ × List ℕ)) → count < 2 ^ 64 → ¬ (count ≡ 0) → IsPage page
-    → IfSome (bytes_at [] count) (λ known. known ≡ page_bytes page)
-    → IsOwnSource H bytes_at root count es → page ≡ page_of H es []
-own_first_page H gives bytes_at root count page es fits some is at own =
-    own_page_is gives (own_at_root H bytes_at root (H []) count es fits some own) (omega arith) (gives _) is at
-    ∙ ap (page_of H es) (no_bits (H []))
+module _ (H : List ℕ → List ℕ) (gives : GivesHashes H) (bytes_at : List ℕ → ℕ → Option (List ℕ)) (root : List ℕ)
+    (count : ℕ) where
+  pub own_first_page : (page : List SlotAt) (es : List (List ℕ × List ℕ)) → count < 2 ^ 64 → ¬ (count ≡ 0)
+      → IsPage page → IfSome (bytes_at [] count) (λ known. known ≡ page_bytes page)
+      → IsOwnSource H bytes_at root count es → page ≡ page_of H es []
+  own_first_page page es fits some is at own =
+      rw no_prefix at (own_page gives (own_root H bytes_at root count es fits some own) (omega arith) is at)
 
-pub first_page_refused : (H : List ℕ → List ℕ) → GivesHashes H → (bytes_at : List ℕ → ℕ → Option (List ℕ))
-    (root : List ℕ) (count : ℕ) (es : List (List ℕ × List ℕ)) → count < 2 ^ 64 → ¬ (count ≡ 0)
-    → ((slots : List SlotAt) → IsPage slots → bytes_at [] count ≢ Some (page_bytes slots))
-    → IsOwnSource H bytes_at root count es → ⊥
-first_page_refused H gives bytes_at root count es fits some fault own =
-    fault (page_of H es []) (own_slots H es [] gives (omega arith))
-    (own_first_bytes H gives bytes_at root count es fits some own)
+  pub first_page_refused : (es : List (List ℕ × List ℕ)) → count < 2 ^ 64 → ¬ (count ≡ 0)
+      → ((slots : List SlotAt) → IsPage slots → bytes_at [] count ≢ Some (page_bytes slots))
+      → IsOwnSource H bytes_at root count es → ⊥
+  first_page_refused es fits some fault own =
+      own_refused gives (own_root H bytes_at root count es fits some own) (omega arith) fault
 
 -- of no insertions
 pub empty_first_page : (H : List ℕ → List ℕ) (bytes_at : List ℕ → ℕ → Option (List ℕ)) (root : List ℕ) (count : ℕ)
@@ -57,10 +51,6 @@ empty_first_page H bytes_at root count page z e = λ es own. e ∙ none es (own.
 all_of : (xs : List ChangeAt) → filter (λ c. begins [] (last_bits c.key 256)) xs ≡ xs
 all_of [] = refl
 all_of (x ∷ xs) = ap (λ t. x ∷ t) (all_of xs)
-
-no_prefix : bits_of_bytes [] ≡ []
-unfolding bits_from
-no_prefix = refl
 
 all_stand : (H : List ℕ → List ℕ) (es : List (List ℕ × List ℕ)) → 0 < length es → stands H es [] ≡ true
 all_stand H [] some = absurd (omega arith)
@@ -78,43 +68,33 @@ first_update H bytes_at root count page old more some fits is_first own =
         pages = own.pages;
         fits = omega arith;
         are_bytes = All-nil IsByte;
-        are_slots = is_first old own ∙ ap (page_of H old) (sym no_prefix);
-        are_changes = ap (λ m. changes_from H m more) (sym n) ∙ sym (all_of _)
-            ∙ ap (changes_below H (length old) more) (sym no_prefix);
+        are_slots = rw no_prefix (is_first old own);
+        are_changes = rw (← n, no_prefix) (sym (all_of _));
       };
       changed = record {
         are_bytes = All-nil IsByte;
         short = omega arith;
-        is_there = ap (stands H _) no_prefix ∙ all_stand H _ (omega arith);
+        is_there = rw no_prefix (all_stand H (old ++ more) (omega arith));
         later = (let v = ap (version H _) no_prefix ∙ version_of_all H (old ++ more) in omega arith);
       };
       is_version = (let v = ap (version H _) no_prefix ∙ version_of_all H (old ++ more) in omega arith);
-      is_digest = own.is_root ∙ sym (at_prefix old no_prefix);
+      is_digest = rw no_prefix own.is_root;
     }
-  where
-    at_prefix : (es : List (List ℕ × List ℕ)) {p : List Bool} → p ≡ []
-        → root_of_levels H 256 (λ bits. get (map_of H es) (p ++ bits)) ≡ sparse_root H 256 (map_of H es)
-    at_prefix es e = ap (λ q. root_of_levels H 256 (λ bits. get (map_of H es) (q ++ bits))) e
 
 -- all pages that change
-pub all_changed : (H : List ℕ → List ℕ) (old more : List (List ℕ × List ℕ)) (digest : List ℕ)
-    (pages : List ChangedPageAt) → IsUpdated H old more [] digest pages → AreChangedPages H old more pages
-all_changed H old more digest pages updated =
-    let among = updated.changed in
-    record {
-      each = λ i d lt. let h = among.each i d lt in (h.1, h.2);
-      all = λ prefix changes. among.all prefix (prefix, refl) changes;
-      once = among.once;
-    }
+module _ (H : List ℕ → List ℕ) (old more : List (List ℕ × List ℕ)) (digest : List ℕ) (pages : List ChangedPageAt)
+    (updated : IsUpdated H old more [] digest pages) where
+  pub all_changed : AreChangedPages H old more pages
+  all_changed =
+      let among = updated.changed in
+      record {
+        each = λ i d lt. let h = among.each i d lt in (h.1, h.2);
+        all = λ prefix changes. among.all prefix (prefix, refl) changes;
+        once = among.once;
+      }
 
-pub root_changed : (H : List ℕ → List ℕ) (old more : List (List ℕ × List ℕ)) (digest : List ℕ)
-    (pages : List ChangedPageAt) → IsUpdated H old more [] digest pages
-    → digest ≡ sparse_root H 256 (map_of H (old ++ more))
-root_changed H old more digest pages updated = updated.is_root ∙ at_prefix no_prefix
-  where
-    at_prefix : {p : List Bool} → p ≡ [] → root_of_levels H 256 (λ bits. get (map_of H (old ++ more)) (p ++ bits))
-        ≡ sparse_root H 256 (map_of H (old ++ more))
-    at_prefix e = ap (λ q. root_of_levels H 256 (λ bits. get (map_of H (old ++ more)) (q ++ bits))) e
+  pub root_changed : digest ≡ sparse_root H 256 (map_of H (old ++ more))
+  root_changed = rw no_prefix at updated.is_root
 
 -- no page changes without an insertion
 pub none_changed : (H : List ℕ → List ℕ) (old more : List (List ℕ × List ℕ)) (pages : List ChangedPageAt)
@@ -136,5 +116,5 @@ pub first_changes : (H : List ℕ → List ℕ) (count : ℕ) (more : List (List
     → AreChangesAt H count more [] (changes_from H count more)
 first_changes H count more = record {
   are_bytes = All-nil IsByte;
-  are_changes = sym (all_of _) ∙ ap (changes_below H count more) (sym no_prefix);
+  are_changes = rw no_prefix (sym (all_of _));
 }

@@ -1,13 +1,10 @@
 -- What proofs of other crates use.
-use Rattle.std.proofs.Common.{◌≡◌, ℕ, zero, suc, ◌+◌, ◌-◌, ◌*◌, ◌/◌, ◌%◌, ◌^◌, ◌<◌, ◌≤◌, Bool, true, false, cond, eqb, List, [], ◌∷◌, ◌++◌, length, take, Option, Some, None, refl, sym, ap, ◌∙◌, arith, inl, inr, length-append}
-use Rattle.std.proofs.lemmas.Bool.{cases_lt, lt-ltb, le-ltb}
+use Rattle.std.proofs.Common.{◌≡◌, ℕ, zero, suc, ◌+◌, ◌-◌, ◌*◌, ◌/◌, ◌%◌, ◌^◌, ◌<◌, ◌≤◌, Bool, true, false, cond, eqb, List, [], ◌∷◌, ◌++◌, length, take, Option, Some, None, refl, sym, ap, ◌∙◌, arith, length-append}
 use Rattle.std.proofs.lemmas.Fmt.{decimal_injective, decimal_is_IsNumeral}
-use Rattle.std.proofs.lemmas.List.{length-take}
-use Rattle.std.proofs.lemmas.List.Elements.{All-tail, All-take}
+use Rattle.std.proofs.lemmas.List.Elements.{All-tail}
 use Rattle.std.specs.Bool.{then_some}
 use Rattle.std.specs.Fmt.{decimal, digit_glyph}
 use Rattle.std.specs.List.{All, Contains, flat_map, filter_map, cons_option}
-use Rattle.std.specs.Option.{option_or}
 use Rattle.std.specs.Str.Parse.{AllDigits}
 use Rattle.warg_crypto.specs.Digests.{IsByte, IsDigest}
 use Rattle.warg_crypto.specs.Collisions.{GivesHashes}
@@ -18,7 +15,6 @@ use Rattle.warg_map.specs.Sparse.{root_of_levels, sparse_root, map_of}
 use Rattle.warg_pages.specs.Prefixes.{bits_of_bytes, is_below, below, version}
 use Rattle.warg_pages.specs.Slots.{SlotAt, is_lone, slot_over, numbers, page_of}
 use Rattle.warg_pages.specs.ProvedKeys.{IsOwnSource}
-use Rattle.warg_pages.proofs.OwnVisits as visits
 use Rattle.warg_pages.specs.PageBytes.{slot_bytes, lone_bytes, page_bytes}
 use Rattle.warg_pages.specs.PagePaths.{byte_path}
 use Rattle.warg_pages.specs.OwnPages.{stands, stands_over}
@@ -27,16 +23,18 @@ use Rattle.warg_pages.specs.Visits.{AreAllPagesWhere, AreAllPages, IsAllowed, lo
 use Rattle.warg_pages.specs.Audits.{IsInPages, AreInPages, count_last}
 use Rattle.warg_pages.proofs.PageFormat.{same_parts}
 use Rattle.warg_pages.proofs.KeyPrefixes as keys
-use Rattle.warg_pages.proofs.BitParts.{key_at}
-use Rattle.warg_pages.proofs.HeldHalves.{begins-rest}
-use Rattle.warg_pages.proofs.LoneSlots.{last_passes}
+use Rattle.warg_pages.proofs.LastPassing.{last_found}
 use Rattle.warg_pages.proofs.OwnDescent as descent
-use Rattle.warg_pages.proofs.PrefixBytes.{length-bits, same_bytes}
+use Rattle.warg_pages.proofs.PrefixBytes.{taken_is}
 use Rattle.warg_pages.proofs.MoreInsertions.{quiet_page, quiet_version, quiet_stands}
 use Rattle.warg_pages.proofs.PagesAfter.{nothing_new}
 use Rattle.warg_pages.proofs.OwnPages as own
-use Rattle.warg_pages.proofs.VisitedRoots as visited
-use Rattle.warg_pages.proofs.AuditedMaps as audit
+use Rattle.std.proofs.lemmas.Bool.Decides.{nat_tests}
+use Rattle.warg_pages.proofs.OwnVisits.{own_among, own_from}
+use Rattle.warg_pages.proofs.VisitedPages.{own_root}
+use Rattle.warg_pages.proofs.VisitedRoots.{pages_held, root_of_pages, lone_digests}
+use Rattle.warg_pages.proofs.AuditedMaps.{held_is}
+use Rattle.warg_pages.proofs.PageRoots.{root-same}
 
 -- The bits of a key: as many as are asked for, those of two parts, the same ones of another key, and those of its first
 -- bytes.
@@ -56,23 +54,8 @@ pub bits_of_taken : (k : List ℕ) (depth : ℕ) → depth ≤ length k
 bits_of_taken = descent.bits_of_taken
 
 -- Digits that are written alike are the same.
-low_glyph : (d : ℕ) → d < 10 → digit_glyph false d ≡ 48 + d
-low_glyph d low = rw (lt-ltb d 10 low) refl
-
-high_glyph : (d : ℕ) → 10 ≤ d → digit_glyph false d ≡ 87 + d
-high_glyph d high = rw (le-ltb d 10 high) refl
-
 one_glyph : (d e : ℕ) → digit_glyph false d ≡ digit_glyph false e → d ≡ e
-one_glyph d e same = elim (cases_lt d 10) [
-  | inl d_low ↦ elim (cases_lt e 10) [
-    | inl e_low ↦ omega (arith, low_glyph d d_low, low_glyph e e_low, same)
-    | inr e_high ↦ omega (arith, low_glyph d d_low, high_glyph e e_high, same)
-  ]
-  | inr d_high ↦ elim (cases_lt e 10) [
-    | inl e_low ↦ omega (arith, high_glyph d d_high, low_glyph e e_low, same)
-    | inr e_high ↦ omega (arith, high_glyph d d_high, high_glyph e e_high, same)
-  ]
-]
+one_glyph d e same = grind (arith, nat_tests)
 
 -- No number in decimal begins with an x.
 no_x : (v : ℕ) (rest : List ℕ) → v < 2 ^ 64 → decimal v ≡ 120 ∷ rest → ⊥
@@ -144,17 +127,6 @@ pub version_within : (H : List ℕ → List ℕ) (insertions : List (List ℕ ×
 version_within H insertions prefix = own.version_within _ insertions
 
 -- Where a page stands, a key digest of an insertion begins with its prefix.
-last_is_there : {X : Type 0} (p : X → Bool) (xs : List X) (e : X) → last_with p xs ≡ Some e → Contains xs e
-unfolding last_with
-last_is_there p [] e h = absurd cc
-last_is_there {X = X} p (x ∷ xs) e h = either _ (p x) (last_is_there p xs e) h
-  where
-    either : (o : Option X) (b : Bool) → (o ≡ Some e → Contains xs e) → option_or o (cond b (Some x) None) ≡ Some e
-        → Contains (x ∷ xs) e
-    either None true below h = let same : x ≡ e = cc in (0, omega arith, same)
-    either None false below h = absurd cc
-    either (Some y) b below h = let there = below h in (suc there.0, omega arith, there.2)
-
 pub page_has_insertion : (H : List ℕ → List ℕ) (insertions : List (List ℕ × List ℕ)) (prefix : List ℕ) → GivesHashes H
     → All IsByte prefix → length prefix < 32 → stands H insertions (bits_of_bytes prefix) ≡ true
     → (e : List ℕ × List ℕ) × Contains insertions e × (prefix ≡ take (length prefix) (H e.0))
@@ -164,22 +136,13 @@ page_has_insertion H insertions prefix gives are_bytes short is_there =
     p : List Bool
     p = bits_of_bytes prefix
 
-    begins : (e : List ℕ × List ℕ) → is_below H p e ≡ true → prefix ≡ take (length prefix) (H e.0)
-    begins e under =
-        let depth = length prefix in
-        let is = gives e.0 in
-        let rest = begins-rest p _ under in
-        let bits = (same_parts p rest.0 _ _ (length-bits prefix ∙ sym (length-bits_from _ 0 _))
-        (sym rest.1 ∙ key_at _ _ (omega arith))).0 in
-        let taken : length (take depth (H e.0)) ≡ depth = omega (arith, length-take depth (H e.0), is.has_32) in
-        sym (same_bytes _ prefix (All-take IsByte depth (H e.0) is.are_bytes) are_bytes taken
-        (bits_of_taken _ depth (omega arith) ∙ sym bits))
-
     by_last : (last : Option (List ℕ × List ℕ)) → last_with (is_below H p) insertions ≡ last
         → stands_over H insertions p last ≡ true
         → (e : List ℕ × List ℕ) × Contains insertions e × (prefix ≡ take (length prefix) (H e.0))
     by_last None l h = absurd cc
-    by_last (Some e) l h = (e, last_is_there _ insertions e l, begins e (last_passes _ insertions e l))
+    by_last (Some e) l h =
+        let found = last_found _ insertions e l in
+        (e, found.0, sym (taken_is (H e.0) prefix (gives e.0) are_bytes (omega arith) found.1))
 
 -- A page whose version is an old one is as it was before the later insertions.
 pub unchanged_page : (H : List ℕ → List ℕ) (old more : List (List ℕ × List ℕ)) (prefix : List Bool)
@@ -200,7 +163,16 @@ pub own_visit : (H : List ℕ → List ℕ) (IsLone : List ℕ → SlotAt → Li
     → count < 2 ^ 64 → IsOwnSource H bytes_at root count insertions
     → AreAllPagesWhere H IsLone (IsAllowed bytes_at tells_all) root count pages → All IsByte prefix → length prefix < 32
     → stands H insertions (bits_of_bytes prefix) ≡ true → Contains pages (page_at H insertions prefix)
-own_visit = visits.own_visit
+unfolding last_with
+own_visit H IsLone f T root zero es pages prefix gives fits own all are_bytes short there = none es own.all there
+  where
+    none : (es : List (List ℕ × List ℕ)) → length es ≡ 0 → stands H es (bits_of_bytes prefix) ≡ true
+        → Contains pages (page_at H es prefix)
+    none [] e is = absurd cc
+    none (x ∷ es) e is = absurd (omega arith)
+own_visit H IsLone f T root (suc n) es pages prefix gives fits own all are_bytes short there =
+    own_among H gives IsLone f T es 32 [] root _ pages prefix all (own_root H f root _ es fits (λ z. omega arith) own)
+    are_bytes short there
 
 -- And no others: at the prefix of each that it finds a page of the insertions stands, and it is of that version.
 pub visit_own : (H : List ℕ → List ℕ) (IsLone : List ℕ → SlotAt → List ℕ × List ℕ → Type 0)
@@ -210,20 +182,29 @@ pub visit_own : (H : List ℕ → List ℕ) (IsLone : List ℕ → SlotAt → Li
     → AreAllPagesWhere H IsLone (IsAllowed bytes_at tells_all) root count pages → (p : ChangedPageAt)
     → Contains pages p → (stands H insertions (bits_of_bytes p.prefix) ≡ true)
     × (p.version ≡ version H insertions (bits_of_bytes p.prefix))
-visit_own = visits.visit_own
+visit_own H IsLone f T root zero es pages gives fits own all p there =
+    let none : Contains [] p = rw all.0 at there in absurd (omega arith)
+visit_own H IsLone f T root (suc n) es pages gives fits own all p there =
+    own_from H gives IsLone f T es 32 [] root _ pages refl all (own_root H f root _ es fits (λ z. omega arith) own) p
+    there
 
 -- No two slots of a visit's pages have the same lone key.
 pub lone_apart : (H : List ℕ → List ℕ) (IsThere : List ℕ → ℕ → List SlotAt → Type 0) (root : List ℕ) (version : ℕ)
     (all : List ChangedPageAt) → AreAllPages H IsThere root version all → (x y : SlotAt) (key leaf other : List ℕ)
     → Contains (lone_slots all) x → Contains (lone_slots all) y → x.lone ≡ Some (key, leaf)
     → y.lone ≡ Some (key, other) → x ≡ y
-lone_apart = visited.lone_apart
+lone_apart H IsThere root zero all h = λ x y k l m at other is are. absurd (let size = ap (λ p. length
+    (lone_slots p)) h.0 in
+    omega arith)
+lone_apart H IsThere root _ all h = (pages_held H IsThere 32 [] _ root all refl h).apart
 
 -- It is the root of insertions that are in them, where nothing else is.
 pub audited : (H : List ℕ → List ℕ) (IsThere : List ℕ → ℕ → List SlotAt → Type 0) (root : List ℕ) (version : ℕ)
     (es : List (List ℕ × List ℕ)) (all : List ChangedPageAt) (vs : List ℕ) → AreAllPages H IsThere root version all
     → AreInPages H all 0 es vs → count_last 0 vs ≡ length (lone_slots all) → root ≡ sparse_root H 256 (map_of H es)
-audited = audit.audited
+audited H IsThere root version es all vs are in_pages same = root_of_pages H IsThere root version all are
+    ∙ root-same H 256 _ _ (held_is H es all vs (lone_digests H IsThere root version all are)
+    (lone_apart H IsThere root version all are) in_pages same)
 
 -- Insertions in pages, with one more.
 pub AreInPages-push : (H : List ℕ → List ℕ) (all : List ChangedPageAt) (first : ℕ) (es : List (List ℕ × List ℕ))

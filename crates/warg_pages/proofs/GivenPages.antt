@@ -1,5 +1,5 @@
 -- A page that leads to the root below its prefix has the digests of the map's page, or there is a collision.
-use Rattle.std.proofs.Common.{◌≡◌, ℕ, zero, suc, ◌+◌, ◌-◌, ◌*◌, ◌^◌, ◌<◌, ◌≤◌, Bool, true, false, cond, eqb, List, [], ◌∷◌, ◌++◌, length, ◌⊎◌, inl, inr, refl, sym, ap, ◌∙◌, arith, append_assoc}
+use Rattle.std.proofs.Common.{◌≡◌, ℕ, zero, suc, ◌+◌, ◌-◌, ◌*◌, ◌^◌, ◌<◌, ◌≤◌, Bool, List, [], ◌∷◌, ◌++◌, length, ◌⊎◌, inl, inr, refl, sym, ap, ◌∙◌, arith, append_assoc}
 use Rattle.std.proofs.lemmas.Bool.{cases_lt}
 use Rattle.std.proofs.lemmas.List.Elements.{All-head, All-tail}
 use Rattle.std.proofs.Math.Nat.{pow-suc}
@@ -14,39 +14,33 @@ use Rattle.warg_pages.specs.Prefixes.{byte_bits, below}
 use Rattle.warg_pages.specs.Slots.{SlotAt, IsSlot, IsPage, page_of}
 use Rattle.warg_pages.specs.Pages.{digest_at, root_over, slot_height, page_digest}
 use Rattle.warg_pages.specs.GivenPages.{HaveSameDigests, AreInputsAt}
-use Rattle.warg_pages.proofs.ByteNumbers.{number-byte_bits}
-use Rattle.warg_pages.proofs.PageRoots.{page_slot, page_root, root-same}
-use Rattle.warg_pages.proofs.KeyPrefixes.{length-bits_from}
+use Rattle.warg_pages.proofs.PageRoots.{page_byte, page_root, root-same}
 use Rattle.warg_pages.proofs.OwnPages.{root_is_digest}
 
 -- digests of 32 bytes
-size_empty : (H : List ℕ → List ℕ) → HasSize H → (k : ℕ) → length (empty_root H k) ≡ 32
-unfolding empty_root
-size_empty H size zero = size _
-size_empty H size _ = size _
+module _ (H : List ℕ → List ℕ) (size : HasSize H) where
+  size_empty : (k : ℕ) → length (empty_root H k) ≡ 32
+  unfolding empty_root
+  size_empty zero = size _
+  size_empty _ = size _
 
-size_over : (H : List ℕ → List ℕ) → HasSize H → (f : ℕ → List ℕ) (first k : ℕ) → length (f first) ≡ 32
-    → length (root_over H f first k) ≡ 32
-unfolding root_over
-size_over H size f first zero h = h
-size_over H size f first (suc k) h = size _
+  size_over : (f : ℕ → List ℕ) (first k : ℕ) → length (f first) ≡ 32 → length (root_over H f first k) ≡ 32
+  unfolding root_over
+  size_over f first zero h = h
+  size_over f first _ h = size _
 
-size_at : (H : List ℕ → List ℕ) → HasSize H → (height : ℕ) (slots : List SlotAt) (s : ℕ) → All IsSlot slots
-    → length (digest_at H height slots s) ≡ 32
-unfolding digest_at
-size_at H size height [] s h = size_empty H size height
-size_at H size height (x ∷ xs) s h = either (eqb x.byte s) (All-head IsSlot x xs h).digest.has_32
-    (size_at H size height xs s (All-tail IsSlot x xs h))
-  where
-    either : (b : Bool) → length x.digest ≡ 32 → length (digest_at H height xs s) ≡ 32
-        → length (cond b x.digest (digest_at H height xs s)) ≡ 32
-    either true here there = here
-    either false here there = there
+  size_at : (height : ℕ) (slots : List SlotAt) (s : ℕ) → All IsSlot slots → length (digest_at H height slots s) ≡ 32
+  unfolding digest_at
+  size_at height [] s h = size_empty height
+  size_at height (x ∷ xs) s h =
+      let here = (All-head IsSlot x xs h).digest.has_32 in
+      let there = size_at height xs s (All-tail IsSlot x xs h) in
+      grind arith
 
 -- two trees of one digest
 both : {A B C D : Type 0} → (A → B → C) → A ⊎ D → B ⊎ D → C ⊎ D
 both join (inl a) (inl b) = inl (join a b)
-both join (inl a) (inr d) = inr d
+both join _ (inr d) = inr d
 both join (inr d) b = inr d
 
 abbrev SameOver : (ℕ → List ℕ) → (ℕ → List ℕ) → ℕ → ℕ → Type 0
@@ -74,7 +68,7 @@ same_over H size depth xs ys first (suc k) place from le lf lg e =
     let double = pow-suc 2 k in
     let scaled = ap (λ p. place * p) double in
     let some = pow_pos k in
-    let f = digest_at H (slot_height depth) xs in
+    let f = digest_at H _ xs in
     let g = digest_at H (slot_height depth) ys in
     elim (same_or_not _ _) [
       | inl same ↦ (
@@ -107,14 +101,13 @@ pub given_page : (H : List ℕ → List ℕ) (es : List (List ℕ × List ℕ)) 
 given_page H es p depth slots gives lt n page e =
     let size = sizes gives in
     both (λ same (u : Unit {0}) s low. same s (omega arith) low)
-    (same_over H size depth slots (page_of H es p) 0 8 0 (omega arith) (omega arith)
+    (same_over H size depth slots _ 0 8 0 (omega arith) (omega arith)
     (λ s low. size_at H size _ slots s page.are_slots) own (e ∙ sym (page_root H es p depth lt n))) (inl tt)
   where
     own : Sized (digest_at H (slot_height depth) (page_of H es p))
     own s low =
         let at : digest_at H (slot_height depth) (page_of H es p) s ≡ root_of_levels H (slot_height depth)
-        (λ r. below (map_of H es) p (byte_bits s ++ r)) = rw (number-byte_bits s low) at
-        (page_slot H es p (byte_bits s) depth lt n (length-bits_from _ 0 8)) in
+        (λ r. below (map_of H es) p (byte_bits s ++ r)) = page_byte H es p depth s lt n low in
         let same = root-same H _ (λ r. below _ p _) (below _ _) (λ r. ap (get (map_of H es)) (sym (append_assoc p _ r)))
         in
         ap length (at ∙ same) ∙ (root_is_digest H gives es _ _).has_32

@@ -1,95 +1,31 @@
 -- What pages hold under a key digest, on its way down.
-use Rattle.std.proofs.Common.{◌≡◌, ◌≢◌, ℕ, suc, ◌+◌, ◌-◌, ◌<◌, Bool, true, false, cond, eqb, List, [], ◌∷◌, ◌++◌, length, take, get_or, Option, Some, None, refl, sym, ap, subst, ◌∙◌, arith, inl, inr, ◌⊎◌, length-append, eq-eqb}
-use Rattle.std.proofs.lemmas.Bool.{cond-true, cond-false, ne_eqb, eqb-true}
+use Rattle.std.proofs.Common.{◌≡◌, ◌≢◌, ℕ, suc, ◌+◌, ◌-◌, ◌<◌, List, [], ◌∷◌, ◌++◌, length, take, get_or, Option, Some, None, refl, sym, ap, ◌∙◌, arith, inl, inr, length-append}
 use Rattle.std.proofs.lemmas.List.{append_cancel_left, take_more, length-take}
 use Rattle.std.proofs.lemmas.List.Elements.{Contains-append_cases, Contains-append_left, Contains-append_right, All-contains}
-use Rattle.std.proofs.lemmas.Grind.{flat_map-append}
 use Rattle.std.specs.Prelude.{IfSome, MatchOption}
 use Rattle.std.specs.List.{Contains}
 use Rattle.std.specs.Option.{is_some}
 use Rattle.warg_crypto.specs.Digests.{IsDigest}
 use Rattle.warg_pages.specs.PageBytes.{page_bytes}
-use Rattle.warg_pages.specs.Slots.{SlotAt, IsSlot, IsPage, Ascends}
+use Rattle.warg_pages.specs.Slots.{SlotAt, IsSlot, IsPage}
 use Rattle.warg_pages.specs.Pages.{slot_at}
 use Rattle.warg_pages.specs.ChangedPages.{ChangedPageAt}
 use Rattle.warg_pages.specs.Visits.{IsLoneBelow, AreOfSlot, AreOfSlots, AreFromWhere, AreFrom, IsAllowed, lone_slots}
 use Rattle.warg_pages.specs.Audits.{IsHeldIn}
-use Rattle.warg_pages.proofs.Members.{among, first_among, later_among, only_one}
+use Rattle.warg_pages.proofs.Members.{among, first_among, later_among, only_one, in_filter, in_flat_map, from_flat_map}
+use Rattle.warg_pages.proofs.NumberedSlots.{slot_there, slot_found}
 use Rattle.warg_pages.proofs.PageFormat.{one_page}
 use Rattle.warg_pages.proofs.VisitedRoots.{with_lone, in_page, slot_held, pages_held, longer_held}
+use Rattle.warg_pages.proofs.SlotPages.{of_member, of_page}
 
--- the slot of a byte
-one_there : (b : Bool) (y x : SlotAt) (xs : List SlotAt) (s : ℕ) → eqb y.byte s ≡ b
-    → (slot_at xs s ≡ Some x → Contains xs x × (x.byte ≡ s)) → cond b (Some y) (slot_at xs s) ≡ Some x
-    → Contains (y ∷ xs) x × (x.byte ≡ s)
-one_there true y x xs s is rest e =
-    let same : y ≡ x = cc in
-    (rw same (first_among x xs), rw (← same) (eqb-true y.byte s is))
-one_there false y x xs s is rest e = let there = rest e in (later_among y xs x there.0, there.1)
-
-slot_there : (xs : List SlotAt) (s : ℕ) (x : SlotAt) → slot_at xs s ≡ Some x → Contains xs x × (x.byte ≡ s)
-slot_there [] s x e = absurd cc
-slot_there (y ∷ xs) s x e = one_there _ y x xs s refl (slot_there xs s x) e
-
-slot_found : (xs : List SlotAt) (x : SlotAt) → Ascends xs → Contains xs x → slot_at xs x.byte ≡ Some x
-slot_found [] x ascend h = absurd (let lt = h.1 in omega arith)
-slot_found (y ∷ xs) x ascend h = elim (among y xs x h) [
-  | inl same ↦ cond-true _ _ _ (eq-eqb y.byte x.byte (ap (λ (z : SlotAt). z.byte) same)) ∙ ap (λ z. Some z) same
-  | inr later ↦ (
-      let at = later.1 in
-      let below = ascend 0 (suc later.0) x (omega arith) (omega arith) in
-      let same : (get_or xs later.0 x).byte ≡ x.byte = ap (λ (z : SlotAt). z.byte) later.2 in
-      cond-false _ _ _ (ne_eqb y.byte x.byte (λ e. omega arith)) ∙ slot_found xs x
-      (λ i j d lt within. ascend (suc i) (suc j) d (omega arith) (omega arith)) later)
-]
-
-put_in : (b : Bool) (y : SlotAt) (ys : List SlotAt) (x : SlotAt) → (y ≡ x → b ≡ true) → (y ≡ x) ⊎ Contains ys x
-    → Contains (cond b (y ∷ ys) ys) x
-put_in true y ys x h (inl same) = let there : Contains (y ∷ ys) x = rw same (first_among x ys) in there
-put_in true y ys x h (inr later) = later_among y ys x later
-put_in false y ys x h (inl same) = absurd (let e : false ≡ true = h same in cc)
-put_in false y ys x h (inr later) = later
-
-kept_in : (xs : List SlotAt) (x : SlotAt) → is_some x.lone ≡ true → Contains xs x
-    → Contains (with_lone xs) x
-kept_in [] x some h = h
-kept_in (y ∷ xs) x some h = put_in _ y (with_lone xs) x (λ same. rw same some)
-    (elim (among y xs x h) [ inl same ↦ inl same | inr later ↦ inr (kept_in xs x some later) ])
-
-split_slots : (pages first rest : List ChangedPageAt) → pages ≡ first ++ rest
-    → lone_slots pages ≡ lone_slots first ++ lone_slots rest
-split_slots pages first rest e = rw e (flat_map-append (λ (p : ChangedPageAt). with_lone p.page) first rest)
+among_lone : (these pages : List ChangedPageAt) → ((p : ChangedPageAt) → Contains these p → Contains pages p)
+    → (y : SlotAt) → Contains (lone_slots these) y → Contains (lone_slots pages) y
+among_lone these pages within y c =
+    let at = from_flat_map (λ (p : ChangedPageAt). with_lone p.page) these y c in
+    in_flat_map (λ (p : ChangedPageAt). with_lone p.page) pages y (within at.0 at.1) at.2
 
 -- what is below the slots of a page at a prefix
 module _ (H : List ℕ → List ℕ) (AreFrom : List ℕ → ℕ → List ℕ → List ChangedPageAt → Type 0) (prefix : List ℕ) where
-  -- a slot of a page and what is below it
-  record IsPart (slots : List SlotAt) (pages : List ChangedPageAt) (x : SlotAt) : Type 0 where
-    pub first : List ChangedPageAt
-    pub is_slot : Contains slots x
-    pub are_of : AreOfSlot (IsLoneBelow H) AreFrom prefix x x.lone first
-    pub among : (y : SlotAt) → Contains (lone_slots first) y → Contains (lone_slots pages) y
-
-  part_of : (slots : List SlotAt) (pages : List ChangedPageAt) → AreOfSlots (IsLoneBelow H) AreFrom prefix slots pages
-      → (x : SlotAt) → Contains slots x → IsPart slots pages x
-  unfolding AreOfSlots
-  part_of [] pages h x c = absurd (let lt = c.1 in omega arith)
-  part_of (y ∷ slots) pages h x c =
-      let split = split_slots pages h.0 h.1 h.2 in
-      elim (among y slots x c) [
-        | inl same ↦ rw (← same) record {
-          first = h.0;
-          is_slot = first_among y slots;
-          are_of = h.3;
-          among = λ z d. rw split (Contains-append_left (lone_slots h.0) (lone_slots h.1) z d);
-        }
-        | inr later ↦ (let rest = part_of slots h.1 h.4 x later in record {
-          first = rest.first;
-          is_slot = later_among y slots x rest.is_slot;
-          are_of = rest.are_of;
-          among = λ z d. rw split (Contains-append_right (lone_slots h.0) (lone_slots h.1) z (rest.among z d));
-        })
-      ]
-
   -- the slot to which a slot of a page, or one below it, belongs
   record IsOwned (slots : List SlotAt) (y : SlotAt) : Type 0 where
     pub owner : SlotAt
@@ -98,51 +34,34 @@ module _ (H : List ℕ → List ℕ) (AreFrom : List ℕ → ℕ → List ℕ �
     pub are_of : AreOfSlot (IsLoneBelow H) AreFrom prefix owner owner.lone first
     pub within : Contains (owner ∷ lone_slots first) y
 
-  later_owned : (x : SlotAt) (slots : List SlotAt) (y : SlotAt) → IsOwned slots y → IsOwned (x ∷ slots) y
-  later_owned x slots y owned = record {
-    owner = owned.owner;
-    first = owned.first;
-    is_slot = later_among x slots owned.owner owned.is_slot;
-    are_of = owned.are_of;
-    within = owned.within;
-  }
-
   owner_of : (slots : List SlotAt) (pages : List ChangedPageAt) → AreOfSlots (IsLoneBelow H) AreFrom prefix slots pages
       → (y : SlotAt) → Contains (slots ++ lone_slots pages) y → IsOwned slots y
-  unfolding AreOfSlots
-  owner_of [] pages h y c = absurd (let none : Contains (lone_slots []) y = rw h at c in omega arith)
-  owner_of (x ∷ slots) pages h y c =
-      let split = split_slots pages h.0 h.1 h.2 in
-      elim (among x (slots ++ lone_slots pages) y c) [
-        | inl same ↦ rw (← same) (first_owned (first_among x (lone_slots h.0)))
-        | inr rest ↦ elim (Contains-append_cases slots (lone_slots pages) y rest) [
-          | inl own ↦ later_owned x slots y (owner_of slots h.1 h.4 y
-              (Contains-append_left slots (lone_slots h.1) y own))
-          | inr below ↦ elim (Contains-append_cases (lone_slots h.0) (lone_slots h.1) y (rw split at below)) [
-            | inl in_first ↦ first_owned (later_among x (lone_slots h.0) y in_first)
-            | inr later ↦ later_owned x slots y (owner_of slots h.1 h.4 y
-                (Contains-append_right slots (lone_slots h.1) y later))
-          ]
-        ]
-      ]
-    where
-      first_owned : {z : SlotAt} → Contains (x ∷ lone_slots h.0) z → IsOwned (x ∷ slots) z
-      first_owned within = record {
-        owner = x;
-        first = h.0;
-        is_slot = first_among x slots;
-        are_of = h.3;
-        within = within;
-      }
+  owner_of slots pages h y c = elim (Contains-append_cases slots (lone_slots pages) y c) [
+    | inl own ↦ (let at = of_member (IsLoneBelow H) AreFrom prefix slots pages h y own in record {
+      owner = y;
+      first = at.these;
+      is_slot = own;
+      are_of = at.of_slot;
+      within = first_among y (lone_slots at.these);
+    })
+    | inr below ↦
+        let lone = from_flat_map (λ (p : ChangedPageAt). with_lone p.page) pages y below in
+        let at = of_page (IsLoneBelow H) AreFrom prefix slots pages h lone.0 lone.1 in
+        record {
+          owner = at.slot;
+          first = at.these;
+          is_slot = at.in_slots;
+          are_of = at.of_slot;
+          within = later_among at.slot (lone_slots at.these) y
+              (in_flat_map (λ (p : ChangedPageAt). with_lone p.page) at.these y at.there lone.2);
+        }
+  ]
 
   -- what is below the same slot
   same_slot : (owner x : SlotAt) (o : Option (List ℕ × List ℕ)) (first : List ChangedPageAt) → owner ≡ x → x.lone ≡ o
       → AreOfSlot (IsLoneBelow H) AreFrom prefix owner owner.lone first
       → AreOfSlot (IsLoneBelow H) AreFrom prefix x o first
-  same_slot owner x o first same lone are =
-      let P : SlotAt → Type 0 = λ z. AreOfSlot (IsLoneBelow H) AreFrom prefix z z.lone first in
-      let Q : Option (List ℕ × List ℕ) → Type 0 = λ l. AreOfSlot (IsLoneBelow H) AreFrom prefix x l first in
-      subst Q lone (subst P same are)
+  same_slot owner x o first same lone are = rw (← lone, ← same) are
 
 -- below 32 bytes there is no page
 pub no_page : (H : List ℕ → List ℕ) (IsThere : List ℕ → ℕ → List SlotAt → Type 0) (depth : ℕ) (prefix : List ℕ)
@@ -272,7 +191,7 @@ module _ {H : List ℕ → List ℕ} {bytes_at : List ℕ → ℕ → Option (Li
       rw same.1 record {
         slot = x;
         there = rw h.2 (Contains-append_left (with_lone h.0) (lone_slots h.1) x
-            (kept_in h.0 x (ap is_some lone) there.0));
+            (in_filter (λ y. is_some y.lone) h.0 (ap is_some lone) there.0));
         is_version = refl;
         is_lone = lone ∙ ap (λ k. Some (k, l.1)) same.0;
       }
@@ -296,12 +215,12 @@ module _ {H : List ℕ → List ℕ} {bytes_at : List ℕ → ℕ → Option (Li
   next_from x found lone =
       let h = from_here in
       let there = slot_there h.0 _ x (rw (same_page h.0 h.3 h.4) found) in
-      let part = part_of H Below _ h.0 h.1 h.6 x there.0 in
+      let part = of_member (IsLoneBelow H) Below _ h.0 h.1 h.6 x there.0 in
       record {
-        first = part.first;
-        from = goes_on x part.first there.1 (same_slot H Below _ x x None part.first refl lone part.are_of);
+        first = part.these;
+        from = goes_on x part.these there.1 (same_slot H Below _ x x None part.these refl lone part.of_slot);
         among = λ y c. rw h.2 (Contains-append_right (with_lone h.0) (lone_slots h.1) y
-            (part.among y c));
+            (among_lone part.these h.1 part.within y c));
       }
 
   pub none_below : (x : SlotAt) → slot_at page (get_or key depth 0) ≡ Some x → x.lone ≡ None

@@ -58,5 +58,10 @@ key_split H key depth lt =
     let all : 256 ≡ 8 * depth + (8 + slot_height depth) = omega arith in
     let low : 256 - slot_height depth ≡ 8 * depth + 8 = omega arith in
     let at : 0 + 8 * depth ≡ 8 * depth = omega arith in
-    ap (bits_from (H key) 0) all ∙ bits_from-append _ 0 _ _ ∙ ap (λ t. prefix_of H key depth ++ t)
-    (rw (at, low, ← byte_at_depth (H key) depth) (bits_from-append _ _ 8 _))
+    ap (bits_from (H key) 0) all ∙ rw (
+      bits_from-append (H key) 0 (8 * depth) (8 + slot_height depth),
+      at,
+      bits_from-append (H key) (8 * depth) 8 (slot_height depth),
+      low,
+      byte_at_depth (H key) depth,
+    ) refl

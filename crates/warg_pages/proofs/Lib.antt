@@ -1,3 +1,6 @@
+mod Members
+mod LastPassing
+mod NumberedSlots
 mod ByteNumbers
 mod PageRoots
 mod SlotRanges
@@ -35,7 +38,7 @@ mod SlotDigests
 mod SplitChanges
 mod Refused
 mod FinalPeers
-mod Members
+mod SlotPages
 mod VisitedRoots
 mod AuditedMaps
 mod HeldKeys

@@ -14,7 +14,7 @@ use Rattle.warg_pages.specs.Pages.{slot_height}
 use Rattle.warg_pages.proofs.KeyPrefixes.{length-bits_from}
 use Rattle.warg_pages.proofs.PageFormat.{same_parts}
 use Rattle.warg_pages.proofs.BitParts.{key_at, last_at, shared_from, shared_bit, other_bit_is}
-use Rattle.warg_pages.proofs.ValuesAbove.{alone_root, value_above-empty}
+use Rattle.warg_pages.proofs.ValuesAbove.{alone_root, value_above-empty, heads, tails}
 
 -- the bits at which a key parts from a lone one, from both sides
 fork : (H : List ℕ → List ℕ) (b : Bool) (x e : List ℕ) → H (input_beside b x e) ≡ H (input_beside (not b) e x)
@@ -35,13 +35,6 @@ parted_value H leaf y (c ∷ p) r o b n e =
     rw (parted_value H leaf y p r o b n e, height) refl
 
 -- the peers there
-pub tails : (c : Bool) {q r : List Bool} → c ∷ q ≡ c ∷ r → q ≡ r
-tails c e = cc
-
-pub heads : (c : Bool) {q r : List Bool} → ¬ (not c ∷ q ≡ c ∷ r)
-heads true e = cc e
-heads false e = cc e
-
 heads_back : (c : Bool) {q r : List Bool} → ¬ (c ∷ q ≡ not c ∷ r)
 heads_back true e = cc e
 heads_back false e = cc e
@@ -68,15 +61,15 @@ parted_peers H held leaf y (c ∷ p) r o b n e h = (
 )
 
 -- and those of the lone key itself
-pub own_end : (H : List ℕ → List ℕ) (held : List Bool → Option (List ℕ)) (leaf : List ℕ) (bits : List Bool)
-    → HoldsAlone held bits leaf → IsPeers H (λ k. None) held bits []
-unfolding IsPeers
-own_end H held leaf bits h = h.others
+module _ (H : List ℕ → List ℕ) (held : List Bool → Option (List ℕ)) (leaf : List ℕ) (bits : List Bool)
+    (h : HoldsAlone held bits leaf) where
+  pub own_end : IsPeers H (λ k. None) held bits []
+  unfolding IsPeers
+  own_end = h.others
 
-pub alone_value : (H : List ℕ → List ℕ) (held : List Bool → Option (List ℕ)) (leaf : List ℕ) (bits : List Bool)
-    → HoldsAlone held bits leaf → root_of_levels H (length bits) held ≡ value_above H 0 [] leaf bits
-alone_value H held leaf bits h = alone_root H held bits h.others
-    ∙ ap (λ t. value_above H 0 [] (unwrap_or t (empty_root H 0)) bits) h.this
+  pub alone_value : root_of_levels H (length bits) held ≡ value_above H 0 [] leaf bits
+  alone_value = alone_root H held bits h.others
+      ∙ ap (λ t. value_above H 0 [] (unwrap_or t (empty_root H 0)) bits) h.this
 
 pub nothing_end : (H : List ℕ → List ℕ) (held : List Bool → Option (List ℕ)) (bits : List Bool)
     → ((q : List Bool) → held q ≡ None) → IsPeers H (λ k. None) held bits []
@@ -105,15 +98,20 @@ held_end H key depth index slot lone lt same root version = record {
   index = (version, same);
 }
 
+-- the root of a lone key that stands alone
+alone_digest : (H : List ℕ → List ℕ) {p : List Bool} {lone : List ℕ × List ℕ} {height : ℕ} {digest : List ℕ}
+    {f : List Bool → Option (List ℕ)} (key : List ℕ) (stands : StandsAlone H p lone height digest f)
+    → stands.rest ≡ last_bits key height → lone_root H key lone.1 height ≡ digest
+alone_digest H {height = height} {f = f} key stands is =
+    let size : length stands.rest ≡ height = rw is (length-last_bits key height) in
+    rw (← is) (sym (rw size at (alone_value H f _ stands.rest stands.alone)) ∙ sym stands.is_root)
+
 -- a lone key with this digest that has another root doesn't stand alone
 pub held_no_end : (H : List ℕ → List ℕ) (key : List ℕ) (depth : ℕ) (slot : SlotAt) (lone : List ℕ × List ℕ) → depth < 32
     → bits_from key 0 256 ≡ bits_from lone.0 0 256 → ¬ (lone_root H key lone.1 (slot_height depth) ≡ slot.digest)
     → IsNoLoneKey H key depth slot lone
 held_no_end H key depth slot lone lt same other f stands some =
-    let rest : last_bits key (slot_height depth) ≡ stands.rest = rest_is key lone.0 depth lt same stands.begins in
-    let size : length stands.rest ≡ slot_height depth = rw (← rest) (length-last_bits key _) in
-    other (rw rest (sym (alone_value H f lone.1 stands.rest stands.alone)
-    ∙ ap (λ k. root_of_levels H k f) size ∙ sym stands.is_root))
+    other (alone_digest H key stands (sym (rest_is key lone.0 depth lt same stands.begins)))
 
 -- a lone key that parts from the digest
 pub record Parting (key other : List ℕ) (depth shared : ℕ) : Type 0 where
@@ -138,8 +136,8 @@ module _ {key other : List ℕ} {depth shared : ℕ} (h : Parting key other dept
   other_parts : last_bits other (slot_height depth) ≡ front ++ not (bit_at key shared) ∷ last_bits other (255 - shared)
   other_parts =
       let same = (shared_from key other _ shared h.below h.same).1 in
-      let bit = other_bit_is _ _ h.apart in
-      below_slot other ∙ (λ i. sym same i ++ bit i ∷ last_bits other (255 - shared))
+      let bit = other_bit_is (bit_at key shared) (bit_at other shared) h.apart in
+      rw (below_slot other, ← same, bit) refl
 
   other_rest : {rest : List Bool} → last_bits other 256 ≡ bits_from key 0 (8 * depth + 8) ++ rest
       → rest ≡ last_bits other (slot_height depth)
@@ -159,58 +157,53 @@ length-replicate (suc n) = ap suc (length-replicate n)
 abbrev pub parting_peers : ℕ → List ℕ → List (Option (List ℕ))
 parting_peers n tree = replicate n None ++ Some tree ∷ []
 
-pub parted_end : (H : List ℕ → List ℕ) (key : List ℕ) (depth shared : ℕ) (slot : SlotAt) (lone : List ℕ × List ℕ)
-    (tree : List ℕ) → Parting key lone.0 depth shared → tree ≡ lone_root H lone.0 lone.1 (255 - shared)
-    → lone_root H lone.0 lone.1 (slot_height depth) ≡ slot.digest
-    → EndsAt H key depth slot lone (parting_peers (shared - (8 * depth + 8)) tree) None
-parted_end H key depth shared slot lone tree h is root =
-    record {
-      few = rw (
-        length-append _ _,
-        length-replicate _,
-      ) (omega arith);
-      leads = rw (below_slot h key) (ap (λ n. value_above H 0 (parting_peers n tree) (empty_root H 0)
-          (front h ++ bit_at key shared ∷ last_bits key (255 - shared))) (sym size)
-          ∙ parted_value H lone.1 tree (front h) _ _ _ sizes is
-          ∙ ap (value_above H 0 [] lone.1) (sym (other_parts h)) ∙ root);
-      own = own;
-      index = tt;
-    }
-  where
-    size : length (front h) ≡ shared - (8 * depth + 8)
-    size = length-bits_from key _ _
+module _ (H : List ℕ → List ℕ) (key : List ℕ) (depth shared : ℕ) (slot : SlotAt) (lone : List ℕ × List ℕ) where
+  pub parted_end : (tree : List ℕ) → Parting key lone.0 depth shared → tree ≡ lone_root H lone.0 lone.1 (255 - shared)
+      → lone_root H lone.0 lone.1 (slot_height depth) ≡ slot.digest
+      → EndsAt H key depth slot lone (parting_peers (shared - (8 * depth + 8)) tree) None
+  parted_end tree h is root =
+      record {
+        few = rw (
+          length-append _ _,
+          length-replicate _,
+        ) (omega arith);
+        leads = rw (below_slot h key) (ap (λ n. value_above H 0 (parting_peers n tree) (empty_root H 0)
+            (front h ++ bit_at key shared ∷ last_bits key (255 - shared))) (sym size)
+            ∙ parted_value H lone.1 tree (front h) _ _ _ sizes is
+            ∙ ap (value_above H 0 [] lone.1) (sym (other_parts h)) ∙ root);
+        own = own;
+        index = tt;
+      }
+    where
+      size : length (front h) ≡ shared - (8 * depth + 8)
+      size = length-bits_from key _ _
 
-    sizes : length (last_bits key (255 - shared)) ≡ length (last_bits lone.0 (255 - shared))
-    sizes = length-last_bits key _ ∙ sym (length-last_bits lone.0 _)
+      sizes : length (last_bits key (255 - shared)) ≡ length (last_bits lone.0 (255 - shared))
+      sizes = length-last_bits key _ ∙ sym (length-last_bits lone.0 _)
 
-    own : (f : List Bool → Option (List ℕ)) → StandsAlone H (bits_from key 0 (8 * depth + 8)) lone
-        (slot_height depth) slot.digest f
-        → IsPeers H (λ k. None) f (last_bits key (slot_height depth)) (parting_peers (shared - (8 * depth + 8)) tree)
-        × (f (last_bits key (slot_height depth)) ≡ None)
-    own f stands =
-        let alone = rw (other_rest h stands.begins ∙ other_parts h) at stands.alone in
-        let peers = parted_peers H f lone.1 tree (front h) _ _ _ sizes is alone in (
-          rw (below_slot h key) (rw size at peers),
-          rw (below_slot h key) (alone.others _ (λ e. heads_back _ (append_cancel_left (front h) _ _ e))),
-        )
+      own : (f : List Bool → Option (List ℕ)) → StandsAlone H (bits_from key 0 (8 * depth + 8)) lone
+          (slot_height depth) slot.digest f
+          → IsPeers H (λ k. None) f (last_bits key (slot_height depth)) (parting_peers (shared - (8 * depth + 8)) tree)
+          × (f (last_bits key (slot_height depth)) ≡ None)
+      own f stands =
+          let alone = rw (other_rest h stands.begins ∙ other_parts h) at stands.alone in
+          let peers = parted_peers H f lone.1 tree (front h) _ _ _ sizes is alone in (
+            rw (below_slot h key) (rw size at peers),
+            rw (below_slot h key) (alone.others _ (λ e. heads_back _ (append_cancel_left (front h) _ _ e))),
+          )
 
-pub parted_no_end : (H : List ℕ → List ℕ) (key : List ℕ) (depth shared : ℕ) (slot : SlotAt) (lone : List ℕ × List ℕ)
-    → Parting key lone.0 depth shared → ¬ (lone_root H lone.0 lone.1 (slot_height depth) ≡ slot.digest)
-    → IsNoLoneKey H key depth slot lone
-parted_no_end H key depth shared slot lone h other f stands some =
-    let rest = other_rest h stands.begins in
-    let size : length stands.rest ≡ slot_height depth = rw rest (length-last_bits lone.0 _) in
-    other (rw (← rest) (sym (alone_value H f lone.1 stands.rest stands.alone)
-    ∙ ap (λ k. root_of_levels H k f) size ∙ sym stands.is_root))
+  pub parted_no_end : Parting key lone.0 depth shared → ¬ (lone_root H lone.0 lone.1 (slot_height depth) ≡ slot.digest)
+      → IsNoLoneKey H key depth slot lone
+  parted_no_end h other f stands some =
+      other (alone_digest H lone.0 stands (other_rest h stands.begins))
 
--- a lone key that doesn't begin with its slot's prefix
-pub other_prefix : (H : List ℕ → List ℕ) (key : List ℕ) (depth shared : ℕ) (slot : SlotAt) (lone : List ℕ × List ℕ)
-    → depth < 32 → shared < 8 * depth + 8 → ¬ (bit_at key shared ≡ bit_at lone.0 shared)
-    → IsNoLoneKey H key depth slot lone
-other_prefix H key depth shared slot lone lt less apart f stands some =
-    let first = same_parts _ _ _ stands.rest (length-bits_from lone.0 0 _
-    ∙ sym (length-bits_from key 0 _)) (sym (key_at lone.0 _ (omega arith)) ∙ stands.begins) in
-    apart (sym (shared_bit lone.0 key _ shared less first.0))
+  -- a lone key that doesn't begin with its slot's prefix
+  pub other_prefix : depth < 32 → shared < 8 * depth + 8 → ¬ (bit_at key shared ≡ bit_at lone.0 shared)
+      → IsNoLoneKey H key depth slot lone
+  other_prefix lt less apart f stands some =
+      let first = same_parts _ _ _ stands.rest (length-bits_from lone.0 0 _
+      ∙ sym (length-bits_from key 0 _)) (sym (key_at lone.0 _ (omega arith)) ∙ stands.begins) in
+      apart (sym (shared_bit lone.0 key _ shared less first.0))
 
 pub replicate-more : (n : ℕ) → replicate {A = Option (List ℕ)} n None ++ None ∷ [] ≡ replicate (n + 1) None
 replicate-more n = let all : n + 1 ≡ suc n = omega arith in snoc n ∙ ap (λ m. replicate m None) (sym all)

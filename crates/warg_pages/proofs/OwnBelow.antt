@@ -1,8 +1,6 @@
 -- What stands below a slot of insertions.
-use Rattle.std.proofs.Common.{◌≡◌, ◌≢◌, ℕ, zero, suc, ◌+◌, ◌*◌, ◌<◌, Bool, true, false, List, [], ◌∷◌, ◌++◌, length, take, Option, Some, None, refl, sym, ap, subst, ◌∙◌, arith, length-append, eq-eqb}
+use Rattle.std.proofs.Common.{◌≡◌, ◌≢◌, ℕ, ◌+◌, ◌*◌, ◌<◌, Bool, true, false, List, [], ◌∷◌, ◌++◌, length, take, Option, Some, None, refl, sym, ap, ◌∙◌, arith, length-append, eq-eqb}
 use Rattle.std.proofs.lemmas.Bool.{ne_eqb}
-use Rattle.std.proofs.lemmas.List.{length-take}
-use Rattle.std.proofs.lemmas.List.Elements.{All-take}
 use Rattle.std.specs.Prelude.{slice_index, IfSome}
 use Rattle.std.specs.List.{All, filter_map}
 use Rattle.warg_crypto.specs.Digests.{IsByte}
@@ -14,29 +12,23 @@ use Rattle.warg_pages.specs.Slots.{SlotAt, IsPage, is_lone, slot_over, slot_of, 
 use Rattle.warg_pages.specs.PageBytes.{page_bytes}
 use Rattle.warg_pages.specs.PageInsertions.{with_slot}
 use Rattle.warg_pages.specs.Private.Updates.{IsOwnBelow, lone_slot, slot_one_down}
-use Rattle.warg_pages.proofs.PageFormat.{one_page, same_parts}
+use Rattle.warg_pages.proofs.PageFormat.{one_page}
 use Rattle.warg_pages.proofs.KeyPrefixes.{length-bits_from}
-use Rattle.warg_pages.proofs.BitParts.{key_at}
 use Rattle.warg_pages.proofs.OwnPages.{own_slots}
-use Rattle.warg_pages.proofs.OwnDescent.{own_slot_over, bits_of_taken}
-use Rattle.warg_pages.proofs.HeldHalves.{begins-rest}
-use Rattle.warg_pages.proofs.LoneSlots.{lone_of, last_passes, some_same}
+use Rattle.warg_pages.proofs.OwnDescent.{own_slot_over}
+use Rattle.warg_pages.proofs.LoneSlots.{lone_of, some_same}
+use Rattle.warg_pages.proofs.Members.{none_of_each}
+use Rattle.warg_pages.proofs.LastPassing.{last_found}
 use Rattle.warg_pages.proofs.OneMore.{with_one}
 use Rattle.warg_pages.proofs.MoreInsertions.{none_longer, lone_longer, lone_elsewhere}
-use Rattle.warg_pages.proofs.PrefixBytes.{length-bits, begins-more, same_bytes}
+use Rattle.warg_pages.proofs.PrefixBytes.{length-bits, begins-more, taken_is}
 use Rattle.warg_pages.proofs.SlotsAfter.{lone_slot_is}
-
--- no slot at any byte
-no_slots : (f : ℕ → Option SlotAt) (first n : ℕ) → ((t : ℕ) → f t ≡ None) → filter_map f (numbers first n) ≡ []
-unfolding numbers
-no_slots f first zero h = refl
-no_slots f first (suc n) h = rw (h first, no_slots f (first + 1) n h) refl
 
 pub nothing_below : (H : List ℕ → List ℕ) (es : List (List ℕ × List ℕ)) (p : List Bool) (s : ℕ)
     (last : Option (List ℕ × List ℕ)) → last_with (is_below H p) es ≡ last → None ≡ slot_over H es p s last
     → page_of H es p ≡ []
 unfolding page_of
-nothing_below H es p s None l e = no_slots _ 0 256
+nothing_below H es p s None l e = none_of_each _ (numbers 0 256)
     (λ t. ap (slot_over H es (p ++ byte_bits t) t) (none_longer H p _ es l))
 nothing_below H es p s _ l e = absurd cc
 
@@ -45,7 +37,7 @@ one_slot : (f : ℕ → Option SlotAt) (x : SlotAt) → x.byte < 256 → f x.byt
     → ((t : ℕ) → t < 256 → ¬ (t ≡ x.byte) → f t ≡ None) → filter_map f (numbers 0 256) ≡ x ∷ []
 unfolding with_slot
 one_slot f x lt here other = with_one (λ t. None) f x 0 256 (λ t. tt) other here (omega arith) (omega arith)
-    (omega arith) ∙ ap (with_slot x) (no_slots (λ t. None) 0 256 (λ t. refl))
+    (omega arith) ∙ ap (with_slot x) (none_of_each (λ t. None) (numbers 0 256) (λ t. refl))
 
 -- a lone key below a prefix
 pub one_below : (H : List ℕ → List ℕ) → GivesHashes H → (es : List (List ℕ × List ℕ)) (p : List Bool) (depth : ℕ)
@@ -60,7 +52,7 @@ one_below H gives es p depth e size lt last lone =
     fits = let is = gives (e.0) in let all = is.has_32 in is.are_bytes depth 0 (omega arith)
 
     under : is_below H p e ≡ true
-    under = last_passes _ es e last
+    under = (last_found _ es e last).1
 
     sizes : (t : ℕ) → length (p ++ byte_bits t) ≡ 8 * depth + 8
     sizes t = length-append p _ ∙ (let n = length-bits_from (t ∷ []) 0 8 in omega arith)
@@ -98,21 +90,11 @@ own_over H gives es prefix s (Some f) x lone bytes short l e is =
     let same = some_same e in
     let found = lone_of (is_lone H es p f) (H f.0, leaf_digest H f.1) lone (sym (ap (λ (y : SlotAt). y.lone) same)
     ∙ is) in
-    let under = last_passes (is_below H p) es f l in
-    let rest = begins-rest p _ under in
-    let bits = (same_parts p rest.0 _ _ (size ∙ sym (length-bits_from _ 0 _))
-    (sym rest.1 ∙ key_at _ _ (omega arith))).0 in
-    let is_digest = gives f.0 in
-    let has = is_digest.has_32 in
-    let taken : length (take (length prefix) (H f.0)) ≡ length prefix = let all = length-take (length prefix) (H f.0) in
-    omega arith in
-    let begins : take (length prefix) (H f.0) ≡ prefix = same_bytes _ prefix
-    (All-take IsByte (length prefix) (H f.0) is_digest.are_bytes) bytes taken
-    (bits_of_taken _ _ (omega arith) ∙ sym bits) in
+    let under = (last_found (is_below H p) es f l).1 in
+    let begins = taken_is (H f.0) prefix (gives f.0) bytes (omega arith) under in
     let page = one_below H gives es p _ f size short l found.0 in
     let version_is : version H es p ≡ x.version = sym (ap (λ (y : SlotAt). y.version) same) in
-    let P : List ℕ × List ℕ → Type 0 = λ l. OwnLoneBelow H es prefix x l in
-    subst P found.1 record {
+    rw (← found.1) record {
       begins = begins;
       page = page ∙ ap (λ v. lone_slot H (length prefix) (slice_index (H f.0) (length prefix)) v
           (H f.0, leaf_digest H f.1) ∷ []) version_is;

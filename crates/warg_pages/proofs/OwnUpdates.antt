@@ -1,6 +1,5 @@
 -- What becomes of a slot, and of a page, where the pages are those of insertions.
-use Rattle.std.proofs.Common.{◌≡◌, ℕ, zero, suc, ◌+◌, ◌-◌, ◌*◌, ◌<◌, Bool, true, false, cond, eqb, List, [], ◌∷◌, ◌++◌, length, Option, Some, None, refl, sym, ap, subst, ◌∙◌, arith, length-append}
-use Rattle.std.proofs.lemmas.Bool.{eqb-true}
+use Rattle.std.proofs.Common.{◌≡◌, ℕ, zero, suc, ◌+◌, ◌-◌, ◌*◌, ◌<◌, Bool, true, List, [], ◌∷◌, ◌++◌, length, Option, Some, None, refl, sym, ap, ◌∙◌, arith, length-append}
 use Rattle.std.proofs.lemmas.List.Elements.{All-nil, All-cons, All-append, filter_map-append}
 use Rattle.std.specs.Prelude.{IfSome}
 use Rattle.std.specs.Option.{option_map}
@@ -18,16 +17,17 @@ use Rattle.warg_pages.specs.OwnPages.{stands}
 use Rattle.warg_pages.specs.ChangedPages.{ChangedPageAt, page_at, ChangesAt}
 use Rattle.warg_pages.specs.Private.Descents.{lone_root}
 use Rattle.warg_pages.specs.Private.Updates.{ChangeAt, changes_from, changes_below, goes_to, IsOwnChange, IsOwnUpdate, IsUpdated, IsUpdatedSlot, IsOwnBelow, IsReadBelow, GoesOn, GoesBelow, AreChangedAmong, lone_slot, slot_digest, StaysAlone, HasLoneDigest}
-use Rattle.warg_pages.proofs.PageRoots.{page_root, digest_of, slot_digest as same_slot_digest}
+use Rattle.warg_pages.proofs.PageRoots.{page_root, slot_digest as same_slot_digest, own_slot_at}
 use Rattle.warg_pages.proofs.OwnPages.{version_within}
-use Rattle.warg_pages.proofs.OwnDescent.{own_slot_at}
-use Rattle.warg_pages.proofs.LoneSlots.{last_passes, some_same, lone_of}
-use Rattle.warg_pages.proofs.OwnWays.{some_version, all_one}
-use Rattle.warg_pages.proofs.MoreInsertions.{quiet_slot, quiet_version, none_longer, last_with-later, last_place-later}
+use Rattle.warg_pages.proofs.LoneSlots.{some_same, lone_of}
+use Rattle.warg_pages.proofs.OwnWays.{all_one}
+use Rattle.warg_pages.proofs.LastPassing.{last_found, place_some, last_with-later, last_place-later}
+use Rattle.warg_pages.proofs.MoreInsertions.{quiet_slot, quiet_version, none_longer}
 use Rattle.warg_pages.proofs.ChangesBelow.{last_of, put_by, last_change, filtered_again}
 use Rattle.warg_pages.proofs.PrefixBytes.{length-bits, bits-append, bits-more, begins-more}
 use Rattle.warg_pages.proofs.ChangedAmong.{none_among, whole_among}
 use Rattle.warg_pages.proofs.SlotsAfter.{stays_lone, lone_stays, lone_over_is, lone_slot_is, no_page_lone, page_not_lone, page_slot_is}
+use Rattle.warg_pages.proofs.NumberedSlots.{slot_there, digest_of-slot}
 
 -- the changes of a byte
 key_digests : (H : List ℕ → List ℕ) → GivesHashes H → (n : ℕ) (es : List (List ℕ × List ℕ))
@@ -97,13 +97,9 @@ named_digest H old prefix byte slot is =
     let height : 256 - length q ≡ slot_height (length prefix) = omega arith in
     let all : slot_height (length prefix) ≡ 256 - 8 * length (prefix ++ byte ∷ []) = let n = length-append prefix
     (byte ∷ []) in omega arith in
-    rw is (as_digest (slot_over H old q byte (last_with (is_below H q) old))
+    rw is (digest_of-slot H (length prefix) (slot_over H old q byte (last_with (is_below H q) old))
     ∙ same_slot_digest H (slot_height (length prefix)) old q byte (last_with (is_below H q) old) refl height
     ∙ ap (λ n. root_of_levels H n (below (map_of H old) q)) all)
-  where
-    as_digest : (o : Option SlotAt) → slot_digest H (length prefix) o ≡ digest_of H (slot_height (length prefix)) o
-    as_digest None = refl
-    as_digest (Some x) = refl
 
 -- an own slot's lone key has the slot's digest
 has_digest : (H : List ℕ → List ℕ) (es : List (List ℕ × List ℕ)) (q : List Bool) (depth s : ℕ)
@@ -113,9 +109,7 @@ has_digest H es q depth s None size lt l = tt
 has_digest H es q depth s (Some e) size lt l = λ lone is.
     let found = lone_of (is_lone H es q e) (H e.0, leaf_digest H e.1) lone is in
     let height : 256 - length q ≡ slot_height depth = omega arith in
-    let P : List ℕ × List ℕ → Type 0 = λ v. lone_root H v.0 v.1 (slot_height depth) ≡ root_of_levels H (256 - length q)
-    (below (map_of H es) q) in
-    subst P found.1 (sym (lone_over_is H es q s e l found.0 (omega arith)
+    rw (← found.1) (sym (lone_over_is H es q s e l found.0 (omega arith)
     ∙ ap (lone_root H (H e.0) (leaf_digest H e.1)) height))
 
 -- a byte of an own page, and the changes that go to it
@@ -212,7 +206,7 @@ module _ {H : List ℕ → List ℕ} (gives : GivesHashes H) {bytes_at : List �
       ap (λ (c : ChangeAt). c.version) there.is_change in
       let of_all = last_with-later (is_below H q) old more there.last there.is_last in
       let place = last_place-later (is_below H q) old more there.last there.is_last in
-      let some = some_version (is_below H q) more there.last there.is_last in
+      let some = place_some (is_below H q) more there.last there.is_last in
       let n = length-append prefix (byte ∷ []) in
       record {
         own = record {
@@ -240,7 +234,7 @@ module _ {H : List ℕ → List ℕ} (gives : GivesHashes H) {bytes_at : List �
       let there = last_here c last in
       let size = sizes prefix byte in
       not_alone there other (all_one H q there.last (old ++ more) (omega arith)
-      (last_passes (is_below H q) more there.last there.is_last))
+      ((last_found (is_below H q) more there.last there.is_last).1))
 
   pub slot_has_digest : HasLoneDigest H (length prefix) (slot_at slots byte)
   slot_has_digest = rw slot_is (has_digest H old (bits_with prefix byte) (length prefix) byte
@@ -319,10 +313,8 @@ page_updated {H} {prefix = prefix} {number = number} {fresh = fresh} {old = old}
 
 -- the slot of a byte has it
 pub slot_at-byte : (xs : List SlotAt) (s : ℕ) → IfSome (slot_at xs s) (λ x. x.byte ≡ s)
-slot_at-byte [] s = tt
-slot_at-byte (x ∷ xs) s = either _ refl (slot_at-byte xs s)
+slot_at-byte xs s = by_slot _ refl
   where
-    either : (b : Bool) → eqb x.byte s ≡ b → IfSome (slot_at xs s) (λ y. y.byte ≡ s)
-        → IfSome (cond b (Some x) (slot_at xs s)) (λ y. y.byte ≡ s)
-    either true t h = eqb-true x.byte s t
-    either false f h = h
+    by_slot : (o : Option SlotAt) → slot_at xs s ≡ o → IfSome o (λ x. x.byte ≡ s)
+    by_slot None e = tt
+    by_slot (Some x) e = (slot_there xs s x e).1

@@ -1,8 +1,8 @@
 -- Pages as bytes: what begins with a slot's bytes begins with one slot's alone.
-use Rattle.std.proofs.Common.{◌≡◌, ℕ, ◌+◌, ◌^◌, ◌<◌, List, [], ◌∷◌, ◌++◌, length, take, drop, get_or, zero, suc, Option, Some, None, refl, sym, ap, ◌∙◌, arith, ◌≢◌, false, inl, inr, eqb, ◌-◌, ◌≤◌, lit<}
+use Rattle.std.proofs.Common.{◌≡◌, ℕ, ◌+◌, ◌^◌, ◌<◌, List, [], ◌∷◌, ◌++◌, length, take, drop, get_or, Option, Some, None, refl, sym, ap, ◌∙◌, arith, ◌≢◌, false, inl, inr, eqb, ◌-◌, ◌≤◌, lit<}
 use Rattle.std.proofs.lemmas.Bool.{eqb-false, cases_lt}
 use Rattle.std.proofs.lemmas.Nat.{from_be_bytes-to_be_bytes_8, be_bytes_8}
-use Rattle.std.proofs.lemmas.List.{append_assoc, append-nil, take_at, drop_at, length-append, length-take, get_or-take, get_or-drop, get_or_past, take-append-drop}
+use Rattle.std.proofs.lemmas.List.{append_assoc, append-nil, take_at, drop_at, length-append, length-take, get_or-take, get_or-drop, get_or_past, take-append-drop, get_or_append_left}
 use Rattle.std.proofs.lemmas.List.Elements.{All-head, All-tail, All-push, All-take, All-from_get_or}
 use Rattle.std.proofs.lemmas.List.Quantifiers.{all_pairs_push}
 use Rattle.std.specs.List.{All}
@@ -10,6 +10,7 @@ use Rattle.std.specs.Int.{to_be_bytes, from_be_bytes, w64}
 use Rattle.warg_crypto.specs.Digests.{IsDigest}
 use Rattle.warg_pages.specs.Slots.{SlotAt, IsLone, IsSlot, IsPage, Ascends}
 use Rattle.warg_pages.specs.PageBytes.{kind_of, lone_bytes, slot_bytes, page_bytes}
+use Rattle.std.proofs.Math.Seq.{get_or-append_seam}
 
 -- parts of one length, and what is behind them
 pub same_parts : {X : Type 0} (a b c d : List X) → length a ≡ length c → a ++ b ≡ c ++ d → (a ≡ c) × (b ≡ d)
@@ -25,8 +26,8 @@ eight n = refl
 pub same_lone : (l m : Option (List ℕ × List ℕ)) (xs ys : List ℕ) → IsLone l → IsLone m → kind_of l ≡ kind_of m
     → lone_bytes l ++ xs ≡ lone_bytes m ++ ys → (l ≡ m) × (xs ≡ ys)
 same_lone None None xs ys hl hm k e = (refl, e)
-same_lone None (Some m) xs ys hl hm k e = absurd (omega arith)
-same_lone (Some l) None xs ys hl hm k e = absurd (omega arith)
+same_lone None _ xs ys hl hm k e = absurd (omega arith)
+same_lone _ None xs ys hl hm k e = absurd (omega arith)
 same_lone (Some l) (Some m) xs ys hl hm k e =
     let one = hl l refl in
     let two = hm m refl in
@@ -39,7 +40,7 @@ same_lone (Some l) (Some m) xs ys hl hm k e =
 pub slot_parts : (x : SlotAt) (behind : List ℕ) → slot_bytes x ++ behind ≡ x.byte ∷ kind_of x.lone ∷
     (to_be_bytes w64 x.version ++ (x.digest ++ (lone_bytes x.lone ++ behind)))
 slot_parts x behind = ap (λ t. x.byte ∷ kind_of x.lone ∷ t)
-    (append_assoc (to_be_bytes w64 x.version) (x.digest ++ lone_bytes x.lone) behind
+    (append_assoc (to_be_bytes w64 x.version) _ behind
     ∙ ap (λ t. to_be_bytes w64 x.version ++ t) (append_assoc x.digest (lone_bytes x.lone) behind))
 
 pub same_slot : (x y : SlotAt) (xs ys : List ℕ) → IsSlot x → IsSlot y → slot_bytes x ++ xs ≡ slot_bytes y ++ ys
@@ -85,7 +86,7 @@ one_page xs ys hx hy e =
 
 -- a slot more is read
 pub page_bytes-push : (xs : List SlotAt) (x : SlotAt) → page_bytes (xs ++ x ∷ []) ≡ page_bytes xs ++ slot_bytes x
-page_bytes-push [] x = append-nil (slot_bytes x)
+page_bytes-push [] x = append-nil _
 page_bytes-push (y ∷ xs) x = rw (page_bytes-push xs x)
     (sym (append_assoc (slot_bytes y) (page_bytes xs) (slot_bytes x)))
 
@@ -100,6 +101,15 @@ IsPage-push xs x page is below = record {
   are_slots = All-push IsSlot xs x page.are_slots is;
 }
 
+-- slots around one of them
+in_middle : (xs : List SlotAt) (z : SlotAt) (zs : List SlotAt) → All IsSlot (xs ++ z ∷ zs) → IsSlot z
+in_middle xs z zs h = rw (get_or-append_seam xs z zs z) at
+    (h (length xs) z (let all = length-append xs (z ∷ zs) in omega arith))
+
+in_front : (xs : List SlotAt) (z : SlotAt) (zs : List SlotAt) → Ascends (xs ++ z ∷ zs) → All (λ y. y.byte < z.byte) xs
+in_front xs z zs h = λ i d lt. rw (get_or_append_left xs (z ∷ zs) d i lt, get_or-append_seam xs z zs d) at
+    (h i _ d lt (let all = length-append xs (z ∷ zs) in omega arith))
+
 -- bytes that begin with no slot are no page's
 pub none_left : (bytes : List ℕ) (xs ys : List SlotAt) (rest : List ℕ) → IsPage xs → IsPage ys
     → bytes ≡ page_bytes xs ++ rest → 0 < length rest
@@ -111,10 +121,6 @@ none_left bytes xs ys rest hx hy read some none is =
     left : (zs : List SlotAt) → ys ≡ xs ++ zs → rest ≡ page_bytes zs → ⊥
     left [] all at = omega (arith, ap length at)
     left (z ∷ zs) all at = none z (page_bytes zs) (in_middle xs z zs (rw all at hy.are_slots)) at
-      where
-        in_middle : (xs : List SlotAt) (z : SlotAt) (zs : List SlotAt) → All IsSlot (xs ++ z ∷ zs) → IsSlot z
-        in_middle [] z zs h = All-head IsSlot z zs h
-        in_middle (x ∷ xs) z zs h = in_middle xs z zs (All-tail IsSlot x (xs ++ z ∷ zs) h)
 
 -- nor are those that begin with a slot that doesn't ascend
 pub falls_back : (bytes : List ℕ) (xs ys : List SlotAt) (x : SlotAt) (rest behind : List ℕ) → IsPage xs → IsPage ys
@@ -124,32 +130,6 @@ falls_back bytes xs ys x rest behind hx hy is read first back same =
     let more = read_first xs ys rest hx.are_slots hy.are_slots (sym read ∙ same) in
     left more.0 more.1 more.2
   where
-    in_middle : (xs : List SlotAt) (z : SlotAt) (zs : List SlotAt) → All IsSlot (xs ++ z ∷ zs) → IsSlot z
-    in_middle [] z zs h = All-head IsSlot z zs h
-    in_middle (y ∷ xs) z zs h = in_middle xs z zs (All-tail IsSlot y (xs ++ z ∷ zs) h)
-
-    in_front : (xs : List SlotAt) (z : SlotAt) (zs : List SlotAt) → Ascends (xs ++ z ∷ zs)
-        → All (λ y. y.byte < z.byte) xs
-    in_front xs z zs h = λ i d lt.
-        let all = length-append xs (z ∷ zs) in
-        front_below xs z zs i d lt (h i (length xs) d lt (omega arith))
-      where
-        front_at : (xs : List SlotAt) (z : SlotAt) (zs : List SlotAt) (i : ℕ) (d : SlotAt) → i < length xs
-            → get_or (xs ++ z ∷ zs) i d ≡ get_or xs i d
-        front_at [] z zs i d lt = absurd (omega arith)
-        front_at (y ∷ xs) z zs zero d lt = refl
-        front_at (y ∷ xs) z zs (suc i) d lt = front_at xs z zs i d (omega arith)
-
-        seam_at : (xs : List SlotAt) (z : SlotAt) (zs : List SlotAt) (d : SlotAt) → get_or (xs ++ z ∷ zs) (length xs) d
-            ≡ z
-        seam_at [] z zs d = refl
-        seam_at (y ∷ xs) z zs d = seam_at xs z zs d
-
-        front_below : (xs : List SlotAt) (z : SlotAt) (zs : List SlotAt) (i : ℕ) (d : SlotAt) → i < length xs
-            → (get_or (xs ++ z ∷ zs) i d).byte < (get_or (xs ++ z ∷ zs) (length xs) d).byte
-            → (get_or xs i d).byte < z.byte
-        front_below xs z zs i d lt h = rw (front_at xs z zs i d lt, seam_at xs z zs d) at h
-
     left : (zs : List SlotAt) → ys ≡ xs ++ zs → rest ≡ page_bytes zs → ⊥
     left [] all at = absurd (cc (sym first ∙ at))
     left (z ∷ zs) all at =
@@ -180,7 +160,7 @@ taken_digest bytes h le = record {
 two_first : (bytes : List ℕ) → 2 ≤ length bytes → bytes ≡ get_or bytes 0 0 ∷ get_or bytes 1 0 ∷ drop 2 bytes
 two_first [] le = absurd (omega arith)
 two_first (a ∷ []) le = absurd (omega arith)
-two_first (a ∷ b ∷ bytes) le = refl
+two_first _ le = refl
 
 -- a slot that is read
 pub whole_slot : (bytes version rest digest behind : List ℕ) (n : ℕ) (lone : Option (List ℕ × List ℕ)) (last : List ℕ)
@@ -224,7 +204,7 @@ cut_lone bytes version rest digest last long ve re is at none x behind slot e =
 pub behind_last : (xs : List SlotAt) (last : SlotAt) (byte : ℕ) → Ascends xs → 0 < length xs
     → ((d : SlotAt) → last ≡ get_or xs (length xs - 1) d) → last.byte < byte → All (λ x. x.byte < byte) xs
 behind_last xs last byte h some at low = λ k d lt. elim (cases_lt k (length xs - 1)) [
-  | inl before ↦ (let one = h k (length xs - 1) d before (omega arith) in let same : last.byte
+  | inl before ↦ (let one = h k _ d before (omega arith) in let same : last.byte
       ≡ (get_or xs (length xs - 1) d).byte = ap (λ (x : SlotAt). x.byte) (at d) in omega arith)
   | inr end ↦ (let here : k ≡ length xs - 1 = omega arith in let same : last.byte
       ≡ (get_or xs (length xs - 1) d).byte = ap (λ (x : SlotAt). x.byte) (at d) in rw here (omega arith))

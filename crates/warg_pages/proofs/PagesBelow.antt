@@ -4,8 +4,9 @@ use Rattle.warg_map.specs.Sparse.{root_of_levels, map_of}
 use Rattle.warg_pages.specs.Prefixes.{bits_of_bytes, byte_bits, below}
 use Rattle.warg_pages.specs.Slots.{SlotAt, slot_of, page_of}
 use Rattle.warg_pages.specs.Pages.{page_digest}
-use Rattle.warg_pages.proofs.PageRoots.{digest_of, slot_digest, page_root}
+use Rattle.warg_pages.proofs.PageRoots.{slot_digest, page_root}
 use Rattle.warg_pages.proofs.KeyPrefixes.{length-bits_from}
+use Rattle.warg_pages.proofs.NumberedSlots.{digest_of}
 
 pub page_below : (H : List ℕ → List ℕ) (es : List (List ℕ × List ℕ)) (p : List Bool) (depth s : ℕ) (x : SlotAt)
     → depth < 31 → length p ≡ 8 * depth → slot_of H es p s ≡ Some x
@@ -13,7 +14,7 @@ pub page_below : (H : List ℕ → List ℕ) (es : List (List ℕ × List ℕ)) 
 page_below H es p depth s x lt n h =
     let size : length (p ++ byte_bits s) ≡ 8 * (depth + 1) =
     rw (length-append p (byte_bits s), n, length-bits_from (s ∷ []) 0 8) (omega arith) in
-    ap (digest_of H (256 - 8 * (depth + 1))) (sym h) ∙ slot_digest H (256 - 8 * (depth + 1)) es
+    ap (digest_of H _) (sym h) ∙ slot_digest H (256 - 8 * (depth + 1)) es
     (p ++ byte_bits s) s _ refl (ap (λ k. 256 - k) size)
     ∙ sym (page_root H es (p ++ byte_bits s) (depth + 1) (omega arith) size)
 

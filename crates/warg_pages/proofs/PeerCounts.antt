@@ -10,7 +10,7 @@ use Rattle.warg_map.specs.Last.{same_bits}
 use Rattle.warg_map.proofs.ForCallers.{same_bits-true, same_bits-itself}
 use Rattle.warg_pages.specs.Private.Descents.{value_above}
 use Rattle.warg_pages.specs.Private.Finals.{EndsInSome}
-use Rattle.warg_pages.proofs.ValuesAbove.{value_above-None}
+use Rattle.warg_pages.proofs.ValuesAbove.{value_above-None, tails}
 
 -- who else is held shares fewer bits than there are peers
 pub count_above : (H : List ℕ → List ℕ) (held : List Bool → Option (List ℕ)) (bits : List Bool)
@@ -18,12 +18,12 @@ pub count_above : (H : List ℕ → List ℕ) (held : List Bool → Option (List
     → ¬ (q ≡ bits) → shared bits q < length os
 unfolding IsPeers
 count_above H held bits [] h q some n = absurd (let none = h q n in cc)
-count_above H held [] (o ∷ os) h q some n = absurd h
-count_above H held (b ∷ bits) (o ∷ os) h [] some n = omega arith
+count_above H held [] _ h q some n = absurd h
+count_above H held _ (o ∷ os) h [] some n = omega arith
 count_above H held (true ∷ bits) (o ∷ os) h (true ∷ q) some n = let less =
     count_above H (λ r. held (true ∷ r)) bits os h.1 q some (λ e. n (ap (λ t. true ∷ t) e)) in omega arith
-count_above H held (true ∷ bits) (o ∷ os) h (false ∷ q) some n = omega arith
-count_above H held (false ∷ bits) (o ∷ os) h (true ∷ q) some n = omega arith
+count_above H held (true ∷ bits) (o ∷ os) h _ some n = omega arith
+count_above H held _ (o ∷ os) h (true ∷ q) some n = omega arith
 count_above H held (false ∷ bits) (o ∷ os) h (false ∷ q) some n = let less =
     count_above H (λ r. held _) bits os h.1 q some (λ e. n (ap (λ t. false ∷ t) e)) in omega arith
 
@@ -38,14 +38,8 @@ other_half H k held y (inr some) = (some.1.0, some.1.1)
 
 further : (held : List Bool → Option (List ℕ)) (b : Bool) (bits : List Bool) (n : ℕ)
     → Reached (λ q. held (b ∷ q)) bits n → Reached held (b ∷ bits) (suc n)
-further held true bits n r = (true ∷ r.0, r.1, λ e. r.2 (tails e), ap suc r.3)
-  where
-    tails : {q : List Bool} → true ∷ q ≡ true ∷ bits → q ≡ bits
-    tails e = cc
-further held false bits n r = (false ∷ r.0, r.1, λ e. r.2 (tails e), ap suc r.3)
-  where
-    tails : {q : List Bool} → false ∷ q ≡ false ∷ bits → q ≡ bits
-    tails e = cc
+further held true bits n r = (true ∷ r.0, r.1, λ e. r.2 (tails true e), ap suc r.3)
+further held false bits n r = (false ∷ r.0, r.1, λ e. r.2 (tails false e), ap suc r.3)
 
 parts : (held : List Bool → Option (List ℕ)) (b : Bool) (bits : List Bool) → (q : List Bool)
     × (is_some (held (not b ∷ q)) ≡ true) → Reached held (b ∷ bits) 0
@@ -87,7 +81,7 @@ without_last H held [] [] short h = absurd h
 without_last H held (b ∷ bits) [] short h = alone held b bits short (empty_half H _ (λ q. held _) h.0) h.1
 without_last H held [] _ short h = absurd h
 without_last H held (b ∷ bits) (o ∷ os) short h =
-    (h.0, without_last H (λ q. held _) bits os (λ q n. short (b ∷ q) (λ e. n (omega arith))) h.1)
+    (h.0, without_last H (λ q. held _) bits os (λ q n. short _ (λ e. n (omega arith))) h.1)
 
 pub replicate-last : (os : List (Option (List ℕ))) (n : ℕ) → os ++ replicate (suc n) None
     ≡ (os ++ None ∷ []) ++ replicate n None

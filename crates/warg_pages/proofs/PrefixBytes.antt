@@ -1,7 +1,7 @@
 -- Prefixes of bytes, by their bits.
-use Rattle.std.proofs.Common.{◌≡◌, ℕ, suc, ◌+◌, ◌*◌, ◌/◌, ◌%◌, ◌<◌, Bool, true, false, ◌&&◌, eqb, List, [], ◌∷◌, ◌++◌, length, refl, sym, ap, ◌∙◌, arith, inl, inr, length-append}
+use Rattle.std.proofs.Common.{◌≡◌, ℕ, suc, ◌+◌, ◌*◌, ◌/◌, ◌%◌, ◌<◌, Bool, true, false, ◌&&◌, eqb, List, [], ◌∷◌, ◌++◌, length, refl, sym, ap, ◌∙◌, arith, inl, inr, length-append, take, ◌≤◌}
 use Rattle.std.proofs.lemmas.Bool.Decides.{eqb_tells}
-use Rattle.std.proofs.lemmas.List.{get_or_append_left, get_or-append-add}
+use Rattle.std.proofs.lemmas.List.{get_or_append_left, get_or-append-add, length-take}
 use Rattle.std.specs.Prelude.{slice_index}
 use Rattle.std.specs.List.{All}
 use Rattle.warg_crypto.specs.Digests.{IsDigest, IsByte}
@@ -12,7 +12,11 @@ use Rattle.warg_pages.proofs.ByteNumbers.{number, number-byte_bits}
 use Rattle.warg_pages.proofs.PageFormat.{same_parts}
 use Rattle.warg_pages.proofs.KeyPrefixes.{length-bits_from, bits_from-append, bits_from-same, key_split}
 use Rattle.warg_pages.proofs.HeldHalves.{begins-rest}
-use Rattle.warg_pages.proofs.OneMore.{longer, own_byte, other_byte}
+use Rattle.warg_pages.proofs.PageRoots.{longer}
+use Rattle.warg_pages.proofs.OneMore.{own_byte, other_byte}
+use Rattle.warg_pages.proofs.BitParts.{key_at}
+use Rattle.warg_pages.proofs.OwnDescent.{bits_of_taken}
+use Rattle.std.proofs.lemmas.List.Elements.{All-take}
 
 pub length-bits : (bytes : List ℕ) → length (bits_of_bytes bytes) ≡ 8 * length bytes
 length-bits bytes = length-bits_from bytes 0 _
@@ -21,8 +25,12 @@ length-bits bytes = length-bits_from bytes 0 _
 pub bits-append : (a b : List ℕ) → bits_of_bytes (a ++ b) ≡ bits_of_bytes a ++ bits_of_bytes b
 bits-append a b =
     let all : 8 * length (a ++ b) ≡ 8 * length a + 8 * length b = rw (length-append a b) (omega arith) in
-    rw all (bits_from-append _ 0 _ _
-    ∙ (λ i. bits_from-same _ a 0 0 _ front i ++ bits_from-same (a ++ b) b (0 + 8 * length a) 0 (8 * length b) back i))
+    rw (
+      all,
+      bits_from-append (a ++ b) 0 (8 * length a) (8 * length b),
+      bits_from-same (a ++ b) a 0 0 (8 * length a) front,
+      bits_from-same (a ++ b) b (0 + 8 * length a) 0 (8 * length b) back,
+    ) refl
   where
     front : (m : ℕ) → m < 8 * length a → bit_at (a ++ b) (0 + m) ≡ bit_at a (0 + m)
     front m lt = let low : (0 + m) / 8 < length a = omega arith in rw (get_or_append_left a b 0 _ low) refl
@@ -54,8 +62,8 @@ begins-more k p depth s is size lt byte = either (begins p _) refl
     either true h =
         let rest = begins-rest p _ h in
         let parts = same_parts p rest.0 _ _ (size ∙ sym (length-bits_from k 0 _)) (sym rest.1 ∙ split) in
-        let whole : last_bits k 256 ≡ p ++ (byte_bits (slice_index k depth) ++ last_bits k (slot_height depth)) = split
-        ∙ ap (λ q. q ++ (byte_bits (slice_index k depth) ++ last_bits k (slot_height depth))) (sym parts.0) in
+        let whole : last_bits k 256 ≡ p ++ (byte_bits (slice_index k depth) ++ last_bits k
+        (slot_height depth)) = rw parts.0 split in
         elim (eqb_tells (slice_index k depth) s) [
           | inl same ↦ rw whole
               (ap (λ n. begins (p ++ byte_bits s) (p ++ (byte_bits n ++ last_bits k (slot_height depth)))) same.1
@@ -77,3 +85,15 @@ same_bytes (x ∷ a) (y ∷ b) all other n e =
     let rest = same_bytes a b (λ i d lt. all (suc i) d (omega arith)) (λ i d lt. other (suc i) d (omega arith))
     (omega arith) parts.1 in
     λ i. first i ∷ rest i
+
+-- a key digest below a prefix begins with its bytes
+pub taken_is : (k prefix : List ℕ) → IsDigest k → All IsByte prefix → length prefix ≤ 32
+    → begins (bits_of_bytes prefix) (last_bits k 256) ≡ true → take (length prefix) k ≡ prefix
+taken_is k prefix is bytes short under =
+    let size = is.has_32 in
+    let rest = begins-rest _ _ under in
+    let bits = (same_parts (bits_of_bytes prefix) rest.0 _ _ (length-bits prefix ∙ sym (length-bits_from k 0 _))
+    (sym rest.1 ∙ key_at k (8 * length prefix) (omega arith))).0 in
+    let taken : length (take (length prefix) k) ≡ length prefix = omega (arith, length-take (length prefix) k) in
+    same_bytes _ prefix (All-take IsByte (length prefix) k is.are_bytes) bytes taken
+    (bits_of_taken k (length prefix) (omega arith) ∙ sym bits)

@@ -5,8 +5,7 @@ use Rattle.warg_map.proofs.ForCallers.{all_bits, last_held, same_bits-itself, sa
 use Rattle.std.specs.FinMap.{get}
 use Rattle.std.proofs.Common.{◌≡◌, ℕ, zero, suc, ◌+◌, ◌-◌, ◌*◌, ◌^◌, ◌<◌, ◌==◌, ◌⊎◌, inl, inr, Bool, true, false, List, [], ◌∷◌, ◌++◌, length, take, drop, Option, Some, None, if◌then◌else◌, refl, sym, ap, subst, ◌∙◌, arith, append-nil, unwrap_or}
 use Rattle.std.specs.Prelude.{replicate}
-use Rattle.std.specs.List.{filter_map}
-use Rattle.std.proofs.lemmas.Bool.{cases_lt, cond-false, ne_eqb, false_from_ne_true}
+use Rattle.std.proofs.lemmas.Bool.{cases_lt, false_from_ne_true}
 use Rattle.std.proofs.lemmas.List.{take-append-drop, length-append, length-take-le}
 use Rattle.std.proofs.lemmas.List.Elements.{All-replicate, All-cons, All-nil}
 use Rattle.std.proofs.Math.Nat.{pow-suc}
@@ -21,17 +20,14 @@ use Rattle.warg_pages.specs.Prefixes.{below, begins, byte_bits, last_place}
 use Rattle.warg_pages.specs.Slots.{SlotAt, IsSlot, IsPage, slot_of, numbers, page_of}
 use Rattle.warg_pages.specs.Pages.{digest_at, root_over, slot_height, page_digest}
 use Rattle.warg_pages.specs.GivenPages.{HaveSameDigests, AreInputsAt, input_over}
+use Rattle.warg_pages.proofs.Members.{none_of_each}
 use Rattle.warg_pages.proofs.PageRoots.{page_root}
+use Rattle.warg_pages.proofs.SlotRanges.{digest_other}
 
 -- The page of the empty map has no slots.
-no_slots : (H : List ℕ → List ℕ) (prefix : List Bool) (bytes : List ℕ) → filter_map (slot_of H [] prefix) bytes ≡ []
-unfolding last_with
-no_slots H prefix [] = refl
-no_slots H prefix (s ∷ bytes) = no_slots H prefix bytes
-
 pub empty_page : (H : List ℕ → List ℕ) → page_of H [] [] ≡ []
-unfolding page_of
-empty_page H = no_slots H [] _
+unfolding page_of last_with
+empty_page H = none_of_each (slot_of H [] []) (numbers 0 256) (λ s. refl)
 
 pub empty_digest : (H : List ℕ → List ℕ) → page_digest H 0 [] ≡ root_of_levels H 256 (below (map_of H []) [])
 empty_digest H = ap (page_digest H 0) (sym (empty_page H)) ∙ page_root H [] [] 0 (omega arith) refl
@@ -59,12 +55,6 @@ module _ (H : List ℕ → List ℕ) (slots : List SlotAt) where
   pub same_digest : Same 7 → page_digest H 0 slots ≡ page_digest H 0 []
   unfolding root_over
   same_digest same = ap H (same 0 0 (omega arith))
-
--- The digest of a slot, and of another byte.
-pub digest_other : (H : List ℕ → List ℕ) (height : ℕ) (x : SlotAt) (xs : List SlotAt) (s : ℕ) → ¬ (x.byte ≡ s)
-    → digest_at H height (x ∷ xs) s ≡ digest_at H height xs s
-unfolding digest_at
-digest_other H height x xs s other = cond-false _ _ _ (ne_eqb x.byte s other)
 
 abbrev pub slot : ℕ → List ℕ → SlotAt
 slot byte digest = record { byte = byte; version = 0; digest = digest; lone = None }
@@ -179,8 +169,7 @@ lone_bits = key_bits marked []
 begins_longer : (p q : List Bool) → 0 < length q → begins (p ++ q) p ≡ false
 begins_longer [] [] some = absurd (omega arith)
 begins_longer [] (b ∷ q) some = refl
-begins_longer (true ∷ p) q some = begins_longer p q some
-begins_longer (false ∷ p) q some = begins_longer p q some
+begins_longer (b ∷ p) q some = rw (begins_longer p q some) (grind arith)
 
 none_at_byte : (s : ℕ) → slot_of marked lone_key lone_bits s ≡ None
 unfolding last_with
@@ -188,14 +177,9 @@ none_at_byte s =
     let longer = begins_longer lone_bits (byte_bits s) (omega (arith, length-bits_from (s ∷ []) 0 8)) in
     rw longer refl
 
-none_at_bytes : (bytes : List ℕ) → filter_map (slot_of marked lone_key lone_bits) bytes ≡ []
-none_at_bytes [] = refl
-none_at_bytes (s ∷ bytes) =
-    rw (none_at_byte s) (none_at_bytes bytes)
-
 pub lone_page : page_of marked lone_key lone_bits ≡ []
 unfolding page_of
-lone_page = none_at_bytes _
+lone_page = none_of_each (slot_of marked lone_key lone_bits) (numbers 0 256) none_at_byte
 
 lone_held : get (map_of marked lone_key) (lone_bits ++ []) ≡ Some ones
 unfolding last_with

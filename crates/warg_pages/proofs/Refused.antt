@@ -13,12 +13,12 @@ err_and (Err e) P Q h f = f e h
 
 pub if_ok : {X E : Type 0} (r : Result X E) (P Q : X → Type 0) → IfOk r P → ((x : X) → P x → Q x) → IfOk r Q
 if_ok (Ok x) P Q h f = f x h
-if_ok (Err e) P Q h f = tt
+if_ok _ P Q h f = tt
 
 pub if_ok_both : {X E : Type 0} (r : Result X E) (P Q R : X → Type 0) → IfOk r P → IfOk r Q
     → ((x : X) → P x → Q x → R x) → IfOk r R
 if_ok_both (Ok x) P Q R h i f = f x h i
-if_ok_both (Err e) P Q R h i f = tt
+if_ok_both _ P Q R h i f = tt
 
 pub if_err : {X E : Type 0} (r : Result X E) (P Q : E → Type 0) → IfErr r P → ((e : E) → P e → Q e) → IfErr r Q
 if_err (Ok x) P Q h f = tt

@@ -1,5 +1,5 @@
 -- Slots with the same digests at the same bytes.
-use Rattle.std.proofs.Common.{◌≡◌, ℕ, ◌+◌, ◌<◌, cond, eqb, List, [], ◌∷◌, ◌++◌, length, map, take, get_or, refl, sym, ap, ◌∙◌}
+use Rattle.std.proofs.Common.{◌≡◌, ℕ, ◌+◌, ◌<◌, cond, eqb, List, [], ◌∷◌, length, map, take, get_or, refl, sym, ap, ◌∙◌}
 use Rattle.std.proofs.lemmas.List.{take_more, map-append}
 use Rattle.warg_crypto.specs.EmptyTrees.{empty_root}
 use Rattle.warg_pages.specs.Slots.{SlotAt}
@@ -28,7 +28,4 @@ pub one_more_same : (xs ys : List SlotAt) (i : ℕ) (x y : SlotAt) → i < lengt
     → map byte_and_digest (take i xs) ≡ map byte_and_digest (take i ys) → map byte_and_digest (take (i + 1) xs)
     ≡ map byte_and_digest (take (i + 1) ys)
 one_more_same xs ys i x y lt within is are byte digest e =
-    rw (take_more xs i x lt ∙ ap (λ z. take i xs ++ z ∷ []) (sym is))
-    (map-append byte_and_digest _ _ ∙ (λ j. e j ++ (byte j, digest j) ∷ [])
-    ∙ sym (ap (map byte_and_digest) (take_more ys i y within ∙ ap (λ z. take i ys ++ z ∷ []) (sym are))
-    ∙ map-append byte_and_digest _ _))
+    rw (take_more xs i x lt, take_more ys i y within, ← is, ← are, map-append, map-append, e, byte, digest) refl

@@ -2,7 +2,6 @@
 use Rattle.std.proofs.Common.{◌≡◌, ℕ, zero, suc, ◌+◌, ◌-◌, ◌^◌, ◌<◌, ◌≤◌, true, false, List, [], ◌∷◌, ◌++◌, length, take, drop, get_or, refl, sym, ap, ◌∙◌, arith, inl, inr, eq-eqb, ltb, eqb, ◌*◌, ◌%◌}
 use Rattle.std.proofs.lemmas.Bool.{cond-true, cond-false, false_from_ne_true, eqb-true, cases_order, ltb-true, ltb-false}
 use Rattle.std.proofs.lemmas.List.{get_or-take, get_or-drop, length-take, length-drop, take-append-drop}
-use Rattle.std.proofs.lemmas.List.Elements.{All-head, All-tail}
 use Rattle.std.proofs.lemmas.Nat.{one_shl}
 use Rattle.std.proofs.Math.Nat.{pow-suc}
 use Rattle.std.specs.List.{All}
@@ -33,33 +32,34 @@ Ascends-drop n xs h = λ i j d lt within.
     rw (get_or-drop n xs i d, get_or-drop n xs j d) (h (n + i) (n + j) d (omega arith) (omega arith))
 
 -- the digest at a number to one side of some slots
-at_other : (H : List ℕ → List ℕ) (height : ℕ) (x : SlotAt) (xs : List SlotAt) (s : ℕ) → ¬ (x.byte ≡ s)
+pub digest_other : (H : List ℕ → List ℕ) (height : ℕ) (x : SlotAt) (xs : List SlotAt) (s : ℕ) → ¬ (x.byte ≡ s)
     → digest_at H height (x ∷ xs) s ≡ digest_at H height xs s
 unfolding digest_at
-at_other H height x xs s n = cond-false _ _ _ (false_from_ne_true _ (λ e. n (eqb-true x.byte s e)))
+digest_other H height x xs s n = cond-false _ _ _ (false_from_ne_true _ (λ e. n (eqb-true x.byte s e)))
 
-pub at_right : (H : List ℕ → List ℕ) (height middle : ℕ) (l r : List SlotAt) (s : ℕ) → All (λ x. x.byte < middle) l
-    → middle ≤ s → digest_at H height (l ++ r) s ≡ digest_at H height r s
-at_right H height middle [] r s h le = refl
-at_right H height middle (x ∷ l) r s h le =
-    let head : x.byte < middle = All-head (λ (x : SlotAt). x.byte < middle) x l h in
-    at_other H height x (l ++ r) s (λ e. omega arith) ∙ at_right H height middle l r s
-    (All-tail (λ (x : SlotAt). x.byte < middle) x l h) le
+module _ (H : List ℕ → List ℕ) (height middle : ℕ) where
+  pub at_right : (l r : List SlotAt) (s : ℕ) → All (λ x. x.byte < middle) l → middle ≤ s
+      → digest_at H height (l ++ r) s ≡ digest_at H height r s
+  at_right [] r s h le = refl
+  at_right (x ∷ l) r s h le =
+      let head : x.byte < middle = h 0 x (omega arith) in
+      digest_other H height x _ s (λ e. omega arith) ∙ at_right l r s
+      (λ i d lt. h (suc i) d (omega arith)) le
 
-pub at_none : (H : List ℕ → List ℕ) (height middle : ℕ) (r : List SlotAt) (s : ℕ) → All (λ x. middle ≤ x.byte) r
-    → s < middle → digest_at H height r s ≡ empty_root H height
-unfolding digest_at
-at_none H height middle [] s h lt = refl
-at_none H height middle (x ∷ r) s h lt =
-    let head : middle ≤ x.byte = All-head (λ (x : SlotAt). middle ≤ x.byte) x r h in
-    at_other H height x r s (λ e. omega arith)
-    ∙ at_none H height middle r s (All-tail (λ (x : SlotAt). middle ≤ x.byte) x r h) lt
+  pub at_none : (r : List SlotAt) (s : ℕ) → All (λ x. middle ≤ x.byte) r → s < middle
+      → digest_at H height r s ≡ empty_root H height
+  unfolding digest_at
+  at_none [] s h lt = refl
+  at_none (x ∷ r) s h lt =
+      let head : middle ≤ x.byte = h 0 x (omega arith) in
+      digest_other H height x r s (λ e. omega arith)
+      ∙ at_none r s (λ i d lt. h (suc i) d (omega arith)) lt
 
-pub at_left : (H : List ℕ → List ℕ) (height middle : ℕ) (l r : List SlotAt) (s : ℕ) → All (λ x. middle ≤ x.byte) r
-    → s < middle → digest_at H height (l ++ r) s ≡ digest_at H height l s
-unfolding digest_at
-at_left H height middle [] r s h lt = at_none H height middle r s h lt
-at_left H height middle (x ∷ l) r s h lt = rw (at_left H height middle l r s h lt) refl
+  pub at_left : (l r : List SlotAt) (s : ℕ) → All (λ x. middle ≤ x.byte) r → s < middle
+      → digest_at H height (l ++ r) s ≡ digest_at H height l s
+  unfolding digest_at
+  at_left [] r s h lt = at_none r s h lt
+  at_left (x ∷ l) r s h lt = rw (at_left l r s h lt) refl
 
 -- trees over the same digests, and over none
 pub root_over-same : (H : List ℕ → List ℕ) (f g : ℕ → List ℕ) (first k : ℕ)
@@ -80,57 +80,55 @@ root_over-none H height first (suc k) =
     let at : suc k + height ≡ suc (k + height) = omega arith in
     rw (at, root_over-none H height first k, root_over-none H height (first + 2 ^ k) k) refl
 
-pub root_over-nil : (H : List ℕ → List ℕ) (height first k : ℕ) → root_over H (digest_at H height []) first k
-    ≡ empty_root H (height + k)
-unfolding digest_at
-root_over-nil H height first k = root_over-none H height first k ∙ ap (empty_root H) (omega arith)
+module _ (H : List ℕ → List ℕ) (height first k : ℕ) where
+  pub root_over-nil : root_over H (digest_at H height []) first k ≡ empty_root H (height + k)
+  unfolding digest_at
+  root_over-nil = root_over-none H height first k ∙ ap (empty_root H) (omega arith)
 
--- a tree over the slots on both sides of its middle
-pub root_over-split : (H : List ℕ → List ℕ) (height first k n : ℕ) (xs : List SlotAt)
-    → All (λ x. x.byte < first + 2 ^ k) (take n xs) → All (λ x. first + 2 ^ k ≤ x.byte) (drop n xs)
-    → root_over H (digest_at H height xs) first (suc k)
-    ≡ branch H (root_over H (digest_at H height (take n xs)) first k)
-    (root_over H (digest_at H height (drop n xs)) (first + 2 ^ k) k)
-unfolding root_over
-root_over-split H height first k n xs l r =
-    let whole : xs ≡ take n xs ++ drop n xs = sym (take-append-drop n xs) in
-    rw (
-      root_over-same H _ _ first k
-          (λ s le lt. ap (λ ys. digest_at H height ys s) whole ∙ at_left H height (first + 2 ^ k) _ _ s r lt),
-      root_over-same H _ _ (first + 2 ^ k) k
-          (λ s le lt. ap (λ ys. digest_at H height ys s) whole ∙ at_right H height (first + 2 ^ k) _ _ s l le),
-    ) refl
+  -- a tree over the slots on both sides of its middle
+  pub root_over-split : (n : ℕ) (xs : List SlotAt) → All (λ x. x.byte < first + 2 ^ k) (take n xs)
+      → All (λ x. first + 2 ^ k ≤ x.byte) (drop n xs) → root_over H (digest_at H height xs) first (suc k)
+      ≡ branch H (root_over H (digest_at H height (take n xs)) first k)
+      (root_over H (digest_at H height (drop n xs)) (first + 2 ^ k) k)
+  unfolding root_over
+  root_over-split n xs l r =
+      let whole : xs ≡ take n xs ++ drop n xs = sym (take-append-drop n xs) in
+      rw (
+        root_over-same H _ _ first k
+            (λ s le lt. ap (λ ys. digest_at H height ys s) whole ∙ at_left H height _ _ _ s r lt),
+        root_over-same H _ _ (first + 2 ^ k) k
+            (λ s le lt. ap (λ ys. digest_at H height ys s) whole ∙ at_right H height (first + 2 ^ k) _ _ s l le),
+      ) refl
 
--- a tree over no slots, and over one
-pub root_over-empty : (H : List ℕ → List ℕ) (height first k : ℕ) (xs : List SlotAt) → length xs ≡ 0
-    → root_over H (digest_at H height xs) first k ≡ empty_root H (height + k)
-root_over-empty H height first k [] n = root_over-nil H height first k
-root_over-empty H height first k _ n = absurd (omega arith)
+  -- a tree over no slots, and over one
+  pub root_over-empty : (xs : List SlotAt) → length xs ≡ 0
+      → root_over H (digest_at H height xs) first k ≡ empty_root H (height + k)
+  root_over-empty [] n = root_over-nil
+  root_over-empty _ n = absurd (omega arith)
 
-pub root_over-one : (H : List ℕ → List ℕ) (height first k : ℕ) (xs : List SlotAt) (d : SlotAt) → 0 < length xs → k ≡ 0
-    → All (λ x. first ≤ x.byte) xs → All (λ x. x.byte < first + 2 ^ k) xs → root_over H (digest_at H height xs) first k
-    ≡ (get_or xs 0 d).digest
-unfolding root_over digest_at
-root_over-one H height first k [] d n z l r = absurd (omega arith)
-root_over-one H height first k (x ∷ xs) d n z l r =
-    let low : first ≤ x.byte = l 0 d n in
-    let high : x.byte < first + 1 = rw z at (r 0 d n) in
-    let at : x.byte ≡ first = omega arith in
-    rw z (cond-true _ _ _ (eq-eqb x.byte first at))
+  pub root_over-one : (xs : List SlotAt) (d : SlotAt) → 0 < length xs → k ≡ 0 → All (λ x. first ≤ x.byte) xs
+      → All (λ x. x.byte < first + 2 ^ k) xs → root_over H (digest_at H height xs) first k ≡ (get_or xs 0 d).digest
+  unfolding root_over digest_at
+  root_over-one [] d n z l r = absurd (omega arith)
+  root_over-one (x ∷ xs) d n z l r =
+      let low : first ≤ x.byte = l 0 d n in
+      let high : x.byte < first + 1 = rw z at (r 0 d n) in
+      let at : x.byte ≡ first = omega arith in
+      rw z (cond-true _ _ _ (eq-eqb x.byte first at))
 
 -- what a partition point at a number says of both parts
-pub below_point : (xs : List SlotAt) (n middle : ℕ) → IsPartitionPoint (λ y. ltb y.byte middle ≡ true)
-    (λ y. ltb y.byte middle ≡ false) xs n → All (λ x. x.byte < middle) (take n xs)
-below_point xs n middle at = λ k d lt.
-    let all = length-take n xs in
-    let low : k < n = omega arith in
-    rw (get_or-take n xs k d low) (ltb-true _ middle (at.0 k d (omega arith) low))
+module _ (xs : List SlotAt) (n middle : ℕ)
+    (at : IsPartitionPoint (λ y. ltb y.byte middle ≡ true) (λ y. ltb y.byte middle ≡ false) xs n) where
+  pub below_point : All (λ x. x.byte < middle) (take n xs)
+  below_point = λ k d lt.
+      let all = length-take n xs in
+      let low : k < n = omega arith in
+      rw (get_or-take n xs k d low) (ltb-true _ middle (at.0 k d (omega arith) low))
 
-pub above_point : (xs : List SlotAt) (n middle : ℕ) → IsPartitionPoint (λ y. ltb y.byte middle ≡ true)
-    (λ y. ltb y.byte middle ≡ false) xs n → All (λ x. middle ≤ x.byte) (drop n xs)
-above_point xs n middle at = λ k d lt.
-    let all = length-drop n xs in
-    rw (get_or-drop n xs k d) (ltb-false _ middle (at.1 (n + k) d (omega arith) (omega arith)))
+  pub above_point : All (λ x. middle ≤ x.byte) (drop n xs)
+  above_point = λ k d lt.
+      let all = length-drop n xs in
+      rw (get_or-drop n xs k d) (ltb-false _ middle (at.1 (n + k) d (omega arith) (omega arith)))
 
 -- levels that are not 0
 pub halved : (k : ℕ) → ¬ (k ≡ 0) → 2 ^ k ≡ 2 ^ (k - 1) + 2 ^ (k - 1)
@@ -139,7 +137,7 @@ halved (suc k) n = let at : suc k - 1 ≡ k = omega arith in rw (at, pow-suc 2 k
 
 pub some_slots : (xs : List SlotAt) → eqb (length xs) 0 ≡ false → 0 < length xs
 some_slots [] e = absurd cc
-some_slots (x ∷ xs) e = omega arith
+some_slots _ e = omega arith
 
 pub shifted : (k : ℕ) → k < 8 → 1 * 2 ^ k % 2 ^ 64 ≡ 2 ^ k
 shifted k lt = one_shl k 64 (omega arith)

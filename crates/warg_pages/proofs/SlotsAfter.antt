@@ -11,7 +11,7 @@ use Rattle.warg_map.specs.Last.{last_with, same_bits}
 use Rattle.warg_map.specs.Sparse.{root_of_levels, map_of}
 use Rattle.warg_map.proofs.ForCallers.{same_bits-true, same_digest}
 use Rattle.warg_pages.specs.Prefixes.{is_below, below, version}
-use Rattle.warg_pages.specs.Slots.{SlotAt, is_lone, slot_over}
+use Rattle.warg_pages.specs.Slots.{is_lone, slot_over}
 use Rattle.warg_pages.specs.Pages.{slot_height}
 use Rattle.warg_pages.specs.OwnPages.{stands, stands_over}
 use Rattle.warg_pages.specs.Private.Descents.{value_above, lone_root}
@@ -19,10 +19,12 @@ use Rattle.warg_pages.specs.Private.Updates.{lone_slot, HoldsOnly, StaysAlone, c
 use Rattle.warg_pages.proofs.KeyPrefixes.{length-bits_from}
 use Rattle.warg_pages.proofs.BitParts.{key_at}
 use Rattle.warg_pages.proofs.PageFormat.{same_parts}
-use Rattle.warg_pages.proofs.LoneSlots.{lone_of, last_passes}
+use Rattle.warg_pages.proofs.LoneSlots.{lone_of}
 use Rattle.warg_pages.proofs.LoneEnds.{alone_value}
 use Rattle.warg_pages.proofs.OwnWays.{own_lone_over}
-use Rattle.warg_pages.proofs.MoreInsertions.{all_last, all_none, lone_longer, lone_elsewhere}
+use Rattle.warg_pages.proofs.Members.{passes}
+use Rattle.warg_pages.proofs.LastPassing.{last_found}
+use Rattle.warg_pages.proofs.MoreInsertions.{all_none, lone_longer, lone_elsewhere}
 use Rattle.warg_pages.proofs.ChangesBelow.{all_of_key, all_one_key}
 
 -- no key but one stood below a slot
@@ -41,9 +43,8 @@ alone_held : (H : List ℕ → List ℕ) → GivesHashes H → (old : List (List
     → HoldsOnly (H e.0) (slot_over H old q s last)
 alone_held H gives old q s e None l all = tt
 alone_held H gives old q s e (Some f) l all =
-    let here = last_passes (is_below H q) old f l in
-    let this = all_last _ _ old f all l in
-    let bits : same_bits (key_bits H e.0) (key_bits H f.0) ≡ true = rw here at this in
+    let found = last_found (is_below H q) old f l in
+    let bits : same_bits (key_bits H e.0) (key_bits H f.0) ≡ true = rw found.1 at (passes _ old all found.0) in
     let same : H e.0 ≡ H f.0 = same_digest H e.0 f.0 (gives _) (gives _) (same_bits-true _ _ bits) in
     let lone : is_lone H old q f ≡ true = rw same at all in (
       leaf_digest H f.1,
@@ -64,86 +65,65 @@ lone_stays H gives old more q s n e h =
     (alone_held H gives old q s e _ refl parts.0, all_one_key H gives q n e more parts.1)
 
 -- the slot of a lone key
-pub lone_over_is : (H : List ℕ → List ℕ) (es : List (List ℕ × List ℕ)) (q : List Bool) (s : ℕ) (e : List ℕ × List ℕ)
-    → last_with (is_below H q) es ≡ Some e → is_lone H es q e ≡ true → length q ≤ 256
-    → root_of_levels H (256 - length q) (below (map_of H es) q) ≡ lone_root H (H e.0) (leaf_digest H e.1)
-    (256 - length q)
-lone_over_is H es q s e last lone le =
-    let own = own_lone_over H es q s (Some e) _ (H e.0, leaf_digest H e.1) last refl
-    (ap (λ b. then_some {T = List ℕ × List ℕ} b (H e.0, leaf_digest H e.1)) lone) in
-    let parts = same_parts q own.alone.rest _ _ (sym (length-bits_from _ 0 _)) (sym own.alone.begins ∙ key_at _ _ le) in
-    let size : length own.alone.rest ≡ 256 - length q = ap length parts.1 ∙ length-bits_from _ _ _ in
-    ap (λ k. root_of_levels H k (below (map_of H es) q)) (sym size) ∙ alone_value H (below _ q) _ own.alone.rest
-    own.alone.alone ∙ ap (value_above H 0 [] (leaf_digest H e.1)) parts.1
+module _ (H : List ℕ → List ℕ) (es : List (List ℕ × List ℕ)) (q : List Bool) where
+  pub lone_over_is : (s : ℕ) (e : List ℕ × List ℕ) → last_with (is_below H q) es ≡ Some e → is_lone H es q e ≡ true
+      → length q ≤ 256 → root_of_levels H (256 - length q) (below (map_of H es) q)
+      ≡ lone_root H (H e.0) (leaf_digest H e.1) (256 - length q)
+  lone_over_is s e last lone le =
+      let own = own_lone_over H es q s (Some e) _ (H e.0, leaf_digest H e.1) last refl
+      (ap (λ b. then_some {T = List ℕ × List ℕ} b (H e.0, leaf_digest H e.1)) lone) in
+      let parts = same_parts q own.alone.rest _ _ (sym (length-bits_from _ 0 _))
+      (sym own.alone.begins ∙ key_at _ _ le) in
+      let size : length own.alone.rest ≡ 256 - length q = ap length parts.1 ∙ length-bits_from _ _ _ in
+      ap (λ k. root_of_levels H k (below (map_of H es) q)) (sym size) ∙ alone_value H (below _ q) _ own.alone.rest
+      own.alone.alone ∙ ap (value_above H 0 [] (leaf_digest H e.1)) parts.1
 
-pub lone_slot_is : (H : List ℕ → List ℕ) (es : List (List ℕ × List ℕ)) (q : List Bool) (depth s : ℕ)
-    (e : List ℕ × List ℕ) → length q ≡ 8 * depth + 8 → depth < 32 → last_with (is_below H q) es ≡ Some e
-    → is_lone H es q e ≡ true
-    → slot_over H es q s (last_with (is_below H q) es)
-    ≡ Some (lone_slot H depth s (version H es q) (H e.0, leaf_digest H e.1))
-lone_slot_is H es q depth s e size lt last lone =
-    let height : 256 - length q ≡ slot_height depth = omega arith in
-    rw last (λ i. Some record {
-      byte = s;
-      version = version H es q;
-      digest = (lone_over_is H es q s e last lone (omega arith) ∙ ap (lone_root H _ _) height) i;
-      lone = then_some {T = List ℕ × List ℕ} (lone i) (H e.0, leaf_digest H e.1);
-    })
+  pub lone_slot_is : (depth s : ℕ) (e : List ℕ × List ℕ) → length q ≡ 8 * depth + 8 → depth < 32
+      → last_with (is_below H q) es ≡ Some e → is_lone H es q e ≡ true
+      → slot_over H es q s (last_with (is_below H q) es)
+      ≡ Some (lone_slot H depth s (version H es q) (H e.0, leaf_digest H e.1))
+  lone_slot_is depth s e size lt last lone =
+      let height : 256 - length q ≡ slot_height depth = omega arith in
+      rw last (λ i. Some record {
+        byte = s;
+        version = version H es q;
+        digest = (lone_over_is s e last lone (omega arith) ∙ ap (lone_root H _ _) height) i;
+        lone = then_some {T = List ℕ × List ℕ} (lone i) (H e.0, leaf_digest H e.1);
+      })
 
--- where one is, no page stands
-pub no_page_lone : (H : List ℕ → List ℕ) (es : List (List ℕ × List ℕ)) (q r : List Bool) (e : List ℕ × List ℕ)
-    → 0 < length q → last_with (is_below H q) es ≡ Some e → is_lone H es q e ≡ true → stands H es (q ++ r) ≡ true → ⊥
-no_page_lone H es q r e some last lone there = either _ refl
-  where
-    either : (b : Bool) → is_below H (q ++ r) e ≡ b → ⊥
-    either true under =
-        let long = lone_longer H es q r e last lone under in
-        let size : eqb (length (q ++ r)) 0 ≡ false = ne_eqb _ 0 (λ z. let all = length-append q r in
-        omega arith) in
-        let is : stands H es (q ++ r) ≡ false = ap (stands_over H es (q ++ r)) long.is_last
-        ∙ (λ i. size i || not (long.alone i)) in
-        let no : true ≡ false = sym there ∙ is in cc
-    either false off =
-        let is : stands H es (q ++ r) ≡ false = ap (stands_over H es (q ++ r)) (lone_elsewhere H es q r e lone off) in
-        cc
+  -- where one is, no page stands
+  pub no_page_lone : (r : List Bool) (e : List ℕ × List ℕ) → 0 < length q → last_with (is_below H q) es ≡ Some e
+      → is_lone H es q e ≡ true → stands H es (q ++ r) ≡ true → ⊥
+  no_page_lone r e some last lone there = either _ refl
+    where
+      either : (b : Bool) → is_below H (q ++ r) e ≡ b → ⊥
+      either true under =
+          let long = lone_longer H es q r e last lone under in
+          let size : eqb (length (q ++ r)) 0 ≡ false = ne_eqb _ 0 (λ z. let all = length-append q r in
+          omega arith) in
+          let is : stands H es (q ++ r) ≡ false = ap (stands_over H es (q ++ r)) long.is_last
+          ∙ (λ i. size i || not (long.alone i)) in
+          let no : true ≡ false = sym there ∙ is in cc
+      either false off =
+          let is : stands H es (q ++ r) ≡ false = ap (stands_over H es (q ++ r)) (lone_elsewhere H es q r e lone off) in
+          cc
 
--- and else one does
-pub page_not_lone : (H : List ℕ → List ℕ) (es : List (List ℕ × List ℕ)) (q : List Bool) (e : List ℕ × List ℕ)
-    → last_with (is_below H q) es ≡ Some e → ¬ (is_lone H es q e ≡ true) → stands H es q ≡ true
-page_not_lone H es q e last other = rw last (ap (λ b. eqb (length q) 0 || not b)
-    (false_from_ne_true _ other) ∙ either _)
-  where
-    either : (b : Bool) → (b || true) ≡ true
-    either true = refl
-    either false = refl
+  -- and else one does
+  pub page_not_lone : (e : List ℕ × List ℕ) → last_with (is_below H q) es ≡ Some e → ¬ (is_lone H es q e ≡ true)
+      → stands H es q ≡ true
+  page_not_lone e last other = rw (last, false_from_ne_true _ other) (grind arith)
 
--- the slot of a page
-pub page_slot_is : (H : List ℕ → List ℕ) (es : List (List ℕ × List ℕ)) (q : List Bool) (s : ℕ)
-    (last : Option (List ℕ × List ℕ)) → 0 < length q → stands_over H es q last ≡ true
-    → slot_over H es q s last ≡ Some record {
-      byte = s;
-      version = version H es q;
-      digest = root_of_levels H (256 - length q) (below (map_of H es) q);
-      lone = None;
-    }
-page_slot_is H es q s None some there = absurd cc
-page_slot_is H es q s (Some e) some there =
-    let size : eqb (length q) 0 ≡ false = ne_eqb _ 0 (λ z. omega arith) in
-    let not_lone : not (is_lone H es q e) ≡ true = rw size at there in
-    either (is_lone H es q e) not_lone
-  where
-    either : (b : Bool) → not b ≡ true
-        → ◌≡◌ {A = Option SlotAt} (Some record {
-          byte = s;
-          version = version H es q;
-          digest = root_of_levels H (256 - length q) (below (map_of H es) q);
-          lone = then_some {T = List ℕ × List ℕ} b
-              (H e.0, leaf_digest H e.1);
-        }) (Some record {
-          byte = s;
-          version = version H es q;
-          digest = root_of_levels H (256 - length q) (below (map_of H es) q);
-          lone = None;
-        })
-    either true h = absurd cc
-    either false h = refl
+  -- the slot of a page
+  pub page_slot_is : (s : ℕ) (last : Option (List ℕ × List ℕ)) → 0 < length q → stands_over H es q last ≡ true
+      → slot_over H es q s last ≡ Some record {
+        byte = s;
+        version = version H es q;
+        digest = root_of_levels H (256 - length q) (below (map_of H es) q);
+        lone =
+            None;
+      }
+  page_slot_is s None some there = absurd cc
+  page_slot_is s (Some e) some there =
+      let size : eqb (length q) 0 ≡ false = ne_eqb _ 0 (λ z. omega arith) in
+      let alone : is_lone H es q e ≡ false = grind arith in
+      rw alone refl

@@ -1,5 +1,5 @@
 -- A root is that of the map in the pages below it.
-use Rattle.std.proofs.Common.{◌≡◌, ℕ, zero, suc, ◌+◌, ◌-◌, ◌*◌, ◌<◌, ◌≤◌, Bool, true, false, cond, List, [], ◌∷◌, ◌++◌, length, take, drop, Option, Some, None, refl, sym, ap, ◌∙◌, arith, inl, inr, ◌⊎◌, append_assoc, length-append}
+use Rattle.std.proofs.Common.{◌≡◌, ℕ, zero, suc, ◌+◌, ◌-◌, ◌*◌, ◌<◌, ◌≤◌, Bool, false, List, [], ◌∷◌, ◌++◌, length, take, drop, Option, Some, None, refl, sym, ap, ◌∙◌, arith, inl, inr, ◌⊎◌, append_assoc, length-append, true}
 use Rattle.std.proofs.lemmas.Bool.{cond-true, cond-false, false_from_ne_true}
 use Rattle.std.proofs.lemmas.List.Elements.{All-head, All-tail, Contains-append_cases, Contains-append_left, Contains-append_right, filter_map-append}
 use Rattle.std.proofs.lemmas.List.Folds.{find-append}
@@ -14,18 +14,18 @@ use Rattle.warg_map.specs.Bits.{bits_from, last_bits}
 use Rattle.warg_map.specs.Last.{same_bits}
 use Rattle.warg_map.specs.Sparse.{root_of_levels}
 use Rattle.warg_map.proofs.ForCallers.{same_bits-true}
-use Rattle.warg_pages.specs.Prefixes.{bits_of_bytes}
+use Rattle.warg_pages.specs.Prefixes.{bits_of_bytes, byte_bits, begins}
 use Rattle.warg_pages.specs.Slots.{SlotAt, IsSlot, IsPage, Ascends}
 use Rattle.warg_pages.specs.Pages.{digest_at, slot_height, page_digest}
 use Rattle.warg_pages.specs.ChangedPages.{ChangedPageAt}
 use Rattle.warg_pages.specs.Visits.{held_by, IsLoneBelow, AreOfSlot, AreOfSlots, AreFromWhere, AreFrom, AreAllPages, lone_slots, lone_keys}
-use Rattle.warg_pages.proofs.Members.{among, first_among, later_among, only_one}
-use Rattle.warg_pages.proofs.ByteNumbers.{number, number_below, byte_bits-number, number-byte_bits}
-use Rattle.warg_pages.proofs.PageRoots.{root_over-below, root-same, root-nothing}
-use Rattle.warg_pages.proofs.PageFormat.{same_parts}
+use Rattle.warg_pages.proofs.Members.{among, first_among, later_among, only_one, from_filter}
+use Rattle.warg_pages.proofs.ByteNumbers.{number, number_below, byte_bits-number}
+use Rattle.warg_pages.proofs.PageRoots.{root_over-below, root-same, root-nothing, begins-append}
 use Rattle.warg_pages.proofs.BitParts.{key_at}
-use Rattle.warg_pages.proofs.PrefixBytes.{length-bits, bits-more}
+use Rattle.warg_pages.proofs.PrefixBytes.{bits-more}
 use Rattle.warg_pages.proofs.OwnDescent.{bits_of_taken}
+use Rattle.warg_pages.proofs.OneMore.{other_byte}
 
 -- the slots with a lone key
 abbrev pub with_lone : List SlotAt → List SlotAt
@@ -37,8 +37,7 @@ held_among xs bits = held_by (filter_map (λ x. x.lone) xs) bits
 
 either_map : (a b : Option (List ℕ × List ℕ)) → option_map (λ (l : List ℕ × List ℕ). l.1) (option_or a b)
     ≡ option_or (option_map (λ (l : List ℕ × List ℕ). l.1) a) (option_map (λ (l : List ℕ × List ℕ). l.1) b)
-either_map None b = refl
-either_map (Some x) b = refl
+either_map a b = grind arith
 
 held_among-append : (xs ys : List SlotAt) (bits : List Bool)
     → held_among (xs ++ ys) bits ≡ option_or (held_among xs bits) (held_among ys bits)
@@ -48,37 +47,17 @@ held_among-append xs ys bits =
     (ap (option_map (λ (l : List ℕ × List ℕ). l.1)) (find-append found _ _) ∙ either_map _ _)
 
 both_none : (a b : Option (List ℕ)) → option_or a b ≡ None → (a ≡ None) × (b ≡ None)
-both_none None b e = (refl, e)
-both_none (Some x) b e = absurd cc
+both_none a b e = grind arith
 
 or_none : (a : Option (List ℕ)) → option_or a None ≡ a
 or_none None = refl
 or_none (Some x) = refl
 
 -- they hold the same
-one_kept : (x : SlotAt) (o : Option (List ℕ × List ℕ)) (ys : List SlotAt) (ls : List (List ℕ × List ℕ)) → x.lone ≡ o
-    → filter_map (λ x. x.lone) ys ≡ ls
-    → filter_map (λ x. x.lone) (cond (is_some x.lone) (x ∷ ys) ys) ≡ cons_option x.lone ls
-one_kept x None ys ls e same = rw e same
-one_kept x (Some l) ys ls e same = rw e (ap (λ rest. l ∷ rest) same)
-
 kept_lones : (xs : List SlotAt)
     → filter_map (λ x. x.lone) (with_lone xs) ≡ filter_map (λ x. x.lone) xs
 kept_lones [] = refl
-kept_lones (x ∷ xs) = one_kept x x.lone (with_lone xs) _ refl (kept_lones xs)
-
--- a slot among those with a lone key
-one_in_kept : (b : Bool) (y : SlotAt) (ys xs : List SlotAt) (x : SlotAt) → (Contains ys x → Contains xs x)
-    → Contains (cond b (y ∷ ys) ys) x → Contains (y ∷ xs) x
-one_in_kept true y ys xs x in_xs h = elim (among y ys x h) [
-  | inl same ↦ rw same (first_among x xs)
-  | inr later ↦ later_among y xs x (in_xs later)
-]
-one_in_kept false y ys xs x in_xs h = later_among y xs x (in_xs h)
-
-pub in_kept : (xs : List SlotAt) (x : SlotAt) → Contains (with_lone xs) x → Contains xs x
-in_kept [] x h = h
-in_kept (y ∷ xs) x h = one_in_kept _ y (with_lone xs) xs x (in_kept xs x) h
+kept_lones (x ∷ xs) = let rest = kept_lones xs in grind arith
 
 -- the lone keys of slots begin with bytes
 abbrev pub BeginWith : List ℕ → List SlotAt → Type 0
@@ -117,25 +96,21 @@ other_bits : (prefix : List ℕ) (s t : ℕ) (k : List ℕ) (r : List Bool) → 
     → IsDigest k
     → (t ≡ s → ⊥) → take (length prefix + 1) k ≡ prefix ++ t ∷ []
     → same_bits (bits_of_bytes (prefix ++ s ∷ []) ++ r) (last_bits k 256) ≡ false
-other_bits prefix s t k r short low lt is n e = false_from_ne_true _ (λ same. n (byte (same_bits-true _ _ same)))
-  where
-    size : length prefix + 1 ≤ length k
-    size = omega arith
-
-    key : last_bits k 256 ≡ bits_of_bytes (prefix ++ t ∷ []) ++ last_bits k (256 - 8 * (length prefix + 1))
-    key = key_at k _ (omega arith)
-        ∙ ap (λ p. p ++ last_bits k (256 - 8 * (length prefix + 1))) (sym (bits_of_taken k _ size) ∙ ap bits_of_bytes e)
-
-    byte : bits_of_bytes (prefix ++ s ∷ []) ++ r ≡ last_bits k 256 → t ≡ s
-    byte same =
-        let sizes : length (bits_of_bytes (prefix ++ s ∷ [])) ≡ length (bits_of_bytes (prefix ++ t ∷ [])) =
-        length-bits (prefix ++ s ∷ []) ∙ ap (λ n. 8 * n) (length-append prefix (s ∷ [])
-        ∙ sym (length-append prefix (t ∷ [])))
-        ∙ sym (length-bits (prefix ++ t ∷ [])) in
-        let first = (same_parts _ r _ _ sizes (same ∙ key)).0 in
-        let bits = (same_parts (bits_of_bytes prefix) _ _ _ refl
-        (sym (bits-more prefix s) ∙ first ∙ bits-more prefix t)).1 in
-        sym (number-byte_bits t lt) ∙ ap number (sym bits) ∙ number-byte_bits s low
+other_bits prefix s t k r short low lt is n e = false_from_ne_true _ (λ same.
+    let p : List Bool = bits_of_bytes prefix in
+    let rest : List Bool = last_bits k (256 - 8 * (length prefix + 1)) in
+    let key : last_bits k 256 ≡ p ++ (byte_bits t ++ rest) = key_at k (8 * (length prefix + 1)) (omega arith) ∙ rw (
+      ← bits_of_taken k (length prefix + 1) (omega arith),
+      e,
+      bits-more prefix t,
+      append_assoc p (byte_bits t) rest,
+    ) refl in
+    let no = other_byte p rest t s lt low (λ is. n (sym is)) in
+    let here : begins (p ++ byte_bits s) (last_bits k 256) ≡ true =
+    rw (← same_bits-true (bits_of_bytes (prefix ++ s ∷ []) ++ r) (last_bits k 256) same, bits-more prefix s)
+    (begins-append (p ++ byte_bits s) r) in
+    let yes = rw key at here in
+    cc)
 
 none_held : (prefix : List ℕ) (s : ℕ) (xs : List SlotAt) (r : List Bool) → length prefix < 32 → s < 256
     → ((x : SlotAt) → Contains xs x → Elsewhere prefix s x)
@@ -163,8 +138,7 @@ lone_held H prefix x l e is h = record {
   begin = λ y m at other. (let one = only_one x y at in
       let same : m ≡ l = cc in
       rw same ((is.lone l e).0, rw (length-append prefix (x.byte ∷ [])) h.begins));
-  root = h.digest ∙ ap (λ o. root_of_levels H (slot_height (length prefix))
-      (λ r. held_by (cons_option o []) (bits_of_bytes (prefix ++ x.byte ∷ []) ++ r))) (sym e);
+  root = rw e h.digest;
   apart = λ y z k m n at other is_y is_z. sym (only_one x y at) ∙ only_one x z other;
 }
 
@@ -173,8 +147,7 @@ page_below : (H : List ℕ → List ℕ) (bytes : List ℕ) (height : ℕ) (x : 
     → IsHeldBelow H bytes x.digest height ys → IsHeldBelow H bytes x.digest height (x ∷ ys)
 page_below H bytes height x ys e held = record {
   begin = λ y l at is. held.begin y l (later y l at is) is;
-  root = held.root ∙ ap (λ o. root_of_levels H height
-      (λ r. held_by (cons_option o (filter_map (λ x. x.lone) ys)) (bits_of_bytes bytes ++ r))) (sym e);
+  root = rw e held.root;
   apart = λ y z k l m c d is_y is_z. held.apart y z k l m (later y (k, l) c is_y) (later z (k, m) d is_z) is_y is_z;
 }
   where
@@ -184,12 +157,11 @@ page_below H bytes height x ys e held = record {
 -- one part of four
 left_only : (a b c d : Option (List ℕ)) → option_or b d ≡ None
     → option_or a (option_or b (option_or c d)) ≡ option_or a c
-left_only None b c d e = let parts = both_none b d e in rw (parts.0, parts.1) (or_none c)
-left_only (Some x) b c d e = refl
+left_only a b c d e = grind arith
 
 right_only : (a b c d : Option (List ℕ)) → option_or a c ≡ None
     → option_or a (option_or b (option_or c d)) ≡ option_or b d
-right_only a b c d e = let parts = both_none a c e in rw (parts.0, parts.1) refl
+right_only a b c d e = grind arith
 
 -- one slot before others
 one_more_slot : (H : List ℕ → List ℕ) (prefix : List ℕ) (n : ℕ) (x : SlotAt) (xs ys zs : List SlotAt)
@@ -248,8 +220,11 @@ one_more_slot H prefix n x xs ys zs short le lt slot others = record {
 
     held_all : (bits : List Bool) → held_among (x ∷ (xs ++ (ys ++ zs))) bits ≡ option_or (held_among (x ∷ []) bits)
         (option_or (held_among xs bits) (option_or (held_among ys bits) (held_among zs bits)))
-    held_all bits = held_among-append (x ∷ []) (xs ++ (ys ++ zs)) bits ∙ ap (option_or (held_among (x ∷ []) bits))
-        (held_among-append xs (ys ++ zs) bits ∙ ap (option_or (held_among xs bits)) (held_among-append ys zs bits))
+    held_all bits = rw (
+      held_among-append (x ∷ []) (xs ++ (ys ++ zs)) bits,
+      held_among-append xs (ys ++ zs) bits,
+      held_among-append ys zs bits,
+    ) refl
 
     none_there : (r : List Bool) → held_among (xs ++ zs) (bits_of_bytes (prefix ++ x.byte ∷ []) ++ r) ≡ None
     none_there r = none_held prefix x.byte (xs ++ zs) r short lt (λ y c l e. let at = others.begin y l c e in
@@ -303,7 +278,7 @@ module _ (H : List ℕ → List ℕ) (AreFrom : List ℕ → ℕ → List ℕ �
   }
   slots_held n (x ∷ xs) pages short ascend are low below h =
       let is : IsSlot x = All-head IsSlot x xs are in
-      let at : n ≤ x.byte = All-head (λ (y : SlotAt). n ≤ y.byte) x xs low in
+      let at : n ≤ x.byte = low 0 x (omega arith) in
       let split : lone_slots pages ≡ lone_slots h.0 ++ lone_slots h.1 = rw h.2
       (flat_map-append (λ (p : ChangedPageAt). with_lone p.page) h.0 h.1) in
       rw split (one_more_slot H prefix n x xs _ _ short at is.is_byte
@@ -316,7 +291,7 @@ module _ (H : List ℕ → List ℕ) (AreFrom : List ℕ → ℕ → List ℕ �
 pub in_page : (slots ys : List SlotAt) (y : SlotAt) → Contains (with_lone slots ++ ys) y
     → Contains (slots ++ ys) y
 in_page slots ys y h = elim (Contains-append_cases (with_lone slots) ys y h) [
-  | inl own ↦ Contains-append_left slots ys y (in_kept slots y own)
+  | inl own ↦ Contains-append_left slots ys y (from_filter (λ x. is_some x.lone) slots y own)
   | inr later ↦ Contains-append_right slots ys y later
 ]
 
@@ -334,10 +309,8 @@ page_held : (H : List ℕ → List ℕ) (prefix : List ℕ) (version : ℕ) (slo
 page_held H prefix version slots below short held = record {
   begin = λ y l c e. (let at = held.begin y l (in_page slots _ y c) e in
       (at.3, begin_shorter prefix l.0 at.0 at.4));
-  root = root_over-below H _ 8 0 _ (λ r. held_among (with_lone slots ++ lone_slots below) (bits_of_bytes prefix ++ r))
-      at_byte
-      ∙ ap (λ k. root_of_levels H k (λ r. held_among (with_lone slots ++ lone_slots below) (bits_of_bytes prefix ++ r)))
-      height;
+  root = rw (← height) (root_over-below H (slot_height (length prefix)) 8 0 _
+      (λ r. held_among (with_lone slots ++ lone_slots below) (bits_of_bytes prefix ++ r)) at_byte);
   apart = λ y z k l m c d is_y is_z. held.apart y z k l m (in_page slots _ y c) (in_page slots _ z d) is_y is_z;
 }
   where
@@ -346,14 +319,15 @@ page_held H prefix version slots below short held = record {
 
     kept : (bits : List Bool) → held_among (slots ++ lone_slots below) bits
         ≡ held_among (with_lone slots ++ lone_slots below) bits
-    kept bits = ap (λ l. held_by l bits) (filter_map-append _ slots _
-        ∙ ap (λ l. l ++ filter_map (λ x. x.lone) (lone_slots below)) (sym (kept_lones slots))
-        ∙ sym (filter_map-append _ (with_lone slots) _))
+    kept bits = rw (
+      filter_map-append (λ (x : SlotAt). x.lone) slots (lone_slots below),
+      filter_map-append (λ (x : SlotAt). x.lone) (with_lone slots) (lone_slots below),
+      kept_lones slots,
+    ) refl
 
     bits_at : (q r : List Bool) → length q ≡ 8
         → bits_of_bytes (prefix ++ number q ∷ []) ++ r ≡ bits_of_bytes prefix ++ (q ++ r)
-    bits_at q r m = ap (λ b. b ++ r) (bits-more prefix _ ∙ ap (λ b. bits_of_bytes prefix ++ b) (byte_bits-number q m))
-        ∙ append_assoc _ q r
+    bits_at q r m = rw (bits-more prefix (number q), byte_bits-number q m, append_assoc (bits_of_bytes prefix) q r) refl
 
     at_byte : (q : List Bool) → length q ≡ 8 → digest_at H (slot_height (length prefix)) slots (0 + number q)
         ≡ root_of_levels H (slot_height (length prefix))
@@ -371,48 +345,39 @@ AreHeldAfter H IsThere n = (prefix : List ℕ) (version : ℕ) (digest : List �
     → AreFrom H IsThere n prefix version digest pages
     → IsHeldBelow H prefix digest (256 - 8 * length prefix) (lone_slots pages)
 
-pub longer_held : (H : List ℕ → List ℕ) (IsThere : List ℕ → ℕ → List SlotAt → Type 0) (n : ℕ) (prefix : List ℕ)
-    → length prefix + suc n ≡ 32
-    → AreHeldAfter H IsThere n → (byte version : ℕ) (digest : List ℕ) (pages : List ChangedPageAt)
-    → AreFrom H IsThere n (prefix ++ byte ∷ []) version digest pages
-    → IsHeldBelow H (prefix ++ byte ∷ []) digest (slot_height (length prefix)) (lone_slots pages)
-longer_held H IsThere n prefix size held byte version digest pages from =
-    let longer = length-append prefix (byte ∷ []) in
-    let height : 256 - 8 * length (prefix ++ byte ∷ []) ≡ 248 - 8 * length prefix = omega arith in
-    rw height at (held _ version digest pages (omega arith) from)
+module _ (H : List ℕ → List ℕ) (IsThere : List ℕ → ℕ → List SlotAt → Type 0) where
+  pub longer_held : (n : ℕ) (prefix : List ℕ) → length prefix + suc n ≡ 32 → AreHeldAfter H IsThere n →
+      (byte version : ℕ) (digest : List ℕ) (pages : List ChangedPageAt)
+      → AreFrom H IsThere n (prefix ++ byte ∷ []) version digest pages
+      → IsHeldBelow H (prefix ++ byte ∷ []) digest (slot_height (length prefix)) (lone_slots pages)
+  longer_held n prefix size held byte version digest pages from =
+      let longer = length-append prefix (byte ∷ []) in
+      let height : 256 - 8 * length (prefix ++ byte ∷ []) ≡ 248 - 8 * length prefix = omega arith in
+      rw height at (held _ version digest pages (omega arith) from)
 
-pub pages_held : (H : List ℕ → List ℕ) (IsThere : List ℕ → ℕ → List SlotAt → Type 0) (n : ℕ) → AreHeldAfter H IsThere n
-unfolding AreFromWhere
-pages_held H IsThere zero = λ prefix version digest pages size h. absurd h
-pages_held H IsThere (suc n) = λ prefix version digest pages size h.
-    let page : IsPage h.0 = h.3 in
-    let short : length prefix < 32 = omega arith in
-    rw (h.2, ← h.5) (page_held H prefix version h.0 h.1 short (slots_held H (AreFrom H IsThere n) prefix 0 h.0 h.1 short
-    page.ascend page.are_slots (λ i d within. omega arith)
-    (longer_held H IsThere n prefix size (pages_held H IsThere n)) h.6))
+  pub pages_held : (n : ℕ) → AreHeldAfter H IsThere n
+  unfolding AreFromWhere
+  pages_held zero = λ prefix version digest pages size h. absurd h
+  pages_held (suc n) = λ prefix version digest pages size h.
+      let page : IsPage h.0 = h.3 in
+      let short : length prefix < 32 = omega arith in
+      rw (h.2, ← h.5) (page_held H prefix version h.0 h.1 short
+      (slots_held H (AreFrom H IsThere n) prefix 0 h.0 h.1 short
+      page.ascend page.are_slots (λ i d within. omega arith)
+      (longer_held n prefix size (pages_held n)) h.6))
 
--- the law
-pub root_of_pages : (H : List ℕ → List ℕ) (IsThere : List ℕ → ℕ → List SlotAt → Type 0) (root : List ℕ) (version : ℕ)
-    (all : List ChangedPageAt) → AreAllPages H IsThere root version all
-    → root ≡ root_of_levels H 256 (held_by (lone_keys all))
-unfolding bits_from
-root_of_pages H IsThere root zero all h = h.1 ∙ sym (root-nothing H 256)
-    ∙ ap (λ p. root_of_levels H 256 (held_by (lone_keys p))) (sym h.0)
-root_of_pages H IsThere root (suc last) all h = (pages_held H IsThere 32 [] _ root all refl h).root
+  -- the law
+  pub root_of_pages : (root : List ℕ) (version : ℕ) (all : List ChangedPageAt) → AreAllPages H IsThere root version all
+      → root ≡ root_of_levels H 256 (held_by (lone_keys all))
+  unfolding bits_from
+  root_of_pages root zero all h = h.1 ∙ sym (root-nothing H 256)
+      ∙ ap (λ p. root_of_levels H 256 (held_by (lone_keys p))) (sym h.0)
+  root_of_pages root (suc last) all h = (pages_held 32 [] _ root all refl h).root
 
--- the lone keys of pages are digests
-pub lone_digests : (H : List ℕ → List ℕ) (IsThere : List ℕ → ℕ → List SlotAt → Type 0) (root : List ℕ) (version : ℕ)
-    (all : List ChangedPageAt) → AreAllPages H IsThere root version all → (x : SlotAt) (l : List ℕ × List ℕ)
-    → Contains (lone_slots all) x → x.lone ≡ Some l → IsDigest l.0
-lone_digests H IsThere root zero all h = λ x l c e. absurd (let size = ap (λ p. length (lone_slots p)) h.0 in
-    omega arith)
-lone_digests H IsThere root (suc last) all h = λ x l c e.
-    ((pages_held H IsThere 32 [] _ root all refl h).begin x l c e).0
-
--- no two lone keys of pages have one digest
-pub lone_apart : (H : List ℕ → List ℕ) (IsThere : List ℕ → ℕ → List SlotAt → Type 0) (root : List ℕ) (version : ℕ)
-    (all : List ChangedPageAt) → AreAllPages H IsThere root version all → AreApart (lone_slots all)
-lone_apart H IsThere root zero all h = λ x y k l m at other is are. absurd (let size = ap (λ p. length
-    (lone_slots p)) h.0 in
-    omega arith)
-lone_apart H IsThere root _ all h = (pages_held H IsThere 32 [] _ root all refl h).apart
+  -- the lone keys of pages are digests
+  pub lone_digests : (root : List ℕ) (version : ℕ) (all : List ChangedPageAt) → AreAllPages H IsThere root version all
+      → (x : SlotAt) (l : List ℕ × List ℕ) → Contains (lone_slots all) x → x.lone ≡ Some l → IsDigest l.0
+  lone_digests root zero all h = λ x l c e. absurd (let size = ap (λ p. length (lone_slots p)) h.0 in
+      omega arith)
+  lone_digests root (suc last) all h = λ x l c e.
+      ((pages_held 32 [] _ root all refl h).begin x l c e).0

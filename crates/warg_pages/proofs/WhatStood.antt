@@ -1,7 +1,7 @@
 -- What stood at prefixes below a root, over any pages.
-use Rattle.std.proofs.Common.{◌≡◌, ℕ, ◌+◌, ◌<◌, cond, eqb, List, [], ◌∷◌, ◌++◌, length, Option, Some, None, refl, sym, ap, ◌∙◌, arith, length-append, eq-eqb, inl, inr}
+use Rattle.std.proofs.Common.{◌≡◌, ℕ, ◌+◌, ◌<◌, cond, eqb, List, [], ◌∷◌, ◌++◌, length, Option, Some, None, refl, sym, ap, ◌∙◌, arith, length-append, eq-eqb, inl, inr, suc}
 use Rattle.std.proofs.lemmas.Bool.{cond-true, cond-false, ne_eqb, cases_lt}
-use Rattle.std.proofs.lemmas.List.Elements.{All-nil, All-cons, All-append, All-head, All-tail}
+use Rattle.std.proofs.lemmas.List.Elements.{All-nil, All-cons, All-append}
 use Rattle.std.specs.Prelude.{IfSome}
 use Rattle.std.specs.Option.{option_map}
 use Rattle.std.specs.List.{All, filter, cons_option}
@@ -10,14 +10,13 @@ use Rattle.warg_crypto.specs.Collisions.{GivesHashes}
 use Rattle.warg_map.specs.Last.{last_with}
 use Rattle.warg_pages.specs.Prefixes.{is_below, bits_of_bytes}
 use Rattle.warg_pages.specs.Slots.{SlotAt}
-use Rattle.warg_pages.specs.Pages.{slot_height, slot_at}
+use Rattle.warg_pages.specs.Pages.{slot_at}
 use Rattle.warg_pages.specs.ChangedPages.{StoodAt, ChangesWhatStood}
 use Rattle.warg_pages.specs.ChangedPages.StoodAt.{below}
 use Rattle.warg_pages.specs.Private.Updates.{ChangeAt, changes_below, goes_to, slot_digest, AreChangesAt, IsNamedAt}
-use Rattle.warg_pages.proofs.PageRoots.{digest_of}
-use Rattle.warg_pages.proofs.OwnDescent.{digest_at-slot}
 use Rattle.warg_pages.proofs.ChangesBelow.{last_of-none, put_by, last_change}
 use Rattle.warg_pages.proofs.OwnUpdates.{changes_next}
+use Rattle.warg_pages.proofs.NumberedSlots.{digest_at-slot, digest_of-slot}
 
 -- the changes a byte further
 pub next_changes : (H : List ℕ → List ℕ) → GivesHashes H → (prefix : List ℕ) (changes : List ChangeAt) (byte count : ℕ)
@@ -44,11 +43,7 @@ pub named_next : (H : List ℕ → List ℕ) (root prefix : List ℕ) (above : L
     (slot_digest H (length prefix) (slot_at above byte))
 named_next H root prefix above byte stood = λ slots e.
     below prefix above slots byte stood (rw (← length-append prefix (byte ∷ [])) (e
-    ∙ as_digest (slot_at above byte) ∙ sym (digest_at-slot H (slot_height (length prefix)) above byte)))
-  where
-    as_digest : (o : Option SlotAt) → slot_digest H (length prefix) o ≡ digest_of H (slot_height (length prefix)) o
-    as_digest None = refl
-    as_digest (Some x) = refl
+    ∙ digest_of-slot H (length prefix) (slot_at above byte) ∙ sym (digest_at-slot H _ above byte)))
 
 -- a page that changes what stood
 pub page_stood : (H : List ℕ → List ℕ) → GivesHashes H → (root prefix : List ℕ) (number count : ℕ)
@@ -74,9 +69,9 @@ pub slot_at-here : (xs : List SlotAt) (o : Option SlotAt) (n : ℕ) → All (λ 
 slot_at-here [] None n all is = refl
 slot_at-here [] (Some x) n all is = cond-true _ _ _ (eq-eqb x.byte n is)
 slot_at-here (x ∷ xs) o n all is =
-    let low : x.byte < n = All-head (λ (y : SlotAt). y.byte < n) x xs all in
+    let low : x.byte < n = all 0 x (omega arith) in
     cond-false _ _ _ (ne_eqb x.byte n (λ e. omega arith))
-    ∙ slot_at-here xs o n (All-tail (λ (y : SlotAt). y.byte < n) x xs all) is
+    ∙ slot_at-here xs o n (λ i d lt. all (suc i) d (omega arith)) is
 
 pub kept_more : (slots xs : List SlotAt) (o : Option SlotAt) (n depth : ℕ) (changes : List ChangeAt)
     → All (λ x. x.byte < n) xs → IfSome o (λ x. x.byte ≡ n)

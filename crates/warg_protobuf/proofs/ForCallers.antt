@@ -3,7 +3,7 @@ use Rattle.std.proofs.Common.{◌≡◌, ℕ, ◌+◌, ◌<◌, ◌≤◌, List,
 use Rattle.std.specs.List.{AllByRecursion, flat_map}
 use Rattle.std.proofs.lemmas.List.Elements.{All-from_recursion}
 use Rattle.std.proofs.lemmas.Grind.{common_steps}
-use Rattle.std.proofs.lemmas.List.{take_more, take_all, drop_all, map-append}
+use Rattle.std.proofs.lemmas.List.{take_more, take_all, drop_all}
 use Rattle.warg_protobuf.specs.declared.value_error.DecodeError.{DecodeError}
 use Rattle.warg_protobuf.specs.Decoding.{unless, earlier, first_fault}
 
@@ -107,19 +107,6 @@ pub all_whole : {X : Type 0} (P : X → Type 0) (xs : List X) (i : ℕ) → AllB
 all_whole P xs i all le = subst (AllByRecursion P) (take_all i xs le) all
 
 -- the same of what is made of each element
-pub mapped_more : {X Y : Type 0} (f : X → Y) (xs : List X) (i : ℕ) (x : X) (old new : List Y) (y : Y) → i < length xs
-    → x ≡ get_or xs i x
-    → old ≡ map f (take i xs) → new ≡ old ++ y ∷ [] → y ≡ f x → new ≡ map f (take (i + 1) xs)
-mapped_more f xs i x old new y lt is was now here = grind (arith, common_steps)
-
-pub mapped_whole : {X Y : Type 0} (f : X → Y) (xs : List X) (i : ℕ) (out : List Y) → out ≡ map f (take i xs)
-    → length xs ≤ i → out ≡ map f xs
-mapped_whole f xs i out was le = was ∙ ap (map f) (take_all i xs le)
-
-pub pushed_view : {X Y : Type 0} (f : X → Y) (old new : List X) (x : X) → new ≡ old ++ x ∷ []
-    → map f new ≡ map f old ++ f x ∷ []
-pushed_view f old new x now = ap (map f) now ∙ map-append f old (x ∷ [])
-
 pub mapped_twice_more : {X Y Z : Type 0} (f : X → Y) (g : Y → Z) (xs : List X) (i : ℕ) (x : X) (old new : List Z)
     (z : Z) → i < length xs → x ≡ get_or xs i x
     → old ≡ map g (map f (take i xs)) → new ≡ old ++ z ∷ [] → z ≡ g (f x) → new ≡ map g (map f (take (i + 1) xs))
@@ -128,13 +115,3 @@ mapped_twice_more f g xs i x old new z lt is was now here = grind (arith, common
 pub mapped_twice_whole : {X Y Z : Type 0} (f : X → Y) (g : Y → Z) (xs : List X) (i : ℕ) (out : List Z)
     → out ≡ map g (map f (take i xs)) → length xs ≤ i → out ≡ map g (map f xs)
 mapped_twice_whole f g xs i out was le = was ∙ ap (λ l. map g (map f l)) (take_all i xs le)
-
--- a list that is copied from its front on
-pub taken_whole : {X : Type 0} (xs : List X) (i : ℕ) (out : List X) → out ≡ take i xs → length xs ≤ i → out ≡ xs
-taken_whole xs i out was le = was ∙ take_all i xs le
-
-pub copied_more : {X : Type 0} (xs : List X) (i : ℕ) (x : X) (old new : List X) (y : X) → i < length xs
-    → x ≡ get_or xs i x
-    → old ≡ take i xs → new ≡ old ++ y ∷ [] → y ≡ x → new ≡ take (i + 1) xs
-copied_more xs i x old new y lt is was now here = now ∙ ap (λ z. old ++ z ∷ []) here ∙ ap (λ l. l ++ x ∷ []) was
-    ∙ sym (one_taken xs i x lt is)

@@ -1,7 +1,6 @@
 -- A loop that takes one thing after the other in.
-use Rattle.std.proofs.Common.{◌≡◌, ℕ, ◌+◌, ◌<◌, List, [], ◌∷◌, ◌++◌, length, get_or, take, subst, Ok, Err, refl, sym, ap, ◌∙◌, append_assoc, arith, inl, inr}
-use Rattle.std.specs.List.{flat_map}
-use Rattle.std.proofs.lemmas.List.{append-nil, nil_from_length, take_more, flat_map_more}
+use Rattle.std.proofs.Common.{◌≡◌, ℕ, ◌<◌, List, [], ◌∷◌, ◌++◌, length, subst, Ok, Err, refl, sym, ap, ◌∙◌, append_assoc, arith, inl, inr}
+use Rattle.std.proofs.lemmas.List.{append-nil, nil_from_length}
 use Rattle.warg_protobuf.specs.declared.error.WireError.{WireError}
 use Rattle.warg_protobuf.specs.Reading.{◌>>=◌, Fails, all_of, Reader, Check}
 use Rattle.warg_protobuf.specs.Field.{SpellsAll}
@@ -70,11 +69,3 @@ module _ {X M : Type 0} {split : Reader X} {Spells : List ℕ → X → Type 0} 
   Collects-done none =
       let whole : bytes ≡ c.front = rw (c.parts, nil_from_length rest none, append-nil) refl in
       (c.taken, rw whole (all_met check reader c.front (Ok c.taken) c.there), c.state_is)
-
--- a loop over a list that writes each element: one more is written
-pub written_next : {X : Type 0} (f : X → List ℕ) (xs : List X) (i : ℕ) (x : X) (start old new : List ℕ) → i < length xs
-    → x ≡ get_or xs i x
-    → old ≡ start ++ flat_map f (take i xs) → new ≡ old ++ f x → new ≡ start ++ flat_map f (take (i + 1) xs)
-written_next f xs i x start old new lt is was now =
-    let more : take i xs ++ x ∷ [] ≡ take (i + 1) xs = rw (take_more xs i x lt, ← is) refl in
-    now ∙ ap (λ l. l ++ f x) was ∙ flat_map_more f start (take i xs) x ∙ ap (λ l. start ++ flat_map f l) more

@@ -1,5 +1,5 @@
 -- The tiles by which a log grows, one by one.
-use Rattle.std.proofs.Common.{◌≡◌, ℕ, suc, ◌+◌, ◌-◌, ◌*◌, ◌/◌, ◌^◌, ◌<◌, ◌≤◌, List, [], ◌∷◌, ◌++◌, map, refl, sym, ap, ◌∙◌, arith}
+use Rattle.std.proofs.Common.{◌≡◌, ℕ, ◌+◌, ◌-◌, ◌*◌, ◌/◌, ◌^◌, ◌<◌, ◌≤◌, List, [], ◌∷◌, ◌++◌, map, refl, sym, ◌∙◌, arith}
 use Rattle.std.specs.List.{range_with_len}
 use Rattle.std.proofs.lemmas.List.{append_assoc, append-nil}
 use Rattle.std.proofs.lemmas.List.FromFn.{map-range_with_len_more}
@@ -10,11 +10,13 @@ use Rattle.warg_tiles.specs.Between.{filled, level_tiles, levels_from}
 pub numbers_more : (old : List TileAt) (level new a b : ℕ) → a ≤ b
     → (old ++ map (filled level new) (range_with_len a (b - a))) ++ filled level new b ∷ []
     ≡ old ++ map (filled level new) (range_with_len a (b + 1 - a))
-numbers_more old level new a b order =
-    let count : b - a + 1 ≡ b + 1 - a = omega arith in
-    append_assoc old (map (filled level new) (range_with_len a (b - a))) (filled level new b ∷ [])
-    ∙ ap (λ l. old ++ l) (sym (map-range_with_len_more (filled level new) a (b - a) b (omega arith))
-    ∙ ap (λ n. map (filled level new) (range_with_len a n)) count)
+numbers_more old level new a b order = grind (
+  arith,
+  append_assoc old
+      (map (filled level new) (range_with_len a (b - a))) (filled level new b ∷ []),
+  map-range_with_len_more
+      (filled level new) a (b - a) b,
+)
 
 -- no level is left
 pub all_levels : (tiles : List TileAt) (level old new : ℕ) → level ≡ 8 → tiles ++ levels_from (8 - level) level old new
@@ -27,10 +29,7 @@ pub levels_more : (tiles : List TileAt) (level old new : ℕ) → level < 8
     → (tiles ++ level_tiles level (old / 2 ^ (8 * level)) (new / 2 ^ (8 * level))) ++ levels_from (8 - (level + 1))
     (level + 1) old new ≡ tiles ++ levels_from (8 - level) level old new
 unfolding levels_from
-levels_more tiles level old new low =
-    let one : 8 - level ≡ suc (8 - (level + 1)) = omega arith in
-    rw one (append_assoc tiles (level_tiles level (old / 2 ^ (8 * level)) (new / 2 ^ (8 * level)))
-    (levels_from (8 - (level + 1)) (level + 1) old new))
+levels_more tiles level old new low = grind (arith, append_assoc)
 
 -- a tile by its parts
 pub same_tile : (t : TileAt) (level number width : ℕ) → t.level ≡ level → t.number ≡ number → t.width ≡ width

@@ -27,13 +27,8 @@ pub root_behind : (H : List ℕ → List ℕ) (ds front rest : List (List ℕ)) 
     → 2 ^ e ≤ length ds → length ds < 2 ^ suc e → front ≡ take (2 ^ e) ds → rest ≡ drop (2 ^ e) ds
     → left ≡ root_of H front → right ≡ root_of H (rest ++ last ∷ []) → root ≡ branch H left right
     → root ≡ root_of H (ds ++ last ∷ [])
-root_behind H ds front rest last left right root e low high first second l r made =
-    let some : 0 < 2 ^ e = pow_pos e in
-    let size : length (ds ++ last ∷ []) ≡ length ds + 1 = length-append ds (last ∷ []) in
-    made ∙ ap (λ x. branch H x right) l ∙ ap (λ x. branch H (root_of H front) x) r
-    ∙ sym (root_parts H (ds ++ last ∷ []) front (rest ++ last ∷ []) e (omega (arith, size)) (omega (arith, size))
-    (omega (arith, size)) (first ∙ sym (take-append-le (2 ^ e) ds (last ∷ []) low))
-    (rw second (sym (drop-append-le (2 ^ e) ds (last ∷ []) low))))
+root_behind H ds front rest last left right root e low high first second l r made = grind
+    (arith, pow_pos, length-append, root_parts, take-append-le, drop-append-le)
 
 -- the root of at least one digest
 pub root_if_some : (H : List ℕ → List ℕ) (ds : List (List ℕ)) → 0 < length ds → root_if H ds ≡ Some (root_of H ds)
@@ -56,11 +51,9 @@ pub chunk_at : (H : List ℕ → List ℕ) (ds : List (List ℕ)) (level m i : �
 chunk_at H ds level m i low =
     let t : TileAt = record { level = level; number = m / 256; width = m % 256 } in
     let p = 2 ^ (8 * level) in
-    let at : (256 * (m / 256) + i) * p ≡ m / 256 * 2 ^ (8 * (level + 1)) + i * p =
-    omega (arith, ap (λ n. m / 256 * n) (pow_up level)) in
-    digest_at_place H ds t i low ∙ node_root H ds (8 * level) (256 * (m / 256) + i)
-    ∙ ap (λ a. root_of H (take p (drop a ds))) at
-    ∙ ap (λ l. root_of H (take p l)) (sym (drop-drop (i * p) (m / 256 * 2 ^ (8 * (level + 1))) ds))
+    let at : (256 * (m / 256) + i) * p ≡ m / 256 * 2 ^ (8 * (level + 1)) + i * p = omega
+    (arith, ap (λ n. m / 256 * n) (pow_up level)) in
+    grind (arith, digest_at_place, node_root, drop-drop)
 
 -- the root over the digests of the last tile of a level and one of what is behind its nodes, if there is any
 tile_root : (H : List ℕ → List ℕ) (ds xs : List (List ℕ)) (level m r : ℕ) → length ds ≡ m * 2 ^ (8 * level) + r
@@ -70,13 +63,8 @@ tile_root : (H : List ℕ → List ℕ) (ds xs : List (List ℕ)) (level m r : �
     → ((i : ℕ) → i < length xs → slice_index_or xs i []
     ≡ root_of H (take (2 ^ (8 * level)) (drop (i * 2 ^ (8 * level)) (drop (m / 256 * 2 ^ (8 * (level + 1))) ds))))
     → root_of H xs ≡ root_of H (drop (m / 256 * 2 ^ (8 * (level + 1))) ds)
-tile_root H ds xs level m r count less some low high each =
-    let p = 2 ^ (8 * level) in
-    let a = m / 256 * 2 ^ (8 * (level + 1)) in
-    let last : m % 256 < 256 = omega arith in
-    let left : length (drop a ds) ≡ m % 256 * p + r = omega (arith, length-drop a ds, tile_start level m) in
-    roots_of_chunks H (8 * level) 8 (drop a ds) xs (omega arith)
-    (omega (arith, pow-add 2 8 (8 * level), mul-le-mul_left p last)) (omega arith) (omega arith) each
+tile_root H ds xs level m r count less some low high each = grind
+    (arith, length-drop, tile_start level m, roots_of_chunks, pow-add 2 8 (8 * level), mul-le-mul_left)
 
 -- the root of what is behind the full tiles of a level, by that of what is behind its nodes
 pub root_step : (H : List ℕ → List ℕ) (ds : List (List ℕ)) (level n : ℕ) → length ds ≡ n
@@ -96,38 +84,37 @@ root_step H ds level n count =
     let tail : length (drop (m * p) ds) ≡ n % p = omega (arith, length-drop (m * p) ds) in
     let left : length (drop a ds) ≡ m % 256 * p + n % p = omega (arith, length-drop a ds, tile_start level m) in
     rw (← level_count n level) (elim (cases_lt 0 (n % p)) [
-      | inl some ↦
-          let last = root_of H (drop (m * p) ds) in
-          let more : length (digests ++ last ∷ []) ≡ m % 256 + 1 = omega (arith, length-append digests (last ∷ [])) in
-          rw (
+      | inl some ↦ let last = root_of H (drop (m * p) ds) in let more : length (digests ++ last ∷ []) ≡ m % 256 + 1
+          = omega (arith, length-append digests (last ∷ [])) in rw (
             root_if_some H (drop (m * p) ds) (omega arith),
             root_if_some H (digests ++ last ∷ []) (omega arith),
             root_if_some H (drop a ds) (omega arith),
-          )
-          (ap Some (tile_root H ds (digests ++ last ∷ []) level m (n % p) (omega arith) less (omega arith)
+          ) (ap Some
+          (tile_root H ds (digests ++ last ∷ []) level m (n % p) (omega arith) less (omega arith)
           (omega (arith, ap (λ k. k * p) more)) (omega (arith, ap (λ k. k * p) more))
-          (λ i low. elim (cases_lt i (m % 256)) [
-            | inl under ↦ get_or-append digests (last ∷ []) [] i (omega arith) ∙ chunk_at H ds level m i under
-            | inr over ↦
-                let at : i ≡ length digests = omega arith in
-                let place : m * p ≡ a + i * p = omega (arith, ap (λ k. k * p) at, tile_start level m) in
-                ap (λ j. slice_index_or (digests ++ last ∷ []) j []) at ∙ get_or-append_seam digests last [] []
-                ∙ ap (root_of H) (sym (take_all p (drop (m * p) ds) (omega arith)))
-                ∙ ap (λ b. root_of H (take p (drop b ds))) place ∙ ap (λ l. root_of H (take p l))
-                (sym (drop-drop (i * p) a ds))
-          ])))
-      | inr none ↦
-          rw (root_if_none H (drop (m * p) ds) (omega arith), append-nil digests)
+          (grind (
+            arith,
+            cases_lt,
+            get_or-append,
+            chunk_at,
+            tile_start level m,
+            get_or-append_seam digests last [] [],
+            take_all p (drop (m * p) ds),
+            drop-drop,
+          ))))
+      | inr none ↦ rw
+          (root_if_none H (drop (m * p) ds) (omega arith), append-nil digests)
           (elim (cases_lt 0 (m % 256)) [
-            | inl some ↦
-                let least : 1 * p ≤ m % 256 * p = omega (arith, mul-le-mul_left p some) in
-                rw (root_if_some H digests (omega arith), root_if_some H (drop a ds) (omega arith))
-                (ap Some (tile_root H ds digests level m (n % p) (omega arith) less (omega arith) (omega arith)
+            | inl some ↦ let least : 1 * p ≤ m % 256 * p = omega
+                (arith, mul-le-mul_left p some) in rw (
+                  root_if_some H digests (omega arith),
+                  root_if_some H (drop a ds)
+                      (omega arith),
+                ) (ap Some (tile_root H ds digests level m (n % p) (omega arith) less (omega arith) (omega arith)
                 (omega arith) (λ i low. chunk_at H ds level m i (omega arith))))
-            | inr few ↦
-                let nought : m % 256 ≡ 0 = omega arith in
-                root_if_none H digests (omega arith)
-                ∙ sym (root_if_none H (drop a ds) (omega (arith, ap (λ k. k * p) nought)))
+            | inr few ↦ let nought : m % 256 ≡ 0 = omega
+                arith in root_if_none H digests (omega arith) ∙ sym
+                (root_if_none H (drop a ds) (omega (arith, ap (λ k. k * p) nought)))
           ])
     ])
 

@@ -6,10 +6,10 @@ use Rattle.std.proofs.lemmas.Bool.{le-leb, ne_eqb, eq-eqb}
 use Rattle.std.proofs.lemmas.List.{append_assoc, append-nil, map-append, length-append, length-take, take-take, take_at, drop_at}
 use Rattle.std.proofs.lemmas.List.FromFn.{length-map-range_with_len, get_or-map-range_with_len, map-range_with_len_more}
 use Rattle.warg_log.specs.Nodes.{end_of, number_of}
-use Rattle.warg_log.specs.Tree.{root_of, root_over, leaves_below, own_digest}
+use Rattle.warg_log.specs.Tree.{root_of, root_over, leaves_below}
 use Rattle.warg_log.proofs.ForCallers.{over_at, pow_below_pow}
 use Rattle.warg_tiles.specs.Tiles.{TileAt, node_in}
-use Rattle.warg_tiles.specs.TileData.{Tiles, IsTileBy}
+use Rattle.warg_tiles.specs.TileData.{Tiles}
 use Rattle.warg_protobuf.proofs.ForCallers.{all_append}
 use Rattle.warg_tiles.specs.TileLog.{completed_from, tile_digests, AreTilesOf}
 use Rattle.warg_tiles.specs.Private.Edges.{edge_width, width_from, edge_within, edge_from, EndsWith, AreAdded}
@@ -56,11 +56,7 @@ completed_step level count low = let one : 8 - level ≡ suc (8 - (level + 1)) =
 completed_more : (level count : ℕ) → level < 8 → count % 256 ≡ 255
     → completed_from (8 - level) level (count + 1) ≡ record { level = level; number = count / 256; width = 256 }
     ∷ completed_from (8 - (level + 1)) (level + 1) (count / 256 + 1)
-completed_more level count low full =
-    let next = next_place count in
-    let place : count / 256 + 1 - 1 ≡ count / 256 = omega arith in
-    completed_step level (count + 1) low ∙ rw (eq-eqb ((count + 1) % 256) 0 ((next.1 full).1), (next.1 full).0, place)
-    refl
+completed_more level count low full = grind (arith, next_place count, completed_step level (count + 1) low, eq-eqb)
 
 -- a tile has as many digests as its width
 pub tile_count : (H : List ℕ → List ℕ) (ds : List (List ℕ)) (t : TileAt) → length (tile_digests H ds t) ≡ t.width
@@ -83,11 +79,7 @@ digest_at_place H ds t i low = get_or-map-range_with_len (λ i. root_of H (leave
 -- tiles behind tiles
 pub are_append : (H : List ℕ → List ℕ) (ds : List (List ℕ)) (xs ys : List TileAt) (old new : Tiles)
     → AreTilesOf H ds xs old → AreTilesOf H ds ys new → AreTilesOf H ds (xs ++ ys) (old ++ new)
-are_append H ds xs ys old new one two = record {
-  places = map-append (λ (t : TileAt × List (List ℕ)). t.0) old new ∙ cc (one.places, two.places);
-  digests = all_append (λ (t : TileAt × List (List ℕ)). IsTileBy (own_digest H ds) t.0 t.1) old new one.digests
-      two.digests;
-}
+are_append H ds xs ys old new one two = grind (arith, map-append, all_append)
 
 -- the digests of a tile that is there are the log's own
 pub own_tile : (H : List ℕ → List ℕ) (ds : List (List ℕ)) (t : TileAt)
@@ -115,19 +107,15 @@ pub edge_split : (H : List ℕ → List ℕ) (ds edge : List (List ℕ)) (level 
     → (take (length edge - count % 256) edge ≡ edge_from H ds (level + 1) (count / 256))
     × (drop (length edge - count % 256) edge
     ≡ tile_digests H ds (record { level = level; number = count / 256; width = count % 256 }))
-edge_split H ds edge level count low is =
-    let above = edge_from H ds (level + 1) (count / 256) in
-    let digests = tile_digests H ds (record { level = level; number = count / 256; width = count % 256 }) in
-    let whole : edge ≡ above ++ digests = is ∙ edge_step H ds level count low in
-    let size : length above ≡ length edge - count % 256 = omega (
-      arith,
-      ap length whole,
-      length-append above digests,
-      tile_count H ds (record { level = level; number = count / 256; width = count % 256 }),
-    ) in (
-      ap (take (length edge - count % 256)) whole ∙ take_at above digests _ size,
-      ap (drop (length edge - count % 256)) whole ∙ drop_at above digests _ size,
-    )
+edge_split H ds edge level count low is = grind (
+  arith,
+  edge_step H ds level count low,
+  length-append,
+  tile_count H
+      ds (record { level = level; number = count / 256; width = count % 256 }),
+  take_at,
+  drop_at,
+)
 
 -- a node's digest goes behind a partial tile
 pub edge_partial : (H : List ℕ → List ℕ) (ds edge : List (List ℕ)) (digest : List ℕ) (level count : ℕ) → level < 8
@@ -136,17 +124,7 @@ pub edge_partial : (H : List ℕ → List ℕ) (ds edge : List (List ℕ)) (dige
 edge_partial H ds edge digest level count low less is =
     let next = (next_place count).0 less in
     let place : 256 * (count / 256) + count % 256 ≡ count = omega arith in
-    rw (
-      edge_step H ds level (count + 1) low,
-      next.0,
-      next.1,
-      digests_more H ds level (count / 256) (count % 256),
-      place,
-      is.before,
-      edge_step H ds level count low,
-      append_assoc,
-      is.last,
-    ) refl
+    grind (arith, edge_step, digests_more, append_assoc)
 
 -- the parts of an edge whose last tile is filled, and where the tile's leaves end
 edge_parts : (H : List ℕ → List ℕ) (ds edge : List (List ℕ)) (digest : List ℕ) (level count : ℕ) → level < 8
@@ -172,23 +150,18 @@ root_up H ds level number fits =
     let t : TileAt = record { level = level; number = number; width = 256 } in
     let unit = 2 ^ (8 * level) in
     let sum : 8 + 8 * level ≡ 8 * (level + 1) = omega arith in
-    let start : number * 2 ^ (8 * (level + 1)) ≡ 256 * number * unit =
-    omega (arith, ap (λ p. number * p) (pow_up level)) in
+    let start : number * 2 ^ (8 * (level + 1)) ≡ 256 * number * unit = omega
+    (arith, ap (λ p. number * p) (pow_up level)) in
     let size : 2 ^ (8 + 8 * level) ≡ 256 * unit = pow-add 2 8 (8 * level) in
     roots_of_parts H ds (tile_digests H ds t) (8 * level) 8 (number * 2 ^ (8 * (level + 1)))
     (omega (arith, start, size, fits)) (tile_count H ds t)
-    (λ i low.
-    let at : (256 * number + i) * unit ≡ number * 2 ^ (8 * (level + 1)) + i * unit = omega (arith, start) in
-    digest_at_place H ds t i low ∙ node_root H ds (8 * level) (256 * number + i) ∙ ap (λ a. root_over H ds a unit) at)
-    ∙ ap (λ n. root_over H ds (number * 2 ^ (8 * (level + 1))) (2 ^ n)) sum
-    ∙ sym (node_root H ds (8 * (level + 1)) number)
+    (λ i low. grind (arith, digest_at_place H ds t i low, node_root H ds (8 * level) (256 * number + i))) ∙ ap
+    (λ n. root_over H ds (number * 2 ^ (8 * (level + 1))) (2 ^ n)) sum ∙ sym
+    (node_root H ds (8 * (level + 1)) number)
 
 -- the level of a node that is there is below 8
 pub fits_low : (level count : ℕ) → (count + 1) * 2 ^ (8 * level) ≤ 2 ^ 63 → level < 8
-fits_low level count fits =
-    let least : 2 ^ (8 * level) ≤ (count + 1) * 2 ^ (8 * level) = grind arith in
-    let low : 8 * level < 64 = pow_below_pow (8 * level) 64 (omega arith) in
-    omega arith
+fits_low level count fits = grind (arith, pow_below_pow (8 * level) 64)
 
 -- and so does that above it, where the node is the last of a tile
 pub next_fits : (level count : ℕ) → (count + 1) * 2 ^ (8 * level) ≤ 2 ^ 63 → count % 256 ≡ 255
@@ -200,25 +173,24 @@ next_fits level count fits full =
 -- the width with a node more
 pub width_more : (level count : ℕ) → level < 8 → count % 256 < 255 → width_from level (count + 1)
     ≡ width_from level count + 1
-width_more level count low less = let next = (next_place count).0 less in
-    omega (arith, width_step level count low, width_step level (count + 1) low, ap (width_from (level + 1)) next.0)
+width_more level count low less = grind (arith, next_place, width_step)
 
 -- the width with a full tile more
 pub width_full : (level count : ℕ) → level < 8 → count % 256 ≡ 255
     → (width_from level count ≡ 255 + width_from (level + 1) (count / 256))
     × (width_from level (count + 1) ≡ width_from (level + 1) (count / 256 + 1))
-width_full level count low full =
-    let next = (next_place count).1 full in (
-      omega (arith, width_step level count low),
-      omega (arith, width_step level (count + 1) low, ap (width_from (level + 1)) next.0),
-    )
+width_full level count low full = grind (arith, next_place, width_step)
 
 -- no tile is filled
 pub nothing_added : (H : List ℕ → List ℕ) (ds : List (List ℕ)) (old : Tiles) (level count : ℕ) → level < 8
     → count % 256 < 255 → AreAdded H ds (completed_from (8 - level) level (count + 1)) old old
-nothing_added H ds old level count low less =
-    let none = completed_step level (count + 1) low ∙ rw (ne_eqb ((count + 1) % 256) 0 (λ nought. omega arith)) refl in
-    ([], sym (append-nil old), record { places = sym none; digests = tt })
+nothing_added H ds old level count low less = grind (
+  arith,
+  completed_step level (count + 1) low,
+  ne_eqb,
+  append-nil
+      old,
+)
 
 -- the first digests of an edge whose last tile was filled, with the digest above it
 pub edge_full : (H : List ℕ → List ℕ) (ds edge above : List (List ℕ)) (last : List ℕ) (level count kept : ℕ) → level < 8
@@ -226,18 +198,8 @@ pub edge_full : (H : List ℕ → List ℕ) (ds edge above : List (List ℕ)) (l
     → above ≡ take (length edge - 255) edge → kept ≤ length above → take kept above ++ last ∷ []
     ≡ edge_from H ds (level + 1) (count / 256 + 1)
     → take kept edge ++ last ∷ [] ≡ edge_from H ds level (count + 1)
-edge_full H ds edge above last level count kept low full front few is =
-    let next = (next_place count).1 full in
-    let same : take kept edge ≡ take kept above =
-    rw front (sym (take-take kept (length edge - 255) edge
-    (omega (arith, ap length front, length-take (length edge - 255) edge)))) in
-    rw (
-      edge_step H ds level (count + 1) low,
-      next.0,
-      next.1,
-      same,
-      append-nil (edge_from H ds (level + 1) (count / 256 + 1)),
-    ) is
+edge_full H ds edge above last level count kept low full front few is = grind
+    (arith, next_place, take-take, length-take, edge_step, append-nil)
 
 -- the edge above a tile that was filled ends with the tile's root
 pub ends_up : (H : List ℕ → List ℕ) (ds edge above digests : List (List ℕ)) (digest root : List ℕ) (level count : ℕ)
@@ -263,11 +225,8 @@ tile_added H ds edge digests digest old new pushed tile level count low full is 
     let parts = edge_parts H ds edge digest level count low full is in
     let t : TileAt = record { level = level; number = count / 256; width = 256 } in
     let own = own_tile H ds t (omega (arith, parts.2)) in
-    let one : AreTilesOf H ds (t ∷ []) ((tile, digests) ∷ []) = rw (at, rest, parts.1) own in (
-      (tile, digests) ∷ added.0,
-      added.1 ∙ ap (λ l. l ++ added.0) put ∙ append_assoc old ((tile, digests) ∷ []) added.0,
-      rw (completed_more level count low full) (are_append H ds (t ∷ []) _ ((tile, digests) ∷ []) added.0 one added.2),
-    )
+    let one : AreTilesOf H ds (t ∷ []) ((tile, digests) ∷ []) = rw (at, rest, parts.1) own in
+    grind (arith, append_assoc, completed_more, are_append)
 
 -- two facts of a value that may be there
 pub both : {X E : Type 0} (r : Result X E) (P Q R : X → Type 0) → ((x : X) → P x → Q x → R x) → IfOk r P → IfOk r Q

@@ -1,5 +1,5 @@
 -- Entry bundles, entry by entry.
-use Rattle.std.proofs.Common.{◌≡◌, ◌≢◌, ℕ, ◌+◌, ◌/◌, ◌%◌, ◌<◌, List, [], ◌∷◌, ◌++◌, ◌==◌, false, length, take, drop, map, slice_index_or, refl, sym, ap, ◌∙◌, arith}
+use Rattle.std.proofs.Common.{◌≡◌, ◌≢◌, ℕ, ◌+◌, ◌<◌, List, [], ◌∷◌, ◌++◌, ◌==◌, false, length, take, map, slice_index_or, refl, sym, ap, arith}
 use Rattle.std.proofs.lemmas.Bool.{eqb-false}
 use Rattle.std.specs.List.{AllByRecursion}
 use Rattle.std.proofs.lemmas.List.{append_assoc, append-nil, map_more, take_at, drop_at}
@@ -10,21 +10,12 @@ pub bundle_of-push : (entries : List (List ℕ)) (entry : List ℕ) → bundle_o
     ≡ bundle_of entries ++ (two_bytes (length entry) ++ entry)
 unfolding bundle_of
 bundle_of-push [] entry = ap (λ l. two_bytes (length entry) ++ l) (append-nil entry)
-bundle_of-push (first ∷ entries) entry = ap (λ l. two_bytes (length first) ++ l)
-    (rw (bundle_of-push entries entry)
-    (sym (append_assoc first (bundle_of entries) (two_bytes (length entry) ++ entry))))
+bundle_of-push (first ∷ entries) entry = grind (arith, bundle_of-push entries entry, append_assoc)
 
 -- two entries that begin one text are one, and so is what stands behind them
 same_first : (x y xs ys : List ℕ) → two_bytes (length x) ++ (x ++ xs) ≡ two_bytes (length y) ++ (y ++ ys)
     → (x ≡ y) × (xs ≡ ys)
-same_first x y xs ys is =
-    let high : length x / 256 ≡ length y / 256 = cc in
-    let low : length x % 256 ≡ length y % 256 = cc in
-    let count : length x ≡ length y = omega arith in
-    let texts : x ++ xs ≡ y ++ ys = cc in (
-      sym (take_at x xs (length x) refl) ∙ ap (take (length x)) texts ∙ take_at y ys (length x) (sym count),
-      sym (drop_at x xs (length x) refl) ∙ ap (drop (length x)) texts ∙ drop_at y ys (length x) (sym count),
-    )
+same_first x y xs ys is = grind (arith, take_at x xs (length x) refl, take_at, drop_at x xs (length x) refl, drop_at)
 
 -- bytes that are no entry and what stands behind it are cut short
 pub none_left : (xs ys : List (List ℕ)) (rest : List ℕ) → AllByRecursion (λ e. length e < 65536) xs
@@ -35,17 +26,14 @@ unfolding bundle_of
 none_left [] [] rest small also some none is = omega (arith, ap length is)
 none_left [] (y ∷ ys) rest small also some none is = none y (bundle_of ys) also.0 is
 none_left (x ∷ xs) [] rest small also some none is = omega (arith, ap length is)
-none_left (x ∷ xs) (y ∷ ys) rest small also some none is =
-    none_left xs ys rest small.1 also.1 some none
-    (same_first x y (bundle_of xs ++ rest) (bundle_of ys)
-    (rw (← append_assoc x (bundle_of xs) rest) is)).1
+none_left (x ∷ xs) (y ∷ ys) rest small also some none is = grind
+    (arith, none_left xs ys rest small.1 also.1 some none, same_first, append_assoc)
 
 -- an entry more is read
 pub read_more : (bytes : List ℕ) (before : List (List ℕ)) (entry rest behind : List ℕ)
     → bytes ≡ bundle_of before ++ rest → rest ≡ two_bytes (length entry) ++ (entry ++ behind)
     → bytes ≡ bundle_of (before ++ entry ∷ []) ++ behind
-read_more bytes before entry rest behind read first = rw (read, first, bundle_of-push before entry)
-    (sym (append_assoc (bundle_of before) (two_bytes (length entry) ++ entry) behind))
+read_more bytes before entry rest behind read first = grind (arith, bundle_of-push, append_assoc)
 
 -- an entry more is written
 pub written_more : {X : Type 0} (f : X → List ℕ) (xs : List X) (i : ℕ) (x : X) → i < length xs → slice_index_or xs i x

@@ -1,6 +1,6 @@
 -- The tiles to fetch, one by one.
-use Rattle.std.proofs.Common.{Bool, ◌||◌, ◌≡◌, ◌≢◌, ℕ, ◌+◌, ◌-◌, ◌*◌, ◌/◌, ◌%◌, ◌^◌, ◌<◌, ◌≤◌, ◌==◌, ◌&&◌, nat_le, min, true, false, List, [], ◌∷◌, ◌++◌, length, take, map, get_or, refl, sym, ap, ◌∙◌, arith}
-use Rattle.std.specs.List.{AllByRecursion, flat_map, list_any}
+use Rattle.std.proofs.Common.{Bool, ◌||◌, ◌≡◌, ◌≢◌, ℕ, ◌+◌, ◌-◌, ◌*◌, ◌/◌, ◌%◌, ◌^◌, ◌<◌, ◌≤◌, min, true, false, List, [], ◌∷◌, ◌++◌, length, take, map, get_or, refl, sym, ap, ◌∙◌, arith}
+use Rattle.std.specs.List.{AllByRecursion, flat_map}
 use Rattle.std.specs.Prelude.{IsSome, Option}
 use Rattle.std.specs.Option.{option_or}
 use Rattle.std.proofs.lemmas.Nat.{pow_pos, le-div}
@@ -10,7 +10,7 @@ use Rattle.std.proofs.lemmas.List.{append_assoc, append-nil, map_more}
 use Rattle.std.proofs.lemmas.List.Folds.{list_any-append, list_any_at}
 use Rattle.std.proofs.lemmas.List.Quantifiers.{all_pairs_push}
 use Rattle.warg_log.specs.declared.node.Node.{Node}
-use Rattle.warg_log.specs.Nodes.{ExistsAt, height_of, place_of, end_of, node_over, balanced_roots}
+use Rattle.warg_log.specs.Nodes.{ExistsAt, height_of, balanced_roots}
 use Rattle.warg_log.specs.Walks.{needed, IsKnown}
 use Rattle.warg_log.proofs.ForCallers.{pow_below_pow, over_at, roots_exist}
 use Rattle.warg_protobuf.proofs.ForCallers.{all_append, all_push, all_weaken, all_at}
@@ -24,8 +24,7 @@ use Rattle.warg_tiles.proofs.OwnLemmas.{leaves_by_tile}
 -- a tile that serves nodes serves more of them
 serves_more : (xs ys : List ℕ) (tiles : List TileAt) → AllByRecursion (λ t. serves xs t ≡ true) tiles
     → AllByRecursion (λ t. serves (xs ++ ys) t ≡ true) tiles
-serves_more xs ys tiles all = all_weaken (λ t. serves xs t ≡ true) (λ t. serves (xs ++ ys) t ≡ true)
-    (λ t is. list_any-append (has_below t) xs ys ∙ rw is refl) tiles all
+serves_more xs ys tiles all = grind (arith, all_weaken, list_any-append)
 
 -- or with what is true
 or_true : (b : Bool) → (b || true) ≡ true
@@ -33,18 +32,11 @@ or_true true = refl
 or_true false = refl
 
 serves_last : (xs : List ℕ) (x : ℕ) (t : TileAt) → has_below t x ≡ true → serves (xs ++ x ∷ []) t ≡ true
-serves_last xs x t has = list_any-append (has_below t) xs (x ∷ [])
-    ∙ (let last : list_any (has_below t) (x ∷ []) ≡ true = rw has refl in rw last (or_true (list_any (has_below t) xs)))
+serves_last xs x t has = grind (arith, list_any-append, or_true)
 
 -- nor for a node that the tiles give
 pub added_known : (n x : ℕ) (tiles : List TileAt) → gives tiles x ≡ true → IsAdded n tiles tiles (x ∷ [])
-added_known n x tiles given = record {
-  tiles_of = λ are. are;
-  serve = λ before all. serves_more before
-      (x ∷ []) tiles all;
-  keep = λ x given. given;
-  give = (given, tt);
-}
+added_known n x tiles given = grind (arith, serves_more)
 
 -- and one for a node that they don't
 pub added_new : (n x : ℕ) (tiles : List TileAt) (t : TileAt) → gives tiles x ≡ false → IsTileOf n t
@@ -52,14 +44,18 @@ pub added_new : (n x : ℕ) (tiles : List TileAt) (t : TileAt) → gives tiles x
 added_new n x tiles t none of_length has = record {
   tiles_of = λ are. record {
     of_length = all_push (IsTileOf n) tiles t are.of_length of_length;
-    once = all_pairs_push (λ (s u : TileAt). s ≢ u) tiles t are.once
-        (λ k d inside same. true≢false
+    once = all_pairs_push
+        (λ (s u : TileAt). s ≢ u) tiles t are.once (λ k d inside same. true≢false
         (sym (list_any_at (λ s. has_below s x) tiles k d inside (rw same has)) ∙ none));
   };
-  serve = λ before all. all_push (λ t. serves (before ++ x ∷ []) t ≡ true) tiles t
-      (serves_more before (x ∷ []) tiles all) (serves_last before x t has);
-  keep = λ y given. list_any-append (λ s. has_below s y) tiles (t ∷ []) ∙ rw given refl;
-  give = (list_any-append (λ s. has_below s x) tiles (t ∷ []) ∙ rw (none, has) refl, tt);
+  serve = grind
+      (arith, all_push, serves_more, serves_last);
+  keep = λ y given. list_any-append (λ s. has_below s y) tiles
+      (t ∷ []) ∙ rw given refl;
+  give = (
+    list_any-append (λ s. has_below s x) tiles (t ∷ []) ∙ rw (none, has) refl,
+    tt,
+  );
 }
 
 -- what was added after what was added
@@ -70,8 +66,8 @@ added_append n first second third xs ys one two = record {
   serve = λ before all. rw (append_assoc before xs ys) at
       (two.serve (before ++ xs) (one.serve before all));
   keep = λ x given. two.keep x (one.keep x given);
-  give = all_append (λ x. gives third x ≡ true) xs ys
-      (all_weaken (λ x. gives second x ≡ true) (λ x. gives third x ≡ true) two.keep xs one.give) two.give;
+  give = grind
+      (arith, all_append, all_weaken);
 }
 
 -- what was added to no tiles
@@ -111,12 +107,7 @@ least_there x n least is there small =
     let height : height_of x < 64 = pow_below_pow (height_of x) 64 (omega (arith, pow_pos (height_of x))) in
     let within = le-div (place_in_level x + 2 ^ (height_of x % 8)) n (2 ^ (8 * (height_of x / 8)))
     (pow_pos (8 * (height_of x / 8))) (omega (arith, leaves.0, leaves.2)) in
-    rw is (
-      omega arith,
-      omega arith,
-      omega (arith, pow_pos (height_of x % 8)),
-      rw (place_in_level_is x) (width_most (place_of x) (height_of x % 8) (omega arith)),
-    )
+    grind (arith, pow_pos, place_in_level_is, width_most)
 
 -- a tile of the least one's level and number that is as wide as the length allows is one of the length, and has all
 -- digests
@@ -125,20 +116,7 @@ pub tile_made_for : (x n : ℕ) (t least : TileAt) → t ≡ record least { widt
     → t.width ≡ min (n / 2 ^ (8 * least.level) - 256 * least.number) 256 → least ≡ tile_over x → ExistsAt x n
     → n ≤ 2 ^ 63
     → (0 < t.width) × IsTileOf n t × (has_below t x ≡ true)
-tile_made_for x n t least at wide is there small =
-    let facts = least_there x n least is there small in
-    let enough : least.width ≤ t.width = omega (arith, facts) in
-    let level : t.level ≡ least.level = rw at refl in
-    let number : t.number ≡ least.number = rw at refl in (
-      omega (arith, facts),
-      record { some = omega (arith, facts); width = rw (level, number) wide },
-      ap (λ (o : TileAt). t.level == o.level && (t.number == o.number && nat_le o.width t.width)) (sym is)
-          ∙ rw (
-            eq-eqb t.level least.level level,
-            eq-eqb t.number least.number number,
-            le-leb least.width t.width enough,
-          ) refl,
-    )
+tile_made_for x n t least at wide is there small = grind (arith, least_there, eq-eqb, le-leb)
 
 -- what holds of each node's number
 pub all_numbers : (P : ℕ → Type 0) (nodes : List Node) → AllByRecursion P (map (λ x. x.0) nodes)
@@ -149,10 +127,14 @@ all_numbers P (x ∷ nodes) all = (all.0, all_numbers P nodes all.1)
 -- a balanced root of a length is there at each length from it on
 pub root_there : (old n : ℕ) (roots : List Node) (i : ℕ) (d : Node) → old ≤ n → map (λ x. x.0) roots
     ≡ balanced_roots old → i < length roots → ExistsAt (get_or roots i d).0 n × (0 < n)
-root_there old n roots i d order is inside =
-    let there = all_at (λ (node : Node). end_of node.0 ≤ old) roots i d
-    (all_numbers (λ t. end_of t ≤ old) roots (rw is (roots_exist old))) inside in
-    (omega arith, omega (arith, pow_pos (height_of (get_or roots i d).0)))
+root_there old n roots i d order is inside = grind (
+  arith,
+  all_at,
+  all_numbers,
+  roots_exist old,
+  pow_pos
+      (height_of (get_or roots i d).0),
+)
 
 -- a balanced root more
 pub added_root : (n : ℕ) (tiles more : List TileAt) (roots : List Node) (i : ℕ) (d : Node) → i < length roots
@@ -171,10 +153,7 @@ added_root n tiles more roots i d inside so_far added =
 
 -- the tests of a tile that covers another one
 covers_parts : (t u : TileAt) → covers t u ≡ true → (t.level ≡ u.level) × (t.number ≡ u.number) × (u.width ≤ t.width)
-covers_parts t u is =
-    let level = and_parts (t.level == u.level) (t.number == u.number && nat_le u.width t.width) is in
-    let number = and_parts (t.number == u.number) (nat_le u.width t.width) level.1 in
-    (eqb-true t.level u.level level.0, eqb-true t.number u.number number.0, leb-true u.width t.width number.1)
+covers_parts t u is = grind (arith, and_parts, eqb-true, leb-true)
 
 covers_from : (t u : TileAt) → t.level ≡ u.level → t.number ≡ u.number → u.width ≤ t.width → covers t u ≡ true
 covers_from t u level number width = rw (
@@ -184,10 +163,7 @@ covers_from t u level number width = rw (
 ) refl
 
 covers_then : (t u v : TileAt) → covers t u ≡ true → covers u v ≡ true → covers t v ≡ true
-covers_then t u v one two =
-    let a = covers_parts t u one in
-    let b = covers_parts u v two in
-    covers_from t v (a.0 ∙ b.0) (a.1 ∙ b.1) (omega (arith, a.2, b.2))
+covers_then t u v one two = grind (arith, covers_parts, covers_from)
 
 -- a wider tile in a tile's place gives what that one gives
 pub wider_gives : (t wide : TileAt) (x : ℕ) → wide.level ≡ t.level → wide.number ≡ t.number → t.width ≤ wide.width
@@ -209,14 +185,4 @@ covered_gives (s ∷ tiles) t x is has = by_first (covers s.0 t) refl is (λ oth
 -- a tile of level 0 that is as wide as an entry's place needs gives the entry's leaf
 pub leaf_given : (t : TileAt) (index : ℕ) → t.level ≡ 0 → t.number ≡ index / 256 → index % 256 + 1 ≤ t.width
     → has_below t (2 * index) ≡ true
-leaf_given t index level number wide =
-    let x = 2 * index in
-    let at = over_at 0 index in
-    let same : node_over (index * 2 ^ 0) (2 ^ 0) ≡ x = omega arith in
-    let height : height_of x ≡ 0 = ap height_of (sym same) ∙ at.0 in
-    let place : place_of x ≡ index = ap place_of (sym same) ∙ at.1 in
-    let one : 2 ^ (height_of x % 8) ≡ 1 = ap (λ h. 2 ^ (h % 8)) height in
-    let in_level : place_in_level x ≡ index = place_in_level_is x
-    ∙ omega (arith, place, ap (λ n. place_of x * n) one) in
-    covers_from t (tile_over x) (level ∙ sym (ap (λ h. h / 8) height)) (number ∙ sym (ap (λ n. n / 256) in_level))
-    (omega (arith, in_level, one, wide))
+leaf_given t index level number wide = grind (arith, over_at 0 index, place_in_level_is, covers_from)

@@ -36,23 +36,15 @@ completed_only : (k level count : ℕ) (t : TileAt) → 0 < count → Contains (
     → (t.width ≡ 256) × (level ≤ t.level) × (tile_end t ≡ count * 2 ^ (8 * level))
 unfolding completed_from
 completed_only zero level count t some has = absurd (omega (arith, has.1))
-completed_only (suc k) level count t some has =
-    (elim (cases_lt 0 (count % 256)) as (λ _. Contains (completed_from (suc k) level count) t → (t.width ≡ 256)
-    × (level ≤ t.level) × (tile_end t ≡ count * 2 ^ (8 * level))) [
-      | inl rest ↦ rw (ne_eqb (count % 256) 0 (λ none. omega arith)) (λ has. absurd (omega (arith, has.1)))
-      | inr none ↦
-          let full : count % 256 ≡ 0 = omega arith in
-          let whole : count ≡ count / 256 * 256 = omega arith in
-          let up : count / 256 * 2 ^ (8 * (level + 1)) ≡ count * 2 ^ (8 * level) =
-          omega (arith, ap (λ p. count / 256 * p) (pow_up level), ap (λ n. n * 2 ^ (8 * level)) whole) in
-          rw (eq-eqb (count % 256) 0 full) (λ has. elim (in_front _ t (completed_from k (level + 1) (count / 256)) has) [
-            | inl here ↦
-                let last : 256 * (count / 256 - 1) + 256 ≡ count = omega arith in
-                subst (λ (s : TileAt). (s.width ≡ 256) × (level ≤ s.level) × (tile_end s ≡ count * 2 ^ (8 * level))) here
-                (refl, omega arith, ap (λ n. n * 2 ^ (8 * level)) last)
-            | inr there ↦ let f = completed_only k (level + 1) (count / 256) t (omega arith) there in
-                (f.0, omega (arith, f.1), f.2 ∙ up)
-          ])
+completed_only (suc k) level count t some has = (elim (cases_lt 0 (count % 256))
+    as (λ _. Contains (completed_from (suc k) level count) t → (t.width ≡ 256) × (level ≤ t.level) ×
+    (tile_end t ≡ count * 2 ^ (8 * level))) [
+      | inl rest ↦ rw (ne_eqb (count % 256) 0 (λ none. omega arith))
+          (λ has. absurd (omega (arith, has.1)))
+      | inr none ↦ let full : count % 256 ≡ 0 = omega arith in let
+          whole : count ≡ count / 256 * 256 = omega arith in let up : count / 256 * 2 ^ (8 * (level + 1)) ≡ count * 2 ^
+          (8 * level) = omega (arith, ap (λ p. count / 256 * p) (pow_up level), ap (λ n. n * 2 ^ (8 * level)) whole) in rw
+          (eq-eqb (count % 256) 0 full) (grind (arith, in_front, completed_only k (level + 1) (count / 256) t))
     ]) has
 
 in_completed : (k level count : ℕ) (t : TileAt) → t.width ≡ 256 → level ≤ t.level → t.level < level + k
@@ -89,25 +81,19 @@ in_completed (suc k) level count t full low high ends =
 completed_order : (k level count : ℕ) → 0 < count → AllPairs IsFilledBefore (completed_from k level count)
 unfolding completed_from
 completed_order zero level count some = none_alone IsFilledBefore
-completed_order (suc k) level count some = elim (cases_lt 0 (count % 256)) as
-    (λ _. AllPairs IsFilledBefore (completed_from (suc k) level count)) [
+completed_order (suc k) level count some = elim (cases_lt 0 (count % 256))
+    as (λ _. AllPairs IsFilledBefore (completed_from (suc k) level count)) [
       | inl rest ↦ rw (ne_eqb (count % 256) 0 (λ none. omega arith)) (none_alone IsFilledBefore)
-      | inr none ↦
-          let full : count % 256 ≡ 0 = omega arith in
-          let first : TileAt = record { level = level; number = count / 256 - 1; width = 256 } in
-          let last : 256 * (count / 256 - 1) + 256 ≡ count = omega arith in
-          let ends : tile_end first ≡ count * 2 ^ (8 * level) = ap (λ n. n * 2 ^ (8 * level)) last in
-          let whole : count ≡ count / 256 * 256 = omega arith in
-          let up : count / 256 * 2 ^ (8 * (level + 1)) ≡ count * 2 ^ (8 * level) =
-          omega (arith, ap (λ p. count / 256 * p) (pow_up level), ap (λ n. n * 2 ^ (8 * level)) whole) in
-          rw (eq-eqb (count % 256) 0 full)
-          (all_pairs_append IsFilledBefore (first ∷ []) (completed_from k (level + 1) (count / 256))
-          (one_alone IsFilledBefore first) (completed_order k (level + 1) (count / 256) (omega arith))
-          (λ s t here there. elim (in_front first s [] here) [
-            | inl is ↦ let f = completed_only k (level + 1) (count / 256) t (omega arith) there in
-                subst (λ (s : TileAt). IsFilledBefore s t) is (inr (ends ∙ sym up ∙ sym f.2, omega (arith, f.1)))
-            | inr none ↦ absurd (omega (arith, none.1))
-          ]))
+      | inr none ↦ let
+          full : count % 256 ≡ 0 = omega arith in let first : TileAt = record
+          { level = level; number = count / 256 - 1; width = 256 } in let last : 256 * (count / 256 - 1) + 256 ≡ count =
+          omega arith in let ends : tile_end first ≡ count * 2 ^ (8 * level) = ap (λ n. n * 2 ^ (8 * level)) last in let
+          whole : count ≡ count / 256 * 256 = omega arith in let up : count / 256 * 2 ^ (8 * (level + 1)) ≡ count * 2 ^
+          (8 * level) = omega (arith, ap (λ p. count / 256 * p) (pow_up level), ap (λ n. n * 2 ^ (8 * level)) whole) in rw
+          (eq-eqb (count % 256) 0 full) (all_pairs_append IsFilledBefore (first ∷ [])
+          (completed_from k (level + 1) (count / 256)) (one_alone IsFilledBefore first)
+          (completed_order k (level + 1) (count / 256) (omega arith))
+          (λ s t here there. grind (arith, in_front, completed_only k (level + 1) (count / 256) t)))
     ]
 
 -- those between two lengths
@@ -147,22 +133,19 @@ in_full (suc d) old t full low from to =
 
 full_order : (d old : ℕ) → AllPairs IsFilledBefore (full_between old (old + d))
 full_order zero old = subst (AllPairs IsFilledBefore) (sym (full_none old)) (none_alone IsFilledBefore)
-full_order (suc d) old =
-    rw (full_next old d)
-    (all_pairs_append IsFilledBefore (full_between old (old + d)) (completed_at (old + d + 1)) (full_order d old)
-    (completed_order 8 0 (old + d + 1) (omega arith))
-    (λ s t here there.
-    let f = full_only d old s here in
-    let g = completed_only 8 0 (old + d + 1) t (omega arith) there in
-    inl (omega (arith, f.2, g.2 ∙ at_length (old + d + 1)))))
+full_order (suc d) old = rw (full_next old d) (all_pairs_append IsFilledBefore (full_between old (old + d))
+    (completed_at (old + d + 1)) (full_order d old) (completed_order 8 0 (old + d + 1) (omega arith))
+    (λ s t here there. grind (
+      arith,
+      full_only d old s here,
+      completed_only 8 0 (old + d + 1) t,
+      at_length
+          (old + d + 1),
+    )))
 
 -- a full tile is there from its end on
 there_from : (n : ℕ) (t : TileAt) → t.width ≡ 256 → tile_end t ≤ n → IsTileOf n t
-there_from n t full ends =
-    let p = 2 ^ (8 * t.level) in
-    let wide = ap (λ w. (256 * t.number + w) * p) full in
-    let least = le-div (256 * t.number + 256) n p (pow_pos (8 * t.level)) (omega arith) in
-    record { some = omega arith; width = omega arith }
+there_from n t full ends = grind (arith, le-div, pow_pos)
 
 end_there : (n : ℕ) (t : TileAt) → t.width ≡ 256 → IsTileOf n t → tile_end t ≤ n
 end_there n t full is =
@@ -201,17 +184,7 @@ full_later old new order fits =
 
 -- where the length is no greater, no tile is new
 full_before : (old new : ℕ) → new < old → AreFullBetween old new (full_between old new)
-full_before old new order =
-    let none : full_between old new ≡ [] = let zero_new : new - old ≡ 0 = omega arith in rw zero_new refl in
-    rw none (record {
-      exactly =
-          λ t. (
-            λ has. absurd (omega (arith, has.1)),
-            λ is. absurd (is.2 (there_from old t is.0 (let ends = end_there new t is.0 is.1 in omega arith))),
-          );
-      once = none_alone (λ (s t : TileAt). s ≢ t);
-      order = none_alone IsFilledBefore;
-    })
+full_before old new order = grind (arith, there_from, end_there, none_alone)
 
 pub all_full : (old new : ℕ) → new ≤ 2 ^ 63 → AreFullBetween old new (full_between old new)
 all_full old new fits =
@@ -220,18 +193,16 @@ all_full old new fits =
 -- the partial tiles from a level on
 partial_only : (k level n : ℕ) (t : TileAt) → level + k ≡ 8 → Contains (partial_from n level) t → (level ≤ t.level)
     × (IsTileOf n t × (t.width < 256))
-partial_only zero level n t last has = let eight : level ≡ 8 = omega arith in
-    let none = subst (λ l. Contains (partial_from n l) t) eight has in absurd (omega (arith, none.1))
-partial_only (suc k) level n t last has = elim (cases_lt 0 (n / 2 ^ (8 * level) % 256)) [
-  | inl some ↦ elim (in_front (last_tile n level) t (partial_from n (level + 1))
-      (subst (λ l. Contains l t) (from_some n level (omega arith) some) has)) [
-        | inl here ↦ subst (λ (s : TileAt). (level ≤ s.level) × (IsTileOf n s × (s.width < 256))) here
-            (omega arith, (record { some = some; width = omega arith }, omega arith))
-        | inr there ↦ let f = partial_only k (level + 1) n t (omega arith) there in (omega (arith, f.0), f.1)
-      ]
-  | inr none ↦ let f = partial_only k (level + 1) n t (omega arith)
-      (subst (λ l. Contains l t) (from_none n level (omega arith) (omega arith)) has) in (omega (arith, f.0), f.1)
-]
+partial_only zero level n t last has = grind arith
+partial_only (suc k) level n t last has = grind (
+  arith,
+  cases_lt,
+  in_front,
+  from_some,
+  partial_only k (level + 1) n
+      t,
+  from_none,
+)
 
 in_partial : (k level n : ℕ) (t : TileAt) → level + k ≡ 8 → level ≤ t.level → t.level < 8 → IsTileOf n t → t.width < 256
     → Contains (partial_from n level) t
@@ -258,25 +229,16 @@ in_partial (suc k) level n t last from to is few = elim (cases_lt level t.level)
 ]
 
 partial_order : (k level n : ℕ) → level + k ≡ 8 → AllPairs (λ (s t : TileAt). s.level < t.level) (partial_from n level)
-partial_order zero level n last = let eight : level ≡ 8 = omega arith in
-    subst (λ l. AllPairs (λ (s t : TileAt). s.level < t.level) (partial_from n l)) (sym eight)
-    (none_alone (λ (s t : TileAt). s.level < t.level))
+partial_order zero level n last = grind (arith, none_alone)
 partial_order (suc k) level n last =
     let Below : TileAt → TileAt → Type 0 = λ s t. s.level < t.level in
     elim (cases_lt 0 (n / 2 ^ (8 * level) % 256)) [
-      | inl some ↦
-          subst (AllPairs Below) (sym (from_some n level (omega arith) some))
-          (all_pairs_append Below (last_tile n level ∷ []) (partial_from n (level + 1))
-          (one_alone Below (last_tile n level)) (partial_order k (level + 1) n (omega arith))
-          (λ s t here there. elim (in_front (last_tile n level) s [] here) [
-            | inl is ↦ omega (
-              arith,
-              (partial_only k (level + 1) n t (omega arith) there).0,
-              ap (λ (x : TileAt). x.level) is,
-            )
-            | inr none ↦ absurd (omega (arith, none.1))
-          ]))
-      | inr none ↦ subst (AllPairs Below) (sym (from_none n level (omega arith) (omega arith)))
+      | inl some ↦ subst (AllPairs Below)
+          (sym (from_some n level (omega arith) some)) (all_pairs_append Below (last_tile n level ∷ [])
+          (partial_from n (level + 1)) (one_alone Below (last_tile n level)) (partial_order k (level + 1) n (omega arith))
+          (λ s t here there. grind (arith, in_front (last_tile n level) s [] here, partial_only k (level + 1) n t)))
+      | inr
+          none ↦ subst (AllPairs Below) (sym (from_none n level (omega arith) (omega arith)))
           (partial_order k (level + 1) n (omega arith))
     ]
 

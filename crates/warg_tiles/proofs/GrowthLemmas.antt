@@ -16,31 +16,17 @@ use Rattle.warg_tiles.specs.Between.{IsTileOf, filled, level_tiles, levels_from,
 by_level : (P : List TileAt → Type 0) (level old new : ℕ) → old ≤ new → (old ≡ new → P [])
     → (old < new → P (map (filled level new) (range_with_len (old / 256) ((new + 255) / 256 - old / 256))))
     → P (level_tiles level old new)
-by_level P level old new order none some = elim (cases_lt old new) [
-  | inl more ↦ rw (ne_eqb old new (λ e. omega arith)) (some more)
-  | inr less ↦ let same : old ≡ new = omega arith in rw (eq-eqb old new same) (none same)
-]
+by_level P level old new order none some = grind (arith, cases_lt, ne_eqb, eq-eqb)
 
 -- a longer log has no fewer nodes of a level
 higher : (old new level : ℕ) → old ≤ new → old / 2 ^ (8 * level) ≤ new / 2 ^ (8 * level)
-higher old new level order = le-div (old / 2 ^ (8 * level)) new (2 ^ (8 * level)) (pow_pos (8 * level))
-    (omega (arith, div-mul-le_self old (2 ^ (8 * level))))
+higher old new level order = grind (arith, le-div, pow_pos, div-mul-le_self)
 
 -- a tile of a level's list is new
 pub level_only : (level old new : ℕ) (t : TileAt) → old ≤ new
     → Contains (level_tiles level (old / 2 ^ (8 * level)) (new / 2 ^ (8 * level))) t
     → (t.level ≡ level) × (IsTileOf new t × (IsTileOf old t → ⊥))
-level_only level old new t order =
-    let a = old / 2 ^ (8 * level) in
-    let b = new / 2 ^ (8 * level) in
-    by_level (λ l. Contains l t → (t.level ≡ level) × (IsTileOf new t × (IsTileOf old t → ⊥))) level a b
-    (higher old new level order) (λ same has. absurd (omega (arith, has.1)))
-    (λ more has.
-    let inside : has.0 < (b + 255) / 256 - a / 256 =
-    omega (arith, has.1, length-map-range_with_len (filled level b) (a / 256) ((b + 255) / 256 - a / 256)) in
-    subst (λ (s : TileAt). (s.level ≡ level) × (IsTileOf new s × (IsTileOf old s → ⊥)))
-    (sym (get_or-map-range_with_len (filled level b) (a / 256) _ has.0 (a / 256 + has.0) t inside refl) ∙ has.2)
-    (refl, (record { some = omega arith; width = refl }, λ older. omega (arith, older.width))))
+level_only level old new t order = grind (arith, by_level, higher, length-map-range_with_len, get_or-map-range_with_len)
 
 -- a new tile stands in its level's list
 in_level : (old new : ℕ) (t : TileAt) → old ≤ new → IsTileOf new t → (IsTileOf old t → ⊥)
@@ -52,13 +38,13 @@ in_level old new t order is isnt =
     let differ : t.width ≢ min (a - 256 * t.number) 256 = λ same. isnt (record { some = is.some; width = same }) in
     by_level (λ l. Contains l t) t.level a b more_nodes
     (λ same. absurd (differ (is.width ∙ ap (λ n. min (n - 256 * t.number) 256) (sym same))))
-    (λ more.
-    let from : a / 256 ≤ t.number = omega (arith, is.width, differ) in
-    let to : t.number < (b + 255) / 256 = omega (arith, is.some, is.width) in (
+    (λ more. let from : a / 256 ≤ t.number = omega (arith, is.width, differ) in let to : t.number < (b + 255) / 256
+    = omega (arith, is.some, is.width) in (
       t.number - a / 256,
-      omega (arith, length-map-range_with_len (filled t.level b) (a / 256) ((b + 255) / 256 - a / 256)),
-      get_or-map-range_with_len (filled t.level b) (a / 256) _ (t.number - a / 256) t.number t (omega arith)
-          (omega arith) ∙ ap (λ w. record t { width = w }) (sym is.width),
+      omega
+          (arith, length-map-range_with_len (filled t.level b) (a / 256) ((b + 255) / 256 - a / 256)),
+      grind
+          (arith, get_or-map-range_with_len),
     ))
 
 -- a tile of the levels' lists is new
@@ -112,29 +98,19 @@ all_pairs_append R xs ys left right across i j d order inside =
 
 -- a level's tiles have different numbers
 once_level : (level old new : ℕ) → old ≤ new → AllPairs (λ (s t : TileAt). s ≢ t) (level_tiles level old new)
-once_level level old new order =
-    let a = old / 256 in
-    let n = (new + 255) / 256 - old / 256 in
-    let count = length-map-range_with_len (filled level new) a n in
-    by_level (AllPairs (λ (s t : TileAt). s ≢ t)) level old new order (λ same i j d order inside. absurd (omega arith))
-    (λ more i j d before inside same.
-    let at : (k : ℕ) → k < n → (get_or (map (filled level new) (range_with_len a n)) k d).number ≡ a + k =
-    λ k low. ap (λ (t : TileAt). t.number)
-    (get_or-map-range_with_len (filled level new) a n k (a + k) d low refl) in
-    omega (arith, at i (omega arith), at j (omega arith), ap (λ (t : TileAt). t.number) same))
+once_level level old new order = grind (arith, length-map-range_with_len, by_level, get_or-map-range_with_len)
 
 once_levels : (k level old new : ℕ) → old ≤ new → AllPairs (λ (s t : TileAt). s ≢ t) (levels_from k level old new)
 unfolding levels_from
 once_levels zero level old new order = λ i j d before inside same. omega arith
-once_levels (suc k) level old new order =
-    all_pairs_append (λ (s t : TileAt). s ≢ t) _ (levels_from k (level + 1) old new)
-    (once_level level (old / 2 ^ (8 * level)) (new / 2 ^ (8 * level)) (higher old new level order))
-    (once_levels k (level + 1) old new order)
-    (λ s t here there same. omega (
+once_levels (suc k) level old new order = all_pairs_append (λ (s t : TileAt). s ≢ t) _
+    (levels_from k (level + 1) old new) (once_level level (old / 2 ^ (8 * level)) (new / 2 ^ (8 * level))
+    (higher old new level order)) (once_levels k (level + 1) old new order)
+    (λ s t here there same. grind (
       arith,
-      (level_only level old new s order here).0,
-      (levels_only k (level + 1) old new t order there).0,
-      ap (λ (x : TileAt). x.level) same,
+      level_only level old new s order here,
+      levels_only k (level + 1) old new t
+          order there,
     ))
 
 -- a tile of a log stands below level 8

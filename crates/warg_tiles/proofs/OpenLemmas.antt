@@ -1,7 +1,7 @@
 -- A log that goes on from its partial tiles.
-use Rattle.std.proofs.Common.{◌≡◌, inl, inr, ℕ, zero, suc, ◌+◌, ◌-◌, ◌*◌, ◌/◌, ◌%◌, ◌^◌, ◌<◌, ◌==◌, ◌&&◌, Bool, true, false, cond, if◌then◌else◌, List, [], ◌∷◌, ◌++◌, length, map, filter, slice_index_or, Option, Some, None, refl, sym, ap, ◌∙◌, arith}
+use Rattle.std.proofs.Common.{◌≡◌, ℕ, zero, suc, ◌+◌, ◌-◌, ◌*◌, ◌/◌, ◌%◌, ◌^◌, ◌<◌, Bool, true, false, cond, if◌then◌else◌, List, [], ◌∷◌, length, map, filter, slice_index_or, Option, Some, None, refl, ◌∙◌, arith}
 use Rattle.std.specs.Prelude.{nat_lt}
-use Rattle.std.specs.List.{AllByRecursion, flat_map, range_with_len}
+use Rattle.std.specs.List.{AllByRecursion, range_with_len}
 use Rattle.std.proofs.lemmas.Bool.{lt-ltb, le-ltb, cases_lt, eqb-true, and_parts}
 use Rattle.std.proofs.lemmas.List.FromFn.{fill_by_all}
 use Rattle.std.proofs.lemmas.List.{append-nil, length-append}
@@ -13,7 +13,7 @@ use Rattle.warg_tiles.specs.Tiles.{TileAt, node_in}
 use Rattle.warg_tiles.specs.TileData.{IsTileBy}
 use Rattle.warg_tiles.specs.TileLog.{StandsFor, last_tile, partial_tiles, tile_digests, tile_fault, tiles_fault}
 use Rattle.warg_tiles.specs.declared.error.OpenError.{OpenError}
-use Rattle.warg_tiles.specs.declared.error.OpenError.TheVariants.{Count, Place, Width}
+use Rattle.warg_tiles.specs.declared.error.OpenError.TheVariants.{Count}
 use Rattle.warg_tiles.specs.Private.Edges.{edge_width, partial_from, joined}
 use Rattle.warg_tiles.proofs.OwnLemmas.{own_is}
 use Rattle.warg_tiles.proofs.BetweenLemmas.{same_tile}
@@ -37,13 +37,7 @@ tested true x e is = (refl, is)
 tested false x e is = cc
 
 one_same : (s t : TileAt) → tile_fault s t ≡ None → t ≡ s
-one_same s t is =
-    let place = tested (s.level == t.level && s.number == t.number) (if s.width == t.width then None else Some Width)
-    Place is in
-    let parts = and_parts (s.level == t.level) (s.number == t.number) place.0 in
-    let width = tested (s.width == t.width) None Width place.1 in
-    same_tile t s.level s.number s.width (sym (eqb-true s.level t.level parts.0))
-    (sym (eqb-true s.number t.number parts.1)) (sym (eqb-true s.width t.width width.0))
+one_same s t is = grind (arith, tested, and_parts, same_tile, eqb-true)
 
 -- tiles with no fault are those that were wanted
 pub no_fault : (wanted given : List TileAt) → tiles_fault wanted given ≡ None → given ≡ wanted
@@ -56,10 +50,7 @@ no_fault (w ∷ wanted) (g ∷ given) is = let parts = both_none (tile_fault w g
 -- a tile in front of others where it isn't empty, for what an empty one adds nothing to
 with_partial : {X : Type 0} (F : List TileAt → X) (t : TileAt) (ts : List TileAt) → (t.width ≡ 0 → F (t ∷ ts) ≡ F ts)
     → F (cond (nat_lt 0 t.width) (t ∷ ts) ts) ≡ F (t ∷ ts)
-with_partial F t ts none = elim (cases_lt 0 t.width) [
-  | inl some ↦ rw (lt-ltb 0 t.width some) refl
-  | inr few ↦ rw (le-ltb 0 t.width few) (sym (none (omega arith)))
-]
+with_partial F t ts none = grind (arith, cases_lt, lt-ltb, le-ltb)
 
 -- the widths of tiles added up
 abbrev widths : List TileAt → ℕ
@@ -72,30 +63,25 @@ from n level levels = filter (λ t. nat_lt 0 t.width) (map (last_tile n) (range_
 from_width : (n levels level : ℕ) → widths (from n level levels) ≡ edge_width levels (n / 2 ^ (8 * level))
 unfolding edge_width
 from_width n zero level = refl
-from_width n (suc levels) level =
-    with_partial widths (last_tile n level) (from n (level + 1) levels) (λ none. omega arith)
-    ∙ omega (arith, from_width n levels (level + 1) ∙ ap (edge_width levels) (sym (level_count n level)))
+from_width n (suc levels) level = grind (arith, with_partial, from_width n levels (level + 1), level_count)
 
 joined_width : {X : Type 0} (tile_of : X → TileAt) (digests_of : X → List (List ℕ))
     → ((x : X) → length (digests_of x) ≡ (tile_of x).width) → (xs : List X) → length (joined (map digests_of xs))
     ≡ widths (map tile_of xs)
 joined_width tile_of digests_of count [] = refl
-joined_width tile_of digests_of count (x ∷ xs) =
-    omega (
-      arith,
-      length-append (joined (map digests_of xs)) (digests_of x),
-      count x,
-      joined_width tile_of digests_of count xs,
-    )
+joined_width tile_of digests_of count (x ∷ xs) = grind (arith, length-append, joined_width tile_of digests_of count xs)
 
 -- the digests of the partial tiles of a length are as many as its edge is wide
 pub open_width : {X : Type 0} (tile_of : X → TileAt) (digests_of : X → List (List ℕ)) (xs : List X) (n : ℕ)
     → ((x : X) → length (digests_of x) ≡ (tile_of x).width) → tiles_fault (partial_tiles n) (map tile_of xs) ≡ None
     → length (joined (map digests_of xs)) ≡ edge_width 8 n
-open_width tile_of digests_of xs n count none =
-    let all : n / 2 ^ (8 * 0) ≡ n = omega arith in
-    joined_width tile_of digests_of count xs ∙ ap widths (no_fault (partial_tiles n) (map tile_of xs) none)
-    ∙ from_width n 8 0 ∙ ap (edge_width 8) all
+open_width tile_of digests_of xs n count none = grind (
+  arith,
+  joined_width tile_of digests_of count xs,
+  no_fault
+      (partial_tiles n) (map tile_of xs) none,
+  from_width n 8 0,
+)
 
 -- the digests of a log's tile
 pub tile_same : (H : List ℕ → List ℕ) (ds digests : List (List ℕ)) (t : TileAt) → IsTileBy (own_digest H ds) t digests
@@ -116,10 +102,7 @@ joined_from : (H : List ℕ → List ℕ) (ds : List (List ℕ)) (n levels level
     → joined (map (tile_digests H ds) (from n level levels)) ≡ edge_at H ds n levels level
 unfolding edge_at
 joined_from H ds n zero level = refl
-joined_from H ds n (suc levels) level =
-    with_partial (λ l. joined (map (tile_digests H ds) l)) (last_tile n level) (from n (level + 1) levels)
-    (λ none. rw none (append-nil (joined (map (tile_digests H ds) (from n (level + 1) levels)))))
-    ∙ ap (λ l. l ++ tile_digests H ds (last_tile n level)) (joined_from H ds n levels (level + 1))
+joined_from H ds n (suc levels) level = grind (arith, with_partial, append-nil, joined_from H ds n levels (level + 1))
 
 -- the digests of the partial tiles of a log are its edge
 pub open_stands : {X : Type 0} (H : List ℕ → List ℕ) (ds edge : List (List ℕ)) (tile_of : X → TileAt)
@@ -127,16 +110,13 @@ pub open_stands : {X : Type 0} (H : List ℕ → List ℕ) (ds edge : List (List
     → length ds ≡ n
     → AllByRecursion (λ x. IsTileBy (own_digest H ds) (tile_of x) (digests_of x)) xs → edge ≡ joined (map digests_of xs)
     → StandsFor H (record { len = n; taken = n; digests = edge; full = [] }) ds
-open_stands H ds edge tile_of digests_of xs n none count all is =
-    let nothing : n - n ≡ 0 = omega arith in
-    record {
-      count = count;
-      edge = is ∙ joined_same H ds tile_of digests_of xs all ∙ ap (λ l. joined (map (tile_digests H ds) l))
-          (no_fault (partial_tiles n) (map tile_of xs) none) ∙ joined_from H ds n 8 0
-          ∙ sym (levels_flat H ds n) ∙ ap (λ k. flat_map (λ level. tile_digests H ds (last_tile k level))
-          (7 ∷ 6 ∷ 5 ∷ 4 ∷ 3 ∷ 2 ∷ 1 ∷ 0 ∷ [])) (sym count);
-      full = record { places = sym (rw nothing refl); digests = tt };
-    }
+open_stands H ds edge tile_of digests_of xs n none count all is = grind (
+  arith,
+  joined_same H ds tile_of digests_of xs all,
+  no_fault (partial_tiles n) (map tile_of xs) none,
+  joined_from H ds n 8 0,
+  levels_flat H ds n,
+)
 
 -- the first fault of tiles from a level on, by that of the first one
 pub fault_step : {X : Type 0} (tile_of : X → TileAt) (xs others : List X) (first : X) (wanted : TileAt) (n level : ℕ)

@@ -1,5 +1,5 @@
 -- What the tiles of a log come to.
-use Rattle.std.proofs.Common.{◌≡◌, ℕ, ◌+◌, ◌-◌, ◌*◌, ◌/◌, ◌%◌, ◌^◌, ◌<◌, ◌≤◌, ◌==◌, ◌&&◌, nat_le, true, List, [], ◌∷◌, length, take, drop, slice_index_or, Option, Some, None, refl, sym, ap, subst, ◌∙◌, arith}
+use Rattle.std.proofs.Common.{◌≡◌, ℕ, ◌+◌, ◌-◌, ◌*◌, ◌/◌, ◌%◌, ◌^◌, ◌<◌, ◌≤◌, true, List, [], ◌∷◌, length, take, drop, slice_index_or, Option, Some, None, refl, sym, ap, ◌∙◌, arith}
 use Rattle.std.specs.List.{AllByRecursion}
 use Rattle.std.proofs.lemmas.Nat.{pow_pos, pow-add}
 use Rattle.std.proofs.lemmas.Bool.{leb-true, le-leb, eqb-true, and_parts}
@@ -18,34 +18,24 @@ use Rattle.warg_tiles.proofs.RootLemmas.{roots_of_parts}
 -- a log's own digest of a node is the root over its leaves, which are there
 pub own_is : (H : List ℕ → List ℕ) (ds : List (List ℕ)) (x : ℕ) (d : List ℕ) → own_digest H ds x ≡ Some d
     → (end_of x ≤ length ds) × (d ≡ root_over H ds (start_of x) (2 ^ height_of x))
-own_is H ds x d is = let found = cond_some (leb (end_of x) (length ds)) (root_over H ds (start_of x) (2 ^ height_of x))
-    d is in (leb-true (end_of x) (length ds) found.0, sym found.1)
+own_is H ds x d is = grind (arith, cond_some, leb, leb-true)
 
 -- a digest of a log's tile is the root over the leaves below it, which are there
 tile_digest_is : (H : List ℕ → List ℕ) (ds digests : List (List ℕ)) (t : TileAt) (i : ℕ)
     → IsTileBy (own_digest H ds) t digests → i < t.width
     → ((256 * t.number + i + 1) * 2 ^ (8 * t.level) ≤ length ds)
     × (slice_index_or digests i [] ≡ root_over H ds ((256 * t.number + i) * 2 ^ (8 * t.level)) (2 ^ (8 * t.level)))
-tile_digest_is H ds digests t i tile inside =
-    let at = over_at (8 * t.level) (256 * t.number + i) in
-    let own = own_is H ds (node_in t i) (slice_index_or digests i []) (tile.digest i inside) in (
-      rw at.0 at
-          (subst (λ j. (j + 1) * 2 ^ height_of (node_in t i) ≤ length ds) at.1 own.0),
-      own.1 ∙ ap (λ j. root_over H ds (j * 2 ^ height_of (node_in t i)) (2 ^ height_of (node_in t i))) at.1
-          ∙ ap (λ k. root_over H ds ((256 * t.number + i) * 2 ^ k) (2 ^ k)) at.0,
-    )
+tile_digest_is H ds digests t i tile inside = grind (
+  arith,
+  over_at (8 * t.level) (256 * t.number + i),
+  own_is H ds
+      (node_in t i) (slice_index_or digests i []) (tile.digest i inside),
+)
 
 -- the test of a tile that has all digests below a node
 pub below_is : (t : TileAt) (x : ℕ) → has_below t x ≡ true → (t.level ≡ (tile_over x).level)
     × (t.number ≡ (tile_over x).number) × ((tile_over x).width ≤ t.width)
-below_is t x is =
-    let level = and_parts (t.level == (tile_over x).level)
-    (t.number == (tile_over x).number && nat_le (tile_over x).width t.width) is in
-    let number = and_parts (t.number == (tile_over x).number) (nat_le (tile_over x).width t.width) level.1 in (
-      eqb-true t.level (tile_over x).level level.0,
-      eqb-true t.number (tile_over x).number number.0,
-      leb-true (tile_over x).width t.width number.1,
-    )
+below_is t x is = grind (arith, and_parts, eqb-true, leb-true)
 
 -- a node's leaves by those below its tile's digests
 pub leaves_by_tile : (x level : ℕ) → level ≡ height_of x / 8 → (start_of x ≡ place_in_level x * 2 ^ (8 * level))
@@ -77,29 +67,24 @@ root_below_own H ds digests t x tile has =
     let total : 256 * t.number + (p + c - 1) + 1 ≡ place_in_level x + c = omega arith in
     let ends : (place_in_level x + c) * unit ≤ length ds = rw total at last.0 in
     let power : 2 ^ (height_of x % 8 + 8 * t.level) ≡ c * unit = pow-add 2 (height_of x % 8) (8 * t.level) in
-    let fits : place_in_level x * unit + 2 ^ (height_of x % 8 + 8 * t.level) ≤ length ds = omega (arith, ends, power) in
+    let fits : place_in_level x * unit + 2 ^ (height_of x % 8 + 8 * t.level) ≤ length ds = omega
+    (arith, ends, power) in
     let left : length (drop p digests) ≡ t.width - p = length-drop p digests ∙ ap (λ n. n - p) tile.count in
     let roots = roots_of_parts H ds (take c (drop p digests)) (8 * t.level) (height_of x % 8)
-    (place_in_level x * unit) fits
-    (length-take-le c (drop p digests) (omega (arith, left, below.2)))
-    (λ i low.
-    let at : (256 * t.number + (p + i)) * unit ≡ place_in_level x * unit + i * unit =
-    omega (arith, ap (λ n. n * unit) whole) in
-    get_or-take c (drop p digests) i [] low ∙ get_or-drop p digests i []
-    ∙ (tile_digest_is H ds digests t (p + i) tile (omega (arith, below.2))).1
-    ∙ ap (λ b. root_over H ds b unit) at) in (
-      omega (arith, leaves.0, leaves.2, ends),
-      roots ∙ ap (λ b. root_over H ds b (2 ^ (height_of x % 8 + 8 * t.level)))
-          (sym leaves.0) ∙ ap (root_over H ds (start_of x)) (sym leaves.1),
-    )
+    (place_in_level x * unit) fits (length-take-le c (drop p digests) (omega (arith, left, below.2)))
+    (λ i low. grind (
+      arith,
+      get_or-take c (drop p digests) i [] low,
+      get_or-drop p digests i [],
+      tile_digest_is H ds
+          digests t (p + i) tile,
+    )) in
+    grind arith
 
 -- the digest by a log's tile is the log's own
 digest_of_own : (H : List ℕ → List ℕ) (ds : List (List ℕ)) (t : TileAt × List (List ℕ)) (x : ℕ) (d : List ℕ)
     → IsTileBy (own_digest H ds) t.0 t.1 → digest_of H t x ≡ Some d → own_digest H ds x ≡ Some d
-digest_of_own H ds t x d tile is =
-    let found = cond_some (has_below t.0 x) (root_below H t.1 x) d is in
-    let own = root_below_own H ds t.1 t.0 x tile found.0 in
-    rw (le-leb (end_of x) (length ds) own.0) (ap Some (sym own.1 ∙ found.1))
+digest_of_own H ds t x d tile is = grind (arith, cond_some, root_below_own, le-leb)
 
 digest_by_first : (first rest own : Option (List ℕ)) (d : List ℕ) → ((e : List ℕ) → first ≡ Some e → own ≡ Some e)
     → (rest ≡ Some d → own ≡ Some d) → option_or first rest ≡ Some d → own ≡ Some d
@@ -111,6 +96,10 @@ pub digest_by_own : (H : List ℕ → List ℕ) (ds : List (List ℕ)) (tiles : 
     → AllByRecursion (λ t. IsTileBy (own_digest H ds) t.0 t.1) tiles → digest_by H tiles x ≡ Some d
     → own_digest H ds x ≡ Some d
 digest_by_own H ds [] x d all is = cc
-digest_by_own H ds (t ∷ tiles) x d all is =
-    digest_by_first (digest_of H t x) (digest_by H tiles x) (own_digest H ds x) d
-    (λ e gives. digest_of_own H ds t x e all.0 gives) (digest_by_own H ds tiles x d all.1) is
+digest_by_own H ds (t ∷ tiles) x d all is = grind (
+  arith,
+  digest_by_first,
+  digest_of_own,
+  digest_by_own H ds tiles x
+      d all.1,
+)

@@ -59,18 +59,8 @@ part_of_one (rest a n part more) = let one = part_of_one part in absurd (omega a
 in_four : {a n : ℕ} → IsPart 4 a n → (n ≡ 1) ⊎ ((a ≡ 0) × (n ≡ 4)) ⊎ ((a ≡ 0) × (n ≡ 2)) ⊎ ((a ≡ 2) × (n ≡ 2))
 unfolding front_of front_within
 in_four whole = inr (inl (refl, refl))
-in_four (front a n part more) = elim (in_four part) [
-  | inl one ↦ absurd (omega arith)
-  | inr (inl all) ↦ inr (inr (inl (all.0, rw all.1 refl)))
-  | inr (inr (inl first)) ↦ inl (rw first.1 refl)
-  | inr (inr (inr last)) ↦ inl (rw last.1 refl)
-]
-in_four (rest a n part more) = elim (in_four part) [
-  | inl one ↦ absurd (omega arith)
-  | inr (inl all) ↦ inr (inr (inr (rw (all.0, all.1) refl, rw all.1 refl)))
-  | inr (inr (inl first)) ↦ inl (rw first.1 refl)
-  | inr (inr (inr last)) ↦ inl (rw last.1 refl)
-]
+in_four (front a n part more) = grind (arith, in_four part)
+in_four (rest a n part more) = grind (arith, in_four part)
 
 -- Four leaf digests, and four others of the same root, which no placed byte strings tell apart.
 pub tile_apart : (first second : List ℕ)
@@ -151,10 +141,7 @@ in_two (rest a n part more) = elim (in_two part) [ inl one ↦ absurd (omega ari
 pub nothing_taken : (H : List ℕ → List ℕ) (first second : List ℕ)
     → IsEvaluationPlaced H (with_target (digest_by H []) (range_of 0) zeros) (zeros ∷ zeros ∷ []) first second → ⊥
 unfolding front_of front_within height_of height_within place_of way_within top_of
-nothing_taken H first second at = elim (in_two at.part) [
-  | inl one ↦ let more = at.more in omega arith
-  | inr all ↦ let none = rw (all.0, all.1) at at.by_data in absurd cc
-]
+nothing_taken H first second at = grind (arith, in_two)
 
 -- The full tiles that a length's last entry completes are on so many levels.
 pub completed_low : (k level count : ℕ) (t : TileAt) → Contains (completed_from k level count) t → t.level < level + k
@@ -232,12 +219,4 @@ abbrev pub two_lines_at_once : Said
 two_lines_at_once = said_with ((98 ∷ 10 ∷ 99 ∷ []) ∷ [])
 
 pub lines_can_be_said : CanBeSaid two_lines
-lines_can_be_said = record {
-  origin = record { some = omega arith; no_newline = (λ is. omega (arith, is), tt) };
-  length = omega arith;
-  root = zeros_are;
-  extensions = (
-    record { some = omega arith; no_newline = (λ is. omega (arith, is), tt) },
-    (record { some = omega arith; no_newline = (λ is. omega (arith, is), tt) }, tt),
-  );
-}
+lines_can_be_said = grind (arith, zeros_are)

@@ -1,13 +1,12 @@
 -- What a log that keeps its right edge stands for, with an entry more.
-use Rattle.std.proofs.Common.{◌≡◌, ℕ, zero, suc, ◌+◌, ◌-◌, ◌*◌, ◌/◌, ◌%◌, ◌^◌, ◌<◌, ◌≤◌, List, [], ◌∷◌, ◌++◌, length, take, drop, slice_index_or, get_or, Some, refl, sym, ap, ◌∙◌, arith}
-use Rattle.std.specs.List.{flat_map, range_with_len}
+use Rattle.std.proofs.Common.{◌≡◌, ℕ, zero, suc, ◌+◌, ◌-◌, ◌*◌, ◌/◌, ◌%◌, ◌^◌, ◌<◌, ◌≤◌, List, [], ◌∷◌, ◌++◌, length, take, drop, Some, refl, ap, ◌∙◌, arith}
+use Rattle.std.specs.List.{flat_map}
 use Rattle.std.proofs.Math.Nat.{div-div-eq-div-mul}
 use Rattle.std.proofs.Math.Seq.{get_or-append_seam}
 use Rattle.std.proofs.lemmas.Bool.{le-leb}
 use Rattle.std.proofs.lemmas.Grind.{flat_map-append}
 use Rattle.std.proofs.lemmas.List.FromFn.{fill_by_all, map-range_with_len_more}
 use Rattle.std.proofs.lemmas.List.{append_assoc, append-nil, length-append, take-append-le, drop-append-le, length-drop, map-id}
-use Rattle.warg_log.specs.Nodes.{height_of, start_of, end_of}
 use Rattle.warg_log.specs.Tree.{root_of, root_over, leaves_below, own_digest}
 use Rattle.warg_protobuf.proofs.ForCallers.{all_weaken}
 use Rattle.warg_log.proofs.ForCallers.{root_over_one}
@@ -20,9 +19,7 @@ use Rattle.warg_tiles.proofs.EdgeLemmas.{node_root, pow_up, width_step, edge_spl
 
 -- the nodes of the next level
 pub level_count : (n level : ℕ) → n / 2 ^ (8 * level) / 256 ≡ n / 2 ^ (8 * (level + 1))
-level_count n level =
-    let size : 2 ^ (8 * level) * 256 ≡ 2 ^ (8 * (level + 1)) = omega (arith, pow_up level) in
-    div-div-eq-div-mul n (2 ^ (8 * level)) 256 ∙ ap (λ p. n / p) size
+level_count n level = grind (arith, pow_up, div-div-eq-div-mul)
 
 -- the width of a length's edge from a level on, and its digests, without those of the level's partial tile
 pub width_below : (level n width : ℕ) → level < 8 → width ≡ width_from level (n / 2 ^ (8 * level))
@@ -33,9 +30,11 @@ pub edge_below : (H : List ℕ → List ℕ) (ds edge : List (List ℕ)) (level 
     → edge ≡ edge_from H ds level (n / 2 ^ (8 * level))
     → (take (length edge - n / 2 ^ (8 * level) % 256) edge ≡ edge_from H ds (level + 1) (n / 2 ^ (8 * (level + 1))))
     × (drop (length edge - n / 2 ^ (8 * level) % 256) edge ≡ tile_digests H ds (last_tile n level))
-edge_below H ds edge level n low is =
-    let parts = edge_split H ds edge level (n / 2 ^ (8 * level)) low is in
-    (parts.0 ∙ ap (edge_from H ds (level + 1)) (level_count n level), parts.1)
+edge_below H ds edge level n low is = grind (
+  arith,
+  edge_split H ds edge level (n / 2 ^ (8 * level)) low is,
+  level_count n level,
+)
 
 -- the digests of the partial tiles of some levels of a length
 unfoldable pub edge_at : (List ℕ → List ℕ) → List (List ℕ) → ℕ → ℕ → ℕ → List (List ℕ)
@@ -56,9 +55,7 @@ levels_flat H ds n = simp (append_assoc, append-nil)
 
 -- the edge of a log, level by level
 pub edge_digests_is : (H : List ℕ → List ℕ) (ds : List (List ℕ)) → edge_digests H ds ≡ edge_from H ds 0 (length ds)
-edge_digests_is H ds =
-    let one : length ds / 2 ^ (8 * 0) ≡ length ds = omega arith in
-    levels_flat H ds (length ds) ∙ sym (edge_at_is H ds (length ds) 8 0) ∙ ap (edge_within H ds 8 0) one
+edge_digests_is H ds = grind (arith, levels_flat H ds (length ds), edge_at_is H ds (length ds) 8 0)
 
 pub edge_of : (H : List ℕ → List ℕ) (e : RightEdge) (ds : List (List ℕ)) → StandsFor H e ds
     → e.digests ≡ edge_from H ds 0 e.len
@@ -67,22 +64,14 @@ edge_of H e ds stands = stands.edge ∙ edge_digests_is H ds ∙ ap (edge_from H
 -- the root over leaves that are there stays the same as the log grows
 root_over_append : (H : List ℕ → List ℕ) (ds more : List (List ℕ)) (a n : ℕ) → a + n ≤ length ds
     → root_over H (ds ++ more) a n ≡ root_over H ds a n
-root_over_append H ds more a n fits =
-    ap (root_of H) (rw (drop-append-le a ds more (omega arith)) (take-append-le n (drop a ds) more
-    (omega (arith, length-drop a ds))))
+root_over_append H ds more a n fits = grind (arith, drop-append-le, take-append-le, length-drop)
 
 -- and so do the digests of a tile that is there
 tile_append : (H : List ℕ → List ℕ) (ds more : List (List ℕ)) (t : TileAt)
     → (256 * t.number + t.width) * 2 ^ (8 * t.level) ≤ length ds → tile_digests H (ds ++ more) t ≡ tile_digests H ds t
-tile_append H ds more t fits =
-    fill_by_all (λ i. root_of H (leaves_below (node_in t i) ds)) (tile_digests H (ds ++ more) t) t.width []
-    (tile_count H (ds ++ more) t)
-    (λ i low.
-    let within : (256 * t.number + i + 1) * 2 ^ (8 * t.level) ≤ (256 * t.number + t.width) * 2 ^ (8 * t.level) =
-    grind arith in
-    digest_at_place H (ds ++ more) t i low ∙ node_root H (ds ++ more) (8 * t.level) (256 * t.number + i)
-    ∙ root_over_append H ds more ((256 * t.number + i) * 2 ^ (8 * t.level)) (2 ^ (8 * t.level)) (omega arith)
-    ∙ sym (node_root H ds (8 * t.level) (256 * t.number + i)))
+tile_append H ds more t fits = fill_by_all (λ i. root_of H (leaves_below (node_in t i) ds))
+    (tile_digests H (ds ++ more) t) t.width [] (tile_count H (ds ++ more) t)
+    (λ i low. grind (arith, digest_at_place, node_root, root_over_append))
 
 -- and the edge of nodes that are there
 edge_append : (H : List ℕ → List ℕ) (ds more : List (List ℕ)) (levels level count : ℕ)
@@ -93,57 +82,50 @@ edge_append H ds more zero level count fits = refl
 edge_append H ds more (suc levels) level count fits =
     let parts : count ≡ 256 * (count / 256) + count % 256 = omega arith in
     let size = ap (λ n. n * 2 ^ (8 * level)) parts in
-    let above : count / 256 * 2 ^ (8 * (level + 1)) ≤ length ds =
-    omega (arith, ap (λ p. count / 256 * p) (pow_up level)) in
-    rw (
+    let above : count / 256 * 2 ^ (8 * (level + 1)) ≤ length ds = omega
+    (arith, ap (λ p. count / 256 * p) (pow_up level)) in
+    grind (
+      arith,
       edge_append H ds more levels (level + 1) (count / 256) above,
-      tile_append H ds more (record { level = level; number = count / 256; width = count % 256 }) (omega arith),
-    ) refl
+      tile_append H ds more
+          (record { level = level; number = count / 256; width = count % 256 }),
+    )
 
 -- and the tiles of a log
 own_append : (H : List ℕ → List ℕ) (ds more : List (List ℕ)) (x : ℕ) (d : List ℕ) → own_digest H ds x ≡ Some d
     → own_digest H (ds ++ more) x ≡ Some d
-own_append H ds more x d is =
-    let own = own_is H ds x d is in
-    rw (le-leb (end_of x) (length (ds ++ more)) (omega (arith, own.0, length-append ds more)))
-    (ap Some (root_over_append H ds more (start_of x) (2 ^ height_of x) (omega (arith, own.0)) ∙ sym own.1))
+own_append H ds more x d is = grind (arith, own_is, le-leb, length-append, root_over_append)
 
 pub tiles_append : (H : List ℕ → List ℕ) (ds more : List (List ℕ)) (expected : List TileAt) (tiles : Tiles)
     → AreTilesOf H ds expected tiles → AreTilesOf H (ds ++ more) expected tiles
 tiles_append H ds more expected tiles are = record {
   places = are.places;
-  digests = all_weaken (λ (t : TileAt × List (List ℕ)). IsTileBy (own_digest H ds) t.0 t.1)
-      (λ (t : TileAt × List (List ℕ)). IsTileBy (own_digest H (ds ++ more)) t.0 t.1)
-      (λ t own. record {
-        count = own.count;
-        digest = λ i low. own_append H ds more (node_in t.0 i)
-            (slice_index_or t.1 i []) (own.digest i low);
-      }) tiles are.digests;
+  digests = all_weaken
+      (λ (t : TileAt × List (List ℕ)). IsTileBy (own_digest H ds) t.0 t.1)
+      (λ (t : TileAt × List (List ℕ)). IsTileBy (own_digest H (ds ++ more)) t.0 t.1) (grind (arith, own_append)) tiles
+      are.digests;
 }
 
 -- the edge before an entry, and the entry's digest
 pub push_ends : (H : List ℕ → List ℕ) (ds edge : List (List ℕ)) (d : List ℕ) (n : ℕ) → length ds ≡ n
     → edge ≡ edge_digests H ds → EndsWith H (ds ++ d ∷ []) 0 n edge d
-push_ends H ds edge d n count is =
-    let size : length (ds ++ d ∷ []) ≡ n + 1 = omega (arith, length-append ds (d ∷ []), count) in
-    let fits : length ds * 2 ^ (8 * 0) ≤ length ds = omega arith in
-    let start : n * 2 ^ (8 * 0) ≡ n = omega arith in
-    record {
-      ends = omega (arith, size);
-      before = is ∙ edge_digests_is H ds ∙ sym (edge_append H ds (d ∷ []) 8 0 (length ds) fits)
-          ∙ ap (edge_within H (ds ++ d ∷ []) 8 0) count;
-      last = sym (node_root H (ds ++ d ∷ []) 0 n ∙ ap (λ a. root_over H (ds ++ d ∷ []) a 1) start
-          ∙ root_over_one H (ds ++ d ∷ []) n (omega (arith, size))
-          ∙ ap (λ i. get_or (ds ++ d ∷ []) i []) (sym count) ∙ get_or-append_seam ds d [] []);
-    }
+push_ends H ds edge d n count is = grind (
+  arith,
+  length-append ds (d ∷ []),
+  edge_digests_is H ds,
+  edge_append,
+  node_root H (ds ++ d ∷ []) 0 n,
+  root_over_one,
+  get_or-append_seam ds d [] [],
+)
 
 -- the full tiles with an entry more
 pub full_more : (old new : ℕ) → old ≤ new → full_between old (new + 1) ≡ full_between old new ++ completed_at (new + 1)
 full_more old new order =
     let count : new + 1 - old ≡ new - old + 1 = omega arith in
-    let more = simp map-id at (map-range_with_len_more (λ (n : ℕ). n) (old + 1) (new - old) (new + 1) (omega arith)) in
-    rw (count, more) (flat_map-append completed_at (range_with_len (old + 1) (new - old)) ((new + 1) ∷ [])
-    ∙ ap (λ l. full_between old new ++ l) (append-nil (completed_at (new + 1))))
+    let more = simp map-id at (map-range_with_len_more (λ (n : ℕ). n) (old + 1) (new - old) (new + 1) (omega arith))
+    in
+    grind (arith, flat_map-append, append-nil)
 
 -- what a log stands for with an entry more
 pub push_stands : (H : List ℕ → List ℕ) (e : RightEdge) (ds edge : List (List ℕ)) (d : List ℕ) (filled full : Tiles)
@@ -153,24 +135,12 @@ pub push_stands : (H : List ℕ → List ℕ) (e : RightEdge) (ds edge : List (L
 push_stands H e ds edge d filled full order stands made added is =
     let size : length (ds ++ d ∷ []) ≡ e.len + 1 = omega (arith, length-append ds (d ∷ []), stands.count) in
     let tiles : AreTilesOf H (ds ++ d ∷ []) (completed_at (e.len + 1)) filled = rw added.1 added.2 in
-    record {
-      count = size;
-      edge = made ∙ ap (edge_from H (ds ++ d ∷ []) 0) (sym size) ∙ sym (edge_digests_is H (ds ++ d ∷ []));
-      full = rw (is, full_more e.taken e.len order)
-          (are_append H (ds ++ d ∷ []) (full_between e.taken e.len) (completed_at (e.len + 1)) e.full filled
-          (tiles_append H ds (d ∷ []) _ e.full stands.full) tiles);
-    }
-
--- a log whose full tiles have been taken
-pub taken_stands : (H : List ℕ → List ℕ) (e : RightEdge) (ds : List (List ℕ)) → StandsFor H e ds
-    → StandsFor H (record e { taken = e.len; full = [] }) ds
-taken_stands H e ds stands =
-    let nothing : e.len - e.len ≡ 0 = omega arith in
-    record {
-      count = stands.count;
-      edge = stands.edge;
-      full = record {
-        places = sym (rw nothing refl);
-        digests = tt;
-      };
-    }
+    grind (
+      arith,
+      edge_digests_is H (ds ++ d ∷ []),
+      full_more e.taken e.len order,
+      are_append H (ds ++ d ∷ [])
+          (full_between e.taken e.len) (completed_at (e.len + 1)) e.full filled
+          (tiles_append H ds (d ∷ []) _ e.full stands.full) tiles,
+      tiles_append H ds (d ∷ []),
+    )

@@ -5,7 +5,7 @@ use Rattle.std.proofs.lemmas.Nat.{pow_pos, pow-add}
 use Rattle.std.proofs.lemmas.Bool.{cases_lt}
 use Rattle.std.proofs.lemmas.List.{take_all, take-take, length-take-le, length-drop, drop-drop, drop-take, get_or-take, get_or-drop}
 use Rattle.warg_crypto.specs.Tree.{branch}
-use Rattle.warg_log.specs.Tree.{front_of, root_of, root_over, root_within}
+use Rattle.warg_log.specs.Tree.{root_of, root_over, root_within}
 use Rattle.warg_log.proofs.ForCallers.{root_over_one, root_over_parts, front_of_is}
 
 -- the root over all digests
@@ -29,21 +29,20 @@ root_two H (d ∷ e ∷ f ∷ ds) left right some few first second = absurd (ome
 pub root_parts : (H : List ℕ → List ℕ) (ds front rest : List (List ℕ)) (e : ℕ) → 2 ^ e ≤ length ds - 1
     → length ds - 1 < 2 ^ suc e → 1 < length ds → front ≡ take (2 ^ e) ds → rest ≡ drop (2 ^ e) ds
     → root_of H ds ≡ branch H (root_of H front) (root_of H rest)
-root_parts H ds front rest e low high more first second =
-    let at : front_of (length ds) ≡ 2 ^ e = front_of_is e (length ds) (omega arith) (omega arith) in
-    let end : take (length ds - 2 ^ e) (drop (0 + 2 ^ e) ds) ≡ rest = take_all (length ds - 2 ^ e) (drop (0 + 2 ^ e) ds)
-    (omega (arith, length-drop (0 + 2 ^ e) ds)) ∙ ap (λ n. drop n ds) (zero-add (2 ^ e)) ∙ sym second in
-    sym (whole H ds) ∙ root_over_parts H ds 0 (length ds) more (omega arith)
-    ∙ ap (λ f. branch H (root_over H ds 0 f) (root_over H ds (0 + f) (length ds - f))) at
-    ∙ ap (λ l. branch H (root_of H (take (2 ^ e) ds)) (root_of H l)) end
-    ∙ ap (λ l. branch H (root_of H l) (root_of H rest)) (sym first)
+root_parts H ds front rest e low high more first second = grind (
+  arith,
+  front_of_is e (length ds),
+  take_all (length ds - 2 ^ e) (drop (0 + 2 ^ e) ds),
+  length-drop (0 + 2 ^ e)
+      ds,
+  zero-add (2 ^ e),
+  whole H ds,
+  root_over_parts H ds 0 (length ds) more,
+)
 
 -- some of the first elements, without and with a cut behind them
 pub take_drop_take : (a b c : ℕ) (xs : List (List ℕ)) → a + b ≤ c → take b (drop a (take c xs)) ≡ take b (drop a xs)
-take_drop_take a b c xs fits =
-    let parts : a + (c - a) ≡ c = omega arith in
-    rw (← parts) (ap (take b) (drop-take a (c - a) xs)
-    ∙ take-take b (c - a) (drop a xs) (omega arith))
+take_drop_take a b c xs fits = grind (arith, drop-take a (c - a) xs, take-take b (c - a) (drop a xs))
 
 -- the root over the roots of parts, of which the last may be shorter, is the root over all
 pub roots_of_chunks : (H : List ℕ → List ℕ) (m k : ℕ) (ys xs : List (List ℕ)) → 0 < length ys → length ys ≤ 2 ^ (k + m)
@@ -55,46 +54,27 @@ roots_of_chunks H m zero ys xs some most low high each =
     let start : 0 * 2 ^ m ≡ 0 = omega arith in
     let few : length xs * 2 ^ m < 2 * 2 ^ m = omega (arith, most, ap (λ n. 2 ^ n) same) in
     let many : 0 * 2 ^ m < length xs * 2 ^ m = omega arith in
-    root_one H xs (omega (arith, lt_of_mul-lt-mul_right (2 ^ m) few, lt_of_mul-lt-mul_right (2 ^ m) many))
-    ∙ each 0 (lt_of_mul-lt-mul_right (2 ^ m) many)
-    ∙ ap (λ a. root_of H (take (2 ^ m) (drop a ys))) start
-    ∙ ap (root_of H) (take_all (2 ^ m) ys (omega (arith, most, ap (λ n. 2 ^ n) same)))
+    grind (arith, root_one H xs, lt_of_mul-lt-mul_right (2 ^ m) few, lt_of_mul-lt-mul_right (2 ^ m) many, take_all)
 roots_of_chunks H m (suc k) ys xs some most low high each = elim (cases_lt (2 ^ (k + m)) (length ys)) [
   | inr fits ↦ roots_of_chunks H m k ys xs some fits low high each
-  | inl more ↦
-      let p = 2 ^ m in
-      let s = 2 ^ (k + m) in
-      let whole : s ≡ 2 ^ k * p = pow-add 2 k m in
-      let exponent : suc k + m ≡ suc (k + m) = omega arith in
-      let twice : 2 ^ (suc k + m) ≡ 2 * s = rw exponent (omega (arith, pow-suc 2 (k + m))) in
-      let over : 2 ^ k * p < length xs * p = omega arith in
-      let under : length xs * p < (2 * 2 ^ k + 1) * p = omega arith in
-      let above = lt_of_mul-lt-mul_right p over in
-      let below = lt_of_mul-lt-mul_right p under in
-      let most_front : length (take s ys) ≡ s = length-take-le s ys (omega arith) in
-      let most_rest = length-drop s ys in
-      let count_front : length (take (2 ^ k) xs) ≡ 2 ^ k = length-take-le (2 ^ k) xs (omega arith) in
-      let count_rest = length-drop (2 ^ k) xs in
-      let product_front = ap (λ n. n * p) count_front in
-      let product_rest : length (drop (2 ^ k) xs) * p + 2 ^ k * p ≡ length xs * p = let e : length xs
-      ≡ length (drop (2 ^ k) xs) + 2 ^ k = omega arith in omega (arith, ap (λ n. n * p) e) in
-      let front = roots_of_chunks H m k (take s ys) (take (2 ^ k) xs) (omega (arith, pow_pos (k + m))) (omega arith)
-      (omega (arith, pow_pos m)) (omega arith)
-      (λ i inside.
-      let here : i < 2 ^ k = omega arith in
-      get_or-take (2 ^ k) xs i [] here ∙ each i (omega arith)
-      ∙ ap (root_of H) (sym (take_drop_take (i * p) p s ys (omega (arith, mul-le-mul_left p here))))) in
-      let rest = roots_of_chunks H m k (drop s ys) (drop (2 ^ k) xs) (omega arith) (omega arith) (omega arith)
-      (omega arith)
-      (λ i inside.
-      let at : (2 ^ k + i) * p ≡ s + i * p = omega arith in
-      get_or-drop (2 ^ k) xs i [] ∙ each (2 ^ k + i) (omega arith) ∙ ap (λ a. root_of H (take p (drop a ys))) at
-      ∙ ap (λ l. root_of H (take p l)) (sym (drop-drop (i * p) s ys))) in
-      root_parts H xs (take (2 ^ k) xs) (drop (2 ^ k) xs) k (omega arith) (omega (arith, pow-suc 2 k))
-      (omega (arith, pow_pos k)) refl refl
-      ∙ ap (λ l. branch H l (root_of H (drop (2 ^ k) xs))) front ∙ ap (λ l. branch H (root_of H (take s ys)) l) rest
-      ∙ sym (root_parts H ys (take s ys) (drop s ys) (k + m) (omega arith) (omega (arith, pow-suc 2 (k + m)))
-      (omega (arith, pow_pos (k + m))) refl refl)
+  | inl more ↦ let p = 2 ^ m in let s = 2 ^
+      (k + m) in let whole : s ≡ 2 ^ k * p = pow-add 2 k m in let exponent : suc k + m ≡ suc (k + m) = omega arith in
+      let twice : 2 ^ (suc k + m) ≡ 2 * s = rw exponent (omega (arith, pow-suc 2 (k + m))) in let over : 2 ^ k * p <
+      length xs * p = omega arith in let under : length xs * p < (2 * 2 ^ k + 1) * p = omega arith in let above =
+      lt_of_mul-lt-mul_right p over in let below = lt_of_mul-lt-mul_right p under in let most_front : length
+      (take s ys) ≡ s = length-take-le s ys (omega arith) in let most_rest = length-drop s ys in let
+      count_front : length (take (2 ^ k) xs) ≡ 2 ^ k = length-take-le (2 ^ k) xs (omega arith) in let count_rest =
+      length-drop (2 ^ k) xs in let product_front = ap (λ n. n * p) count_front in let product_rest : length
+      (drop (2 ^ k) xs) * p + 2 ^ k * p ≡ length xs * p = let e : length xs ≡ length (drop (2 ^ k) xs) + 2 ^ k = omega
+      arith in omega (arith, ap (λ n. n * p) e) in let front = roots_of_chunks H m k (take s ys) (take (2 ^ k) xs)
+      (omega (arith, pow_pos (k + m))) (omega arith) (omega (arith, pow_pos m)) (omega arith)
+      (λ i inside. let here : i < 2 ^ k = omega arith in grind
+      (arith, get_or-take (2 ^ k) xs i [] here, take_drop_take (i * p) p s ys, mul-le-mul_left p here)) in let rest =
+      roots_of_chunks H m k (drop s ys) (drop (2 ^ k) xs) (omega arith) (omega arith) (omega arith) (omega arith)
+      (grind (arith, get_or-drop, drop-drop)) in root_parts H xs (take (2 ^ k) xs) (drop (2 ^ k) xs) k (omega arith)
+      (omega (arith, pow-suc 2 k)) (omega (arith, pow_pos k)) refl refl ∙ ap
+      (λ l. branch H l (root_of H (drop (2 ^ k) xs))) front ∙ ap (λ l. branch H (root_of H (take s ys)) l) rest ∙ sym
+      (grind (arith, root_parts, pow-suc, pow_pos))
 ]
 
 -- the root over the roots of parts of one size is the root over all
@@ -108,9 +88,4 @@ roots_of_parts H ds xs m k a fits count each =
     (omega (arith, length-drop a ds)) in
     let product : length xs * 2 ^ m ≡ 2 ^ k * 2 ^ m = ap (λ n. n * 2 ^ m) count in
     roots_of_chunks H m k (take (2 ^ (k + m)) (drop a ds)) xs (omega (arith, pow_pos (k + m))) (omega arith)
-    (omega (arith, pow_pos m)) (omega arith)
-    (λ i inside.
-    let low : i < 2 ^ k = omega arith in
-    each i low ∙ ap (λ l. root_of H (take (2 ^ m) l)) (sym (drop-drop (i * 2 ^ m) a ds))
-    ∙ ap (root_of H) (sym (take_drop_take (i * 2 ^ m) (2 ^ m) (2 ^ (k + m)) (drop a ds)
-    (omega (arith, mul-le-mul_left (2 ^ m) low)))))
+    (omega (arith, pow_pos m)) (omega arith) (grind (arith, drop-drop, take_drop_take, mul-le-mul_left))

@@ -1,5 +1,5 @@
 -- Digests in a row whose root is that over the leaves below them are the roots of these, or two byte lists collide.
-use Rattle.std.proofs.Common.{◌≡◌, ◌⊎◌, inl, inr, ℕ, zero, suc, ◌+◌, ◌-◌, ◌*◌, ◌^◌, ◌<◌, ◌≤◌, min, List, [], length, take, drop, slice_index_or, refl, sym, ap, ◌∙◌, arith}
+use Rattle.std.proofs.Common.{◌≡◌, ◌⊎◌, inl, inr, ℕ, zero, suc, ◌+◌, ◌-◌, ◌*◌, ◌^◌, ◌<◌, ◌≤◌, min, List, [], length, take, drop, slice_index_or, sym, ap, ◌∙◌, arith}
 use Rattle.std.proofs.Math.Nat.{mul-le-mul_left}
 use Rattle.std.proofs.lemmas.Nat.{pow_pos, pow-add}
 use Rattle.std.proofs.lemmas.Bool.{cases_lt}
@@ -25,11 +25,7 @@ root_size H gives ds hashes a n some fits = elim (cases_lt 1 n) [
 
 -- as many of the leaves as are left
 cut_short : (ys : List (List ℕ)) (a p c : ℕ) → c ≡ min p (length ys - a) → take c (drop a ys) ≡ take p (drop a ys)
-cut_short ys a p c is = elim (cases_lt p (length ys - a)) [
-  | inl less ↦ let same : c ≡ p = omega arith in rw same refl
-  | inr more ↦ take_all c (drop a ys) (omega (arith, length-drop a ys))
-      ∙ sym (take_all p (drop a ys) (omega (arith, length-drop a ys)))
-]
+cut_short ys a p c is = grind (arith, cases_lt, take_all, length-drop)
 
 module _ (H : List ℕ → List ℕ) (digests : GivesHashes H) (xs ys : List (List ℕ)) (row : AreHashes xs)
     (leaves : AreHashes ys) (m : ℕ) where
@@ -44,73 +40,31 @@ module _ (H : List ℕ → List ℕ) (digests : GivesHashes H) (xs ys : List (Li
       ⊎ SomeCollision H (IsRowPlaced H xs (2 ^ m) ys)
   at_range zero a n c most some part fits is near e = absurd (omega arith)
   at_range (suc fuel) a n c most some part fits is near e = elim (cases_lt 1 n) [
-    | inr few ↦
-        let one : n ≡ 1 = omega arith in
-        let short : c ≡ min (2 ^ m) (length ys - a * 2 ^ m) = omega (arith, ap (λ k. k * 2 ^ m) one) in
-        inl (λ i low high.
-        let here : a ≡ i = omega arith in
-        ap (λ j. slice_index_or xs j []) (sym here) ∙ sym (root_over_one H xs a (omega arith))
-        ∙ ap (root_over H xs a) (sym one) ∙ e
-        ∙ ap (root_of H) (cut_short ys (a * 2 ^ m) (2 ^ m) c short)
-        ∙ ap (λ j. root_of H (take (2 ^ m) (drop (j * 2 ^ m) ys))) here)
-    | inl more ↦
-        let p = 2 ^ m in
-        let unit : 0 < p = pow_pos m in
-        let greatest = front_is_greatest n more in
-        let f = front_of n in
-        let h = greatest.0.0 in
-        let power : f ≡ 2 ^ h = greatest.0.1 in
-        let one_more : f + 1 ≤ n = omega (arith, greatest.1) in
-        let low = mul-le-mul_left p one_more in
-        let high = mul-le-mul_left p greatest.2 in
-        let least : 1 ≤ f = omega (arith, pow_pos h) in
-        let some_front = mul-le-mul_left p least in
-        let size : 2 ^ (h + m) ≡ f * p = pow-add 2 h m ∙ ap (λ k. k * p) (sym power) in
-        let twice : 2 ^ suc (h + m) ≡ 2 * (f * p) = ap (λ k. 2 ^ k) (let s : suc (h + m) ≡ 1 + (h + m) = omega arith in
-        s) ∙ pow-add 2 1 (h + m) ∙ ap (λ k. 2 * k) size in
-        let at : front_of c ≡ f * p = front_of_is (h + m) c (omega arith) (omega arith) ∙ size in
-        let many : 1 < c = omega arith in
-        let inside : a * p + c ≤ length ys = omega arith in
-        let next : (a + f) * p ≡ a * p + f * p = omega arith in
-        let others : (n - f) * p + f * p ≡ n * p = let whole : n ≡ (n - f) + f = omega arith in
-        omega (arith, ap (λ k. k * p) whole) in
-        let left = ap (λ k. root_over H ys (a * p) k) at in
-        let right = ap (λ k. root_over H ys (a * p + k) (c - k)) at ∙ ap (λ b. root_over H ys b (c - f * p))
-        (sym next) in
-        let both = sym (root_over_parts H xs a n more fits) ∙ e ∙ root_over_parts H ys (a * p) c many inside in
-        elim (same_or_not (range_input H xs a n) (range_input H ys (a * p) c)) [
-          | inr differ ↦ inr (record {
-            first = range_input H xs a n;
-            second = range_input H ys (a * p) c;
-            collide = record { differ = differ; same = both };
-            placed = record {
-              from = a;
-              count = n;
-              part = part;
-              more = more;
-              by_row = refl;
-              by_leaves = ap (range_input H ys (a * p)) is;
-            };
-          })
-          | inl same ↦
-              let parts = branch_parts _ _ _ _ (root_size H (sizes digests) xs row a f (omega arith) (omega arith)
-              ∙ sym (root_size H (sizes digests) ys leaves (a * p) (front_of c) (omega arith) (omega arith)))
-              same in
-              let first = at_range fuel a f (f * p) (omega arith) (omega arith) (front a n part more) (omega arith)
-              (omega arith) (omega arith) (parts.0 ∙ left) in
-              let second = at_range fuel (a + f) (n - f) (c - f * p) (omega arith) (omega arith) (rest a n part more)
-              (omega arith) (omega arith) (omega arith) (parts.1 ∙ right) in
-              elim first [
+    | inr few ↦ let one : n ≡ 1 = omega arith in let short : c ≡ min (2 ^ m) (length ys - a * 2 ^ m) = omega
+        (arith, ap (λ k. k * 2 ^ m) one) in inl (grind (arith, root_over_one, cut_short))
+    | inl more ↦ let p = 2 ^ m
+        in let unit : 0 < p = pow_pos m in let greatest = front_is_greatest n more in let f = front_of n in let h =
+        greatest.0.0 in let power : f ≡ 2 ^ h = greatest.0.1 in let one_more : f + 1 ≤ n = omega (arith, greatest.1)
+        in let low = mul-le-mul_left p one_more in let high = mul-le-mul_left p greatest.2 in let least : 1 ≤ f =
+        omega (arith, pow_pos h) in let some_front = mul-le-mul_left p least in let size : 2 ^ (h + m) ≡ f * p =
+        pow-add 2 h m ∙ ap (λ k. k * p) (sym power) in let twice : 2 ^ suc (h + m) ≡ 2 * (f * p) = ap (λ k. 2 ^ k)
+        (let s : suc (h + m) ≡ 1 + (h + m) = omega arith in s) ∙ pow-add 2 1 (h + m) ∙ ap (λ k. 2 * k) size in let
+        at : front_of c ≡ f * p = front_of_is (h + m) c (omega arith) (omega arith) ∙ size in let many : 1 < c = omega
+        arith in let inside : a * p + c ≤ length ys = omega arith in let next : (a + f) * p ≡ a * p + f * p = omega
+        arith in let others : (n - f) * p + f * p ≡ n * p = let whole : n ≡ (n - f) + f = omega arith in omega
+        (arith, ap (λ k. k * p) whole) in let left = ap (λ k. root_over H ys (a * p) k) at in let right = ap
+        (λ k. root_over H ys (a * p + k) (c - k)) at ∙ ap (λ b. root_over H ys b (c - f * p)) (sym next) in let both =
+        sym (root_over_parts H xs a n more fits) ∙ e ∙ root_over_parts H ys (a * p) c many inside in elim
+        (same_or_not (range_input H xs a n) (range_input H ys (a * p) c)) [
+          | inr differ ↦ inr (grind arith)
+          | inl same ↦ let parts = branch_parts _ _ _ _
+              (grind (arith, root_size, sizes)) same in let first = at_range fuel a f (f * p) (omega arith) (omega arith)
+              (front a n part more) (omega arith) (omega arith) (omega arith) (parts.0 ∙ left) in let second = at_range fuel
+              (a + f) (n - f) (c - f * p) (omega arith) (omega arith) (rest a n part more) (omega arith) (omega arith)
+              (omega arith) (parts.1 ∙ right) in elim first [
                 | inr collision ↦ inr collision
-                | inl front_are ↦ elim second [
-                  | inr collision ↦ inr collision
-                  | inl rest_are ↦ inl (λ i low high. elim
-                      (cases_lt i (a + f)) [
-                        | inl before ↦ front_are i low before
-                        | inr behind ↦
-                            rest_are i behind (omega arith)
-                      ])
-                ]
+                | inl front_are ↦ elim second
+                    [ inr collision ↦ inr collision | inl rest_are ↦ inl (grind (arith, cases_lt)) ]
               ]
         ]
   ]

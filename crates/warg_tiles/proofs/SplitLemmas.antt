@@ -1,5 +1,5 @@
 -- The partial tiles of a log with their digests, out of its right edge.
-use Rattle.std.proofs.Common.{◌≡◌, inl, inr, ℕ, ◌+◌, ◌-◌, ◌*◌, ◌/◌, ◌%◌, ◌^◌, ◌<◌, ◌≤◌, List, [], ◌∷◌, ◌++◌, length, map, take, drop, Option, Some, None, refl, sym, ap, ◌∙◌, arith}
+use Rattle.std.proofs.Common.{◌≡◌, ℕ, ◌+◌, ◌-◌, ◌*◌, ◌/◌, ◌%◌, ◌^◌, ◌<◌, ◌≤◌, List, [], ◌∷◌, ◌++◌, length, map, take, drop, Option, Some, None, refl, ap, arith}
 use Rattle.std.specs.Option.{option_to_list}
 use Rattle.std.proofs.lemmas.Bool.{cases_lt}
 use Rattle.std.proofs.lemmas.List.{append_assoc, length-append, length-drop, take_all, drop_all, take_at, drop_at}
@@ -24,9 +24,7 @@ nothing_cut rest width none = (
 pub split_none : (n level : ℕ) (rest : List (List ℕ)) → level < 8 → n / 2 ^ (8 * level) % 256 ≡ 0
     → split_into (partial_from n level) rest ≡ split_into (partial_from n (level + 1))
     (take (length rest - n / 2 ^ (8 * level) % 256) rest)
-split_none n level rest low none =
-    rw (from_none n level low none) (ap (split_into (partial_from n (level + 1)))
-    (sym (nothing_cut rest (n / 2 ^ (8 * level) % 256) none).0))
+split_none n level rest low none = grind (arith, from_none, nothing_cut)
 
 pub split_some : (n level : ℕ) (rest : List (List ℕ)) → level < 8 → 0 < n / 2 ^ (8 * level) % 256
     → split_into (partial_from n level) rest ≡ (last_tile n level, drop (length rest - n / 2 ^ (8 * level) % 256) rest)
@@ -41,14 +39,8 @@ pub split_more : (n level : ℕ) (rest above digests : List (List ℕ)) (old new
     → (0 < n / 2 ^ (8 * level) % 256 → new ≡ old ++ (last_tile n level, digests) ∷ [])
     → old ++ split_into (partial_from n level) rest ≡ whole → new ++ split_into (partial_from n (level + 1)) above
     ≡ whole
-split_more n level rest above digests old new whole low front back none some is =
-    elim (cases_lt 0 (n / 2 ^ (8 * level) % 256)) [
-      | inl wide ↦
-          rw (some wide, front, back) (append_assoc old _ _ ∙ ap (λ l. old ++ l) (sym (split_some n level rest low wide))
-          ∙ is)
-      | inr few ↦ let nought : n / 2 ^ (8 * level) % 256 ≡ 0 = omega arith in
-          rw (none nought, front, ← split_none n level rest low nought) is
-    ]
+split_more n level rest above digests old new whole low front back none some is = grind
+    (arith, cases_lt, append_assoc, split_some, split_none)
 
 -- the root by the tiles from a level on
 root_none : (H : List ℕ → List ℕ) (behind : Option (List ℕ)) → root_if H (option_to_list behind) ≡ behind
@@ -62,36 +54,22 @@ pub root_next : (H : List ℕ → List ℕ) (n level : ℕ) (rest above digests 
     → root ≡ root_if H (digests ++ option_to_list behind)
     → root_on H behind (split_into (partial_from n level) rest) ≡ whole
     → root_on H root (split_into (partial_from n (level + 1)) above) ≡ whole
-root_next H n level rest above digests behind root whole low fits front back made is =
-    elim (cases_lt 0 (n / 2 ^ (8 * level) % 256)) [
-      | inl wide ↦
-          let some : 0 < length (digests ++ option_to_list behind) =
-          omega (
-            arith,
-            length-append digests (option_to_list behind),
-            ap length back,
-            length-drop (length rest - n / 2 ^ (8 * level) % 256) rest,
-          ) in
-          rw (made, root_if_some H (digests ++ option_to_list behind) some, front, back)
-          (ap (root_on H behind) (sym (split_some n level rest low wide)) ∙ is)
-      | inr few ↦
-          let nought : n / 2 ^ (8 * level) % 256 ≡ 0 = omega arith in
-          let same : root ≡ behind = made ∙ ap (λ l. root_if H (l ++ option_to_list behind))
-          (back ∙ (nothing_cut rest (n / 2 ^ (8 * level) % 256) nought).1) ∙ root_none H behind in
-          rw (same, front) (ap (root_on H behind) (sym (split_none n level rest low nought)) ∙ is)
-    ]
+root_next H n level rest above digests behind root whole low fits front back made is = grind
+    (arith, cases_lt, length-append, length-drop, root_if_some, split_some, nothing_cut, root_none, split_none)
 
 -- the tiles whose digests stand one after the other
 split_joined : {X : Type 0} (tile_of : X → TileAt) (digests_of : X → List (List ℕ))
     → ((x : X) → length (digests_of x) ≡ (tile_of x).width) → (xs : List X)
     → split_into (map tile_of xs) (joined (map digests_of xs)) ≡ map (λ x. (tile_of x, digests_of x)) xs
 split_joined tile_of digests_of count [] = refl
-split_joined tile_of digests_of count (x ∷ xs) =
-    let above = joined (map digests_of xs) in
-    let size : length above ≡ length (above ++ digests_of x) - (tile_of x).width =
-    omega (arith, length-append above (digests_of x), count x) in
-    rw (take_at above (digests_of x) _ size, drop_at above (digests_of x) _ size)
-    (rw (split_joined tile_of digests_of count xs) refl)
+split_joined tile_of digests_of count (x ∷ xs) = grind (
+  arith,
+  length-append,
+  take_at,
+  drop_at,
+  split_joined tile_of
+      digests_of count xs,
+)
 
 pub open_tiles : {X : Type 0} (tile_of : X → TileAt) (digests_of : X → List (List ℕ)) (xs : List X) (n : ℕ)
     (edge : List (List ℕ)) → ((x : X) → length (digests_of x) ≡ (tile_of x).width)

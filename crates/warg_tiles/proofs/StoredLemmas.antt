@@ -11,7 +11,7 @@ use Rattle.std.proofs.lemmas.List.{take-append-drop, append_assoc, append-nil, l
 use Rattle.std.proofs.lemmas.List.FromFn.{fill_by_all}
 use Rattle.warg_crypto.specs.Collisions.{GivesHashes, AreHashes, SomeCollision}
 use Rattle.warg_crypto.proofs.ForCallers.{HasSize, sizes}
-use Rattle.warg_log.specs.Nodes.{height_of, start_of, end_of}
+use Rattle.warg_log.specs.Nodes.{height_of, start_of}
 use Rattle.warg_log.specs.Tree.{root_of, root_over, leaves_below, own_digest}
 use Rattle.warg_log.proofs.ForCallers.{over_at}
 use Rattle.warg_protobuf.proofs.ForCallers.{all_append, all_push, all_parts}
@@ -42,11 +42,7 @@ pub own_at : (H : List ℕ → List ℕ) (ds : List (List ℕ)) (t : TileAt) (i 
     → (256 * t.number + i + 1) * 2 ^ (8 * t.level) ≤ length ds
     → d ≡ root_over H ds ((256 * t.number + i) * 2 ^ (8 * t.level)) (2 ^ (8 * t.level)) → own_digest H ds (node_in t i)
     ≡ Some d
-own_at H ds t i d fits is =
-    let at = over_at (8 * t.level) (256 * t.number + i) in
-    let place : end_of (node_in t i) ≡ (256 * t.number + i + 1) * 2 ^ (8 * t.level) = rw (at.1, at.0) refl in
-    rw (le-leb (end_of (node_in t i)) (length ds) (omega arith))
-    (ap Some (node_root H ds (8 * t.level) (256 * t.number + i) ∙ sym is))
+own_at H ds t i d fits is = grind (arith, over_at, le-leb, node_root)
 
 -- digests of a tile whose root is a log's own digest of a node are the log's own
 pub tile_collides : (H : List ℕ → List ℕ) (ds : List (List ℕ)) (t : TileAt) (digests : List (List ℕ)) (x : ℕ)
@@ -65,30 +61,22 @@ tile_collides H ds t digests x gives leaf_hashes hashes count has is =
     let left : length (drop p digests) ≡ t.width - p = length-drop p digests ∙ ap (λ n. n - p) count in
     let size : length (digests_below digests x) ≡ c = length-take-le c (drop p digests)
     (omega (arith, left, below.2)) in
-    let wide : length (leaves_below x ds) ≡ 2 ^ height_of x = length-take-le (2 ^ height_of x) (drop (start_of x) ds)
-    (omega (arith, own.0, length-drop (start_of x) ds)) in
-    let product : length (digests_below digests x) * unit ≡ 2 ^ height_of x = ap (λ n. n * unit) size ∙ sym leaves.2 in
+    let wide : length (leaves_below x ds) ≡ 2 ^ height_of x = length-take-le (2 ^ height_of x)
+    (drop (start_of x) ds) (omega (arith, own.0, length-drop (start_of x) ds)) in
+    let product : length (digests_below digests x) * unit ≡ 2 ^ height_of x = ap (λ n. n * unit) size ∙ sym leaves.2
+    in
     let whole : place_in_level x ≡ 256 * t.number + p = omega (arith, below.1) in
     let level : 2 ^ (8 * t.level) ≡ unit = ap (λ l. 2 ^ (8 * l)) below.0 in
     elim (row_or_collides H gives (digests_below digests x) (leaves_below x ds) (some_hashes p c digests hashes)
-    (some_hashes (start_of x) (2 ^ height_of x) ds leaf_hashes) (8 * (height_of x / 8))
-    (omega arith) (omega arith) (omega arith) own.1) [
+    (some_hashes (start_of x) (2 ^ height_of x) ds leaf_hashes) (8 * (height_of x / 8)) (omega arith) (omega arith)
+    (omega arith) own.1) [
       | inr collision ↦ inr collision
-      | inl are ↦ inl (λ i low.
-          let next : i + 1 ≤ c = omega arith in
-          let within = mul-le-mul_left unit next in
-          let inside : i * unit + unit ≤ 2 ^ height_of x = omega (arith, leaves.2) in
-          let at : start_of x + i * unit ≡ (256 * t.number + (p + i)) * unit =
-          omega (arith, leaves.0, ap (λ n. n * unit) whole) in
-          let ends : (256 * t.number + (p + i) + 1) * unit ≤ length ds = omega (arith, at, own.0) in
-          own_at H ds t (p + i) (slice_index_or digests (p + i) [])
-          (rw level ends)
-          (sym (get_or-take c (drop p digests) i [] low ∙ get_or-drop p digests i [])
-          ∙ are i (omega arith) (omega arith)
-          ∙ ap (root_of H) (take_drop_take (i * unit) unit (2 ^ height_of x) (drop (start_of x) ds) inside)
-          ∙ ap (λ l. root_of H (take unit l)) (drop-drop (i * unit) (start_of x) ds)
-          ∙ ap (λ b. root_over H ds b unit) at ∙ ap (λ u. root_over H ds ((256 * t.number + (p + i)) * u) u)
-          (sym level)))
+      | inl are ↦ inl
+          (λ i low. let next : i + 1 ≤ c = omega arith in let within = mul-le-mul_left unit next in let inside : i * unit
+          + unit ≤ 2 ^ height_of x = omega (arith, leaves.2) in let at : start_of x + i * unit ≡
+          (256 * t.number + (p + i)) * unit = omega (arith, leaves.0, ap (λ n. n * unit) whole) in let
+          ends : (256 * t.number + (p + i) + 1) * unit ≤ length ds = omega (arith, at, own.0) in grind
+          (arith, own_at, get_or-take, get_or-drop, take_drop_take, drop-drop))
     ]
 
 -- The places of some tiles, the digests that they have, and that these have 32 bytes.
@@ -150,10 +138,7 @@ module _ (H : List ℕ → List ℕ) (digests : GivesHashes H) (ds : List (List 
     some : 0 < n % 2 ^ (8 * level) → (r : List ℕ) × (behind ≡ Some r) × (length r ≡ 32)
 
   behind_hashes : (level : ℕ) (behind : Option (List ℕ)) → HasBehind level behind → AreHashes (option_to_list behind)
-  behind_hashes level behind has = elim (cases_lt 0 (n % 2 ^ (8 * level))) [
-    | inl more ↦ let (r, is, size) = has.some more in rw is (size, tt)
-    | inr none ↦ rw (has.none (omega arith)) tt
-  ]
+  behind_hashes level behind has = grind (arith, cases_lt)
 
   -- The root of what is behind a level's nodes.
   abbrev own_behind : ℕ → Option (List ℕ)
@@ -190,65 +175,43 @@ module _ (H : List ℕ → List ℕ) (digests : GivesHashes H) (ds : List (List 
       let left : length ys ≡ w * p + n % p = omega (arith, length-drop a ds, tile_start level m) in
       let least = mul-le-mul_left p some in
       let start : 256 * (m / 256) * p ≡ a = omega (arith, ap (λ k. m / 256 * k) (pow_up level)) in
-      let same : root_of H (stored ++ option_to_list behind) ≡ root_of H ys =
-      let found : Some (root_of H (stored ++ option_to_list behind)) ≡ Some (root_of H ys) = e
-      ∙ ap (λ b. root_if H (drop (b * 2 ^ (8 * (level + 1))) ds)) (sym (level_count n level))
-      ∙ root_if_some H ys (omega arith) in cc in
-      let tile : ((i : ℕ) → i < w → slice_index_or stored i [] ≡ root_of H (take p (drop (i * p) ys)))
-      → IsTileBy (own_digest H ds) (last_tile n level) stored = λ are.
-      rw (fill_by_all (λ i. root_of H (leaves_below (node_in (last_tile n level) i) ds)) stored w [] size
+      let same : root_of H (stored ++ option_to_list behind) ≡ root_of H ys = grind
+      (arith, level_count, root_if_some) in
+      let tile : ((i : ℕ) → i < w → slice_index_or stored i [] ≡ root_of H (take p (drop (i * p) ys))) → IsTileBy
+      (own_digest H ds) (last_tile n level) stored = λ are. rw
+      (fill_by_all (λ i. root_of H (leaves_below (node_in (last_tile n level) i) ds)) stored w [] size
       (λ i low. are i low ∙ sym (chunk_at H ds level m i low) ∙ digest_at_place H ds (last_tile n level) i low))
       ((own_tile H ds (last_tile n level) (omega (arith, ap (λ k. k * p) whole))).digests.0) in
-      let put : (row : List (List ℕ)) → row ≡ stored ++ option_to_list behind → SomeCollision H (IsRowPlaced H row p ys)
-      → SomeCollision H (IsEdgePlaced H (lower ++ (last_tile n level, stored) ∷ upper) ds) = λ row is c. record {
-        first = c.first;
-        second = c.second;
-        collide = c.collide;
-        placed = record {
-          lower = lower;
-          tile = (last_tile n level, stored);
-          upper = upper;
-          split = refl;
-          row = rw made at
-              (subst (λ l. IsRowPlaced H l p (drop (256 * (m / 256) * p) ds) c.first c.second) is
-              (subst (λ b. IsRowPlaced H row p (drop b ds) c.first c.second) (sym start) c.placed));
-        };
-      } in
+      let put : (row : List (List ℕ)) → row ≡ stored ++ option_to_list behind → SomeCollision H
+      (IsRowPlaced H row p ys) → SomeCollision H (IsEdgePlaced H (lower ++ (last_tile n level, stored) ∷ upper) ds)
+      = grind arith in
       elim (cases_lt 0 (n % p)) [
-        | inr none ↦
-            let nothing = has.none (omega arith) in
-            let all : stored ++ option_to_list behind ≡ stored = ap (λ b. stored ++ option_to_list b) nothing
-            ∙ append-nil stored in
-            let long = ap (λ k. k * p) size in
-            elim (row_or_collides H digests stored ys hashes (drop_hashes a ds leaves) (8 * level) (omega arith)
-            (omega arith) (omega arith) (ap (root_of H) (sym all) ∙ same)) [
+        | inr none ↦ let nothing = has.none (omega arith) in let all : stored ++
+            option_to_list behind ≡ stored = ap (λ b. stored ++ option_to_list b) nothing ∙ append-nil stored in let
+            long = ap (λ k. k * p) size in elim (row_or_collides H digests stored ys hashes (drop_hashes a ds leaves)
+            (8 * level) (omega arith) (omega arith) (omega arith) (ap (root_of H) (sym all) ∙ same)) [
               | inr collision ↦ inr (put _ (sym all) collision)
               | inl are ↦ inl (
                 tile (λ i low. are i (omega arith) (omega arith)),
-                nothing
-                    ∙ sym (root_if_none H (drop (m * p) ds) (omega (arith, length-drop (m * p) ds))),
+                nothing ∙ sym
+                    (root_if_none H (drop (m * p) ds) (omega (arith, length-drop (m * p) ds))),
               )
             ]
-        | inl more ↦
-            let (r, is, wide) = has.some more in
-            let all : stored ++ option_to_list behind ≡ stored ++ r ∷ [] = ap (λ b. stored ++ option_to_list b) is in
-            let long : length (stored ++ r ∷ []) ≡ w + 1 = omega (arith, length-append stored (r ∷ []), size) in
-            let product = ap (λ k. k * p) long in
-            elim (row_or_collides H digests (stored ++ r ∷ []) ys
-            (all_push (λ (d : List ℕ). length d ≡ 32) stored r hashes wide) (drop_hashes a ds leaves) (8 * level)
-            (omega arith) (omega arith) (omega arith) (ap (root_of H) (sym all) ∙ same)) [
+        | inl more ↦ let (r, is, wide)
+            = has.some more in let all : stored ++ option_to_list behind ≡ stored ++ r ∷ [] = ap
+            (λ b. stored ++ option_to_list b) is in let long : length (stored ++ r ∷ []) ≡ w + 1 = omega
+            (arith, length-append stored (r ∷ []), size) in let product = ap (λ k. k * p) long in elim
+            (row_or_collides H digests (stored ++ r ∷ []) ys (all_push (λ (d : List ℕ). length d ≡ 32) stored r hashes
+            wide) (drop_hashes a ds leaves) (8 * level) (omega arith) (omega arith) (omega arith)
+            (ap (root_of H) (sym all) ∙ same)) [
               | inr collision ↦ inr (put _ (sym all) collision)
-              | inl are ↦
-                  let place : w * p + a ≡ m * p = omega (arith, tile_start level m) in
-                  let last : r ≡ root_of H (drop (m * p) ds) =
-                  sym (ap (λ j. slice_index_or (stored ++ r ∷ []) j []) (sym size) ∙ get_or-append_seam stored r [] [])
-                  ∙ are w (omega arith) (omega arith)
-                  ∙ ap (root_of H) (take_all p (drop (w * p) ys) (omega (arith, length-drop (w * p) ys)))
-                  ∙ ap (root_of H) (drop-drop (w * p) a ds) ∙ ap (λ b. root_of H (drop b ds))
-                  (let o : a + w * p ≡ m * p = omega arith in o) in
-                  inl (
-                    tile (λ i low. sym (get_or-append stored (r ∷ []) [] i (omega arith))
-                        ∙ are i (omega arith) (omega arith)),
+              | inl are ↦ let
+                  place : w * p + a ≡ m * p = omega (arith, tile_start level m) in let last : r ≡ root_of H (drop (m * p) ds) =
+                  sym (ap (λ j. slice_index_or (stored ++ r ∷ []) j []) (sym size) ∙ get_or-append_seam stored r [] []) ∙ are w
+                  (omega arith) (omega arith) ∙ ap (root_of H) (take_all p (drop (w * p) ys)
+                  (omega (arith, length-drop (w * p) ys))) ∙ ap (root_of H) (drop-drop (w * p) a ds) ∙ ap
+                  (λ b. root_of H (drop b ds)) (let o : a + w * p ≡ m * p = omega arith in o) in inl (
+                    tile (λ i low. sym (get_or-append stored (r ∷ []) [] i (omega arith)) ∙ are i (omega arith) (omega arith)),
                     is ∙ ap Some last ∙ sym (root_if_some H (drop (m * p) ds) (omega (arith, length-drop (m * p) ds))),
                   )
             ]
@@ -279,7 +242,8 @@ module _ (H : List ℕ → List ℕ) (digests : GivesHashes H) (ds : List (List 
               ap (λ q. q * 2 ^ (8 * (level + 1)))
                   (level_count n level),
             ) in
-            elim (from_level k (level + 1) lower tiles behind (omega arith) (places ∙ from_none n level (omega arith) none)
+            elim (from_level k (level + 1) lower tiles behind (omega arith)
+            (places ∙ from_none n level (omega arith) none)
             counts hashes
             (record { none = λ is. has.none (sym same ∙ is); some = λ more. has.some (omega arith) }) made e) [
               | inl own ↦ inl (own.0, own.1 ∙ ap (λ b. root_if H (drop b ds)) ends)
@@ -307,10 +271,11 @@ module _ (H : List ℕ → List ℕ) (digests : GivesHashes H) (ds : List (List 
             elim (from_level k (level + 1) (lower ++ tile ∷ []) upper (Some root) (omega arith) above counts.1 hashes.1
             above_has (rw made (sym (root_on_append H None lower (tile ∷ [])))) e) [
               | inr collision ↦ inr (rw (append_assoc lower (tile ∷ []) upper) at collision)
-              | inl own ↦ elim (at_tile level stored behind lower upper (omega arith) some counts.0 hashes.0 has made own.1) [
-                | inr collision ↦ inr collision
-                | inl here ↦ inl ((here.0, own.0), here.1)
-              ]
+              | inl own ↦ elim (at_tile level stored behind lower upper (omega arith) some counts.0 hashes.0 has
+                  made own.1) [
+                    | inr collision ↦ inr collision
+                    | inl here ↦ inl ((here.0, own.0), here.1)
+                  ]
             ] in
             subst P (sym split) at counts hashes e
       ]
@@ -318,16 +283,14 @@ module _ (H : List ℕ → List ℕ) (digests : GivesHashes H) (ds : List (List 
   -- a length of some entries has a partial tile
   none_left : (k level : ℕ) → level + k ≡ 8 → partial_from n level ≡ [] → n / 2 ^ (8 * level) ≡ 0
   none_left zero level last none = let eight : level ≡ 8 = omega arith in rw eight (omega arith)
-  none_left (suc k) level last none = elim (cases_lt 0 (n / 2 ^ (8 * level) % 256)) [
-    | inl some ↦ let made : last_tile n level ∷ partial_from n (level + 1) ≡ [] =
-        sym (from_some n level (omega arith) some) ∙ none in cc
-    | inr few ↦ omega (
-      arith,
-      none_left k (level + 1) (omega arith) (sym (from_none n level (omega arith) (omega arith))
-          ∙ none),
-      level_count n level,
-    )
-  ]
+  none_left (suc k) level last none = grind (
+    arith,
+    cases_lt,
+    from_some,
+    none_left k (level + 1),
+    from_none,
+    level_count,
+  )
 
   some_tiles : (tiles : Tiles) → places_of tiles ≡ partial_tiles n → 0 < n
       → 0 < length tiles

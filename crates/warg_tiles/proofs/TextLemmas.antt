@@ -2,7 +2,7 @@
 use Rattle.std.proofs.Common.{◌≡◌, ◌≢◌, ℕ, ◌+◌, ◌*◌, ◌/◌, ◌%◌, ◌^◌, ◌<◌, ◌≤◌, ◌==◌, false, List, [], ◌∷◌, ◌++◌, length, get_or, map, take, replicate, Option, Some, None, Result, Ok, Err, Bor, refl, sym, ap, ◌∙◌, inl, inr, arith}
 use Rattle.std.specs.List.{AllByRecursion, list_any}
 use Rattle.std.proofs.lemmas.Bool.{cases_lt, true≢false}
-use Rattle.std.proofs.lemmas.List.Elements.{All-get_or, All-from_get_or, All-replicate, recursion_from_All}
+use Rattle.std.proofs.lemmas.List.Elements.{All-from_get_or, All-replicate, recursion_from_All}
 use Rattle.std.proofs.lemmas.List.Folds.{list_any_at}
 use Rattle.warg_protobuf.proofs.ForCallers.{all_append, all_push}
 use Rattle.std.specs.Fmt.{decimal}
@@ -16,7 +16,7 @@ use Rattle.base64.specs.GeneralPurpose.{encode_of, decode_of, IsBytes}
 use Rattle.base64.specs.Rfc4648.{encode_symbols, padding_len}
 use Rattle.base64.proofs.EngineFacts.{decode_of-encode_of, decode_of_strict, front_bytes}
 use Rattle.base64.proofs.RoundTrip.{length-encode_symbols}
-use Rattle.warg_crypto.specs.Digests.{IsDigest, IsByte}
+use Rattle.warg_crypto.specs.Digests.{IsDigest}
 use Rattle.warg_tiles.specs.CheckpointText.{Said, HasNoNewline, IsLine, CanBeSaid, line, length_line, root_line, lines, behind, text_before}
 use Rattle.warg_tiles.specs.CheckpointFaults.{HasOrigin, HasLength, HasRoot, IsFirstFault}
 use Rattle.warg_tiles.specs.Private.Texts.{IsExtensionFault}
@@ -74,17 +74,11 @@ no_newline-encode m =
 
 -- a digest's bytes are bytes
 pub digest_bytes : (root : List ℕ) → IsDigest root → IsBytes root
-digest_bytes root is i = elim (cases_lt i (length root)) [
-  | inl low ↦ All-get_or IsByte root i 0 low is.are_bytes
-  | inr out ↦ rw (get_or_past root i 0 out) (omega arith)
-]
+digest_bytes root is i = grind (arith, cases_lt, get_or_past)
 
 -- a length's line is read in one way
 length_once : (n m : ℕ) (r s : List ℕ) → n ≤ 2 ^ 63 → m ≤ 2 ^ 63 → length_line n r ≡ length_line m s → (n ≡ m) × (r ≡ s)
-length_once n m r s p q is =
-    let once = line_once (decimal n) r (decimal m) s (no_newline-decimal n (omega arith))
-    (no_newline-decimal m (omega arith)) is in
-    (decimal_injective n m (omega arith) (omega arith) once.0, once.1)
+length_once n m r s p q is = grind (arith, line_once, no_newline-decimal, decimal_injective)
 
 -- and so is a root's
 root_once : (a b r s : List ℕ) → IsDigest a → IsDigest b → root_line a r ≡ root_line b s → (a ≡ b) × (r ≡ s)
@@ -118,26 +112,20 @@ decimal_line bytes text rest more n none is most other =
 pub root_line_is : (bytes text rest more root : List ℕ) → HasNoNewline text → bytes ≡ line text rest → IsDigest root
     → bytes ≡ root_line root more → (length text ≡ 44) × (decode_of standard text ≡ Ok root)
 root_line_is bytes text rest more root none is digest other =
-    let same = (line_once text rest (encode_of standard root) more none (no_newline-encode root) (sym is ∙ other)).0 in
+    let same = (line_once text rest (encode_of standard root) more none (no_newline-encode root) (sym is ∙ other)).0
+    in
     let padding : List ℕ = replicate (padding_len (length root)) 61 in
     let all = length-append (encode_symbols standard.encode_table root) padding in (
-      omega (
-        arith,
-        ap length same,
-        all,
-        length-encode_symbols standard.encode_table root,
-        digest.has_32,
-        length-replicate {A = ℕ} (padding_len (length root)) 61,
-      ),
-      rw same (decode_of-encode_of standard root refl (digest_bytes root digest)),
+      grind (arith, length-encode_symbols, length-replicate),
+      rw same
+          (decode_of-encode_of standard root refl (digest_bytes root digest)),
     )
 
 -- a text that was decoded is the base64 of what it gave
 pub root_read : (bytes text rest decoded root : List ℕ) → IsBytes bytes → bytes ≡ line text rest
     → decode_of standard text ≡ Ok decoded → root ≡ decoded → bytes ≡ root_line root rest
-root_read bytes text rest decoded root all front is same =
-    front ∙ ap (λ l. line l rest) (decode_of_strict standard text decoded (refl, refl)
-    (front_bytes text (10 ∷ rest) (rw front at all)) is ∙ ap (encode_of standard) (sym same))
+root_read bytes text rest decoded root all front is same = grind
+    (arith, decode_of_strict standard text decoded (refl, refl), front_bytes text (10 ∷ rest))
 
 -- what is read as a hash
 pub hash_read : {E : Type 0} (r : Result (List ℕ) E) (o : Option (List ℕ)) (root items : List ℕ)
@@ -169,14 +157,6 @@ pub lines-last : (xs : List (List ℕ)) (x rest : List ℕ) → lines (xs ++ x �
 unfolding lines
 lines-last [] x rest = refl
 lines-last (y ∷ xs) x rest = ap (line y) (lines-last xs x rest)
-
--- the four parts of a text
-pub text_written : (said : Said) (b1 b2 b3 b4 : List ℕ) → b1 ≡ [] ++ (said.origin ++ 10 ∷ [])
-    → b2 ≡ b1 ++ (decimal said.length ++ 10 ∷ []) → b3 ≡ b2 ++ (encode_of standard said.root ++ 10 ∷ [])
-    → b4 ≡ b3 ++ lines said.extensions [] → b4 ≡ text_before said None
-text_written said b1 b2 b3 b4 one two three four =
-    four ∙ ap (λ b. b ++ lines said.extensions []) (three ∙ ap (λ b. b ++ (encode_of standard said.root ++ 10 ∷ []))
-    (two ∙ ap (λ b. b ++ (decimal said.length ++ 10 ∷ [])) one)) ∙ simp append_assoc
 
 -- lines up to one more of a list
 pub lines-take : {X : Type 0} (bytes : List ℕ) (f : X → List ℕ) (xs : List X) (x : X) (i : ℕ) → i < length xs
@@ -235,27 +215,12 @@ added_none s bytes = ([], tt, ap (λ e. record s { extensions = e }) (sym (appen
 
 pub added_line : (s t u : Said) (bytes rest x more : List ℕ) → Added s t bytes rest → rest ≡ line x more → IsLine x
     → u ≡ record t { extensions = t.extensions ++ x ∷ [] } → Added s u bytes more
-added_line s t u bytes rest x more added is one grown = (
-  added.0 ++ x ∷ [],
-  all_push IsLine added.0 x added.1 one,
-  grown ∙ ap (λ (a : Said). record a { extensions = a.extensions ++ x ∷ [] }) added.2
-      ∙ ap (λ e. record s { extensions = e }) (append_assoc s.extensions added.0 (x ∷ [])),
-  added.3 ∙ ap (lines added.0) is ∙ sym (lines-last added.0 x more),
-)
+added_line s t u bytes rest x more added is one grown = grind (arith, all_push, append_assoc, lines-last)
 
 -- a text is read in one way
 pub text_once : (s t : Said) (a b : Option (List ℕ)) → CanBeSaid s → CanBeSaid t → text_before s a ≡ text_before t b
     → (s ≡ t) × (a ≡ b)
-text_once s t a b p q e =
-    let one = line_once s.origin _ t.origin _ p.origin.no_newline q.origin.no_newline e in
-    let two = length_once s.length t.length _ _ p.length q.length one.1 in
-    let three = root_once s.root t.root _ _ p.root q.root two.1 in
-    let four = lines_once s.extensions t.extensions a b p.extensions q.extensions three.1 in (
-      rw one.0 (ap (λ n. record s { origin = t.origin; length = n }) two.0
-          ∙ ap (λ r. record s { origin = t.origin; length = t.length; root = r }) three.0
-          ∙ ap (λ x. record t { extensions = x }) four.0),
-      four.1,
-    )
+text_once s t a b p q e = grind (arith, line_once, length_once, root_once, lines_once)
 
 pub err_on_ok : {X E : Type 0} (r : Result X E) (P : Type 0) → IsErr r → OnOk r P
 err_on_ok (Ok x) P is = cc
@@ -264,16 +229,12 @@ err_on_ok (Err e) P is = tt
 -- no length's line is behind an origin's
 pub no_length : {bytes : List ℕ} (own : HasOrigin bytes)
     → ((n : ℕ) (more : List ℕ) → n ≤ 2 ^ 63 → own.1 ≢ length_line n more) → HasLength bytes → ⊥
-no_length own none h =
-    let after = (line_once h.0 (length_line h.1 h.2) own.0 own.1 h.3.no_newline own.2.no_newline (sym h.5 ∙ own.3)).1 in
-    none h.1 h.2 h.4 (sym after)
+no_length own none h = grind (arith, line_once)
 
 -- no root's line is behind a length's
 pub no_root : {bytes : List ℕ} (own : HasLength bytes)
     → ((root last : List ℕ) → IsDigest root → own.2 ≢ root_line root last) → HasRoot bytes → ⊥
-no_root own none h =
-    let after = (line_once h.0 _ own.0 _ h.4.no_newline own.3.no_newline (sym h.7 ∙ own.5)).1 in
-    none h.2 h.3 h.6 (sym (length_once h.1 own.1 _ own.2 h.5 own.4 after).1)
+no_root own none h = grind (arith, line_once, length_once)
 
 -- a text of these parts has no fault
 pub only_memory : {X : Type 0} {bytes : List ℕ} → HasRoot bytes → (e : CheckpointTextError)
@@ -288,26 +249,8 @@ only_memory own Memory r of a b c d = own
 -- what is behind the root's line is no further lines
 pub no_extensions : {bytes : List ℕ} (own : HasRoot bytes) (e : CheckpointTextError) → IsExtensionFault own.3 e
     → IsFirstFault bytes e
-no_extensions own Extension fault = (
-  own,
-  λ h.
-      let one = (line_once h.0.origin _ own.0 _ h.2.origin.no_newline own.4.no_newline (sym h.3 ∙ own.7)).1 in
-      let two = (length_once h.0.length own.1 _ _ h.2.length own.5 one).1 in
-      fault h.0.extensions h.1 h.2.extensions (sym (root_once h.0.root own.2 _ _ h.2.root own.6 two).1),
-)
+no_extensions own Extension fault = grind (arith, line_once, length_once, root_once)
 no_extensions own Memory fault = own
 no_extensions own Origin fault = absurd fault
 no_extensions own Length fault = absurd fault
 no_extensions own Root fault = absurd fault
-
--- the text of these parts and further lines
-pub said_before : {bytes : List ℕ} (own : HasRoot bytes) {text said : Said} (rest : Option (List ℕ))
-    → text ≡ record { origin = own.0; length = own.1; root = own.2; extensions = [] } → (ls : List (List ℕ))
-    × AllByRecursion IsLine ls × (said ≡ record text { extensions = text.extensions ++ ls })
-    × (own.3 ≡ lines ls (behind rest))
-    → CanBeSaid said × (bytes ≡ text_before said rest)
-said_before own rest made h =
-    rw (h.2, made) (
-      record { origin = own.4; length = own.5; root = own.6; extensions = h.1 },
-      own.7 ∙ ap (λ l. line own.0 (length_line own.1 (root_line own.2 l))) h.3,
-    )

@@ -1,6 +1,6 @@
 -- The least tile of a node.
 use Rattle.std.proofs.Common.{◌↔◌, IsTrue, false}
-use Rattle.std.proofs.Common.{◌≡◌, ℕ, ◌+◌, ◌-◌, ◌*◌, ◌/◌, ◌%◌, ◌^◌, ◌<◌, ◌≤◌, sym, ap, ◌∙◌, arith}
+use Rattle.std.proofs.Common.{◌≡◌, ℕ, ◌+◌, ◌-◌, ◌*◌, ◌/◌, ◌%◌, ◌^◌, ◌<◌, ◌≤◌, ap, ◌∙◌, arith}
 use Rattle.std.proofs.Math.Nat.{add-sub_of_le, mul-le-mul_left, mul-le-mul_right, mul-div_cancel, mul-mod_left, mul-div-le}
 use Rattle.std.proofs.lemmas.Nat.{pow_pos, pow-add, mod-pow-add, le-div}
 use Rattle.std.proofs.Math.Dec.{leb}
@@ -20,10 +20,13 @@ first_of_high b j some most = omega (arith, mul-le-mul_left (2 * j + 1) some)
 
 -- a node of height 63 or more is the first of its height
 pub highest_first : (x k j : ℕ) → IsNode x k j → x < 2 ^ 64 → 63 ≤ k → j ≡ 0
-highest_first x k j is lt high =
-    let whole : 2 ^ k ≡ 2 ^ 63 * 2 ^ (k - 63) = ap (λ n. 2 ^ n) (sym (add-sub_of_le high)) ∙ pow-add 2 63 (k - 63) in
-    let some : 0 < 2 ^ (k - 63) = pow_pos (k - 63) in
-    first_of_high (2 ^ (k - 63)) j some (omega (arith, is, ap (λ n. n * (2 * j + 1)) whole))
+highest_first x k j is lt high = grind (
+  arith,
+  add-sub_of_le high,
+  pow-add 2 63 (k - 63),
+  pow_pos (k - 63),
+  first_of_high,
+)
 
 -- a power of two is that of a height's level and that of its height within the level
 pub height_parts : (k : ℕ) → 2 ^ k ≡ 2 ^ (8 * (k / 8)) * 2 ^ (k % 8)
@@ -41,41 +44,30 @@ place_in_level_is x =
 
 -- that number is one of 64 bits
 pub place_fits : (x k j : ℕ) → IsNode x k j → x < 2 ^ 64 → j * 2 ^ (k % 8) < 2 ^ 64
-place_fits x k j is lt =
-    let r = 2 ^ (k % 8) in
-    let q = 2 ^ (8 * (k / 8)) in
-    let whole : x + 1 ≡ q * (r * (2 * j + 1)) = is ∙ omega (arith, ap (λ n. n * (2 * j + 1)) (height_parts k)) in
-    let most : 1 * (r * (2 * j + 1)) ≤ q * (r * (2 * j + 1)) =
-    omega (arith, mul-le-mul_left (r * (2 * j + 1)) (pow_pos (8 * (k / 8)))) in
-    omega (arith, pow_pos (k % 8))
+place_fits x k j is lt = grind (arith, height_parts, mul-le-mul_left, pow_pos)
 
 width_within : (b q place part rest : ℕ) → q * b ≡ 256 → place ≡ part * b + rest → rest ≡ 0 → part < q → place + b ≤ 256
 width_within b q place part rest whole is none less = omega (arith, mul-le-mul_left b less)
 
 -- the width ends with the tile at the latest
 pub width_most : (p r : ℕ) → r < 8 → p * 2 ^ r % 256 + 2 ^ r ≤ 256
-width_most p r low =
-    let whole : 8 ≡ 8 - r + r = omega arith in
-    let full : 2 ^ 8 ≡ 2 ^ (8 - r) * 2 ^ r = ap (λ n. 2 ^ n) whole ∙ pow-add 2 (8 - r) r in
-    let left : p * 2 ^ r % 2 ^ 8 ≡ (p * 2 ^ r / 2 ^ r % 2 ^ (8 - r)) * 2 ^ r + p * 2 ^ r % 2 ^ r =
-    ap (λ m. p * 2 ^ r % 2 ^ m) whole ∙ mod-pow-add (p * 2 ^ r) (8 - r) r in
-    let part : p * 2 ^ r / 2 ^ r ≡ p = mul-div_cancel p (pow_pos r) in
-    let less : p % 2 ^ (8 - r) < 2 ^ (8 - r) = omega (arith, pow_pos (8 - r)) in
-    width_within (2 ^ r) (2 ^ (8 - r)) (p * 2 ^ r % 256) (p % 2 ^ (8 - r)) (p * 2 ^ r % 2 ^ r) (omega (arith, full))
-    (rw part at left) (mul-mod_left p (2 ^ r)) less
+width_most p r low = grind (
+  arith,
+  pow-add 2 (8 - r) r,
+  mod-pow-add (p * 2 ^ r) (8 - r) r,
+  mul-div_cancel p
+      (pow_pos r),
+  pow_pos r,
+  pow_pos (8 - r),
+  width_within,
+  mul-mod_left p (2 ^ r),
+)
 
 -- the least tile of a node, as it is made in 64 bits
 pub tile_made : (x k j : ℕ) (t : TileAt) → x < 2 ^ 64 → IsNode x k (place_of x) → k ≡ height_of x → j ≡ place_of x
     → t.level ≡ k / 8 → t.number ≡ j * 2 ^ (k % 8) % 2 ^ 64 / 256 → t.width ≡ j * 2 ^ (k % 8) % 2 ^ 64 % 256 + 1 * 2 ^
     (k % 8) % 2 ^ 64 → t ≡ tile_over x
-tile_made x k j t small is height place level number width =
-    let fits : j * 2 ^ (k % 8) < 2 ^ 64 = rw place (place_fits x k (place_of x) is small) in
-    let most : j * 2 ^ (k % 8) % 256 + 2 ^ (k % 8) ≤ 256 = width_most j (k % 8) (omega arith) in
-    let whole : j * 2 ^ (k % 8) % 2 ^ 64 ≡ j * 2 ^ (k % 8) = omega arith in
-    let part : 1 * 2 ^ (k % 8) % 2 ^ 64 ≡ 2 ^ (k % 8) = omega arith in
-    rw (place_in_level_is x, ← height, ← place, ← whole, ← number, ← level)
-    (ap (λ w. record { level = t.level; number = t.number; width = w })
-    (width ∙ ap (λ w. j * 2 ^ (k % 8) % 2 ^ 64 % 256 + w) part))
+tile_made x k j t small is height place level number width = grind (arith, place_fits, width_most, place_in_level_is)
 
 -- a tile of a log of at most 2 ^ 63 entries has a level below 8
 pub level_low : (t : TileAt) → 0 < t.width → tile_end t ≤ 2 ^ 63 → t.level < 8
@@ -92,10 +84,7 @@ number_low t some fits = omega (arith, mul-le-mul_left (256 * t.number + t.width
 -- a tile of a level above 7, or of a number from 2 ^ 55 on, stands at no length
 pub at_no_length : (t : TileAt) (n : ℕ) → (t.level < 8 → t.number < 2 ^ 55 → ⊥) → 0 < t.width → n ≤ 2 ^ 63
     → IsTrue false ↔ (tile_end t ≤ n)
-at_no_length t n beyond some small = (
-  λ yes. absurd (false≢true yes),
-  λ fits. absurd (beyond (level_low t some (omega arith)) (number_low t some (omega arith))),
-)
+at_no_length t n beyond some small = grind (arith, false≢true, level_low, number_low)
 
 -- any other stands at the lengths that have so many nodes of its level
 pub by_nodes : (t : TileAt) (n : ℕ) → IsTrue (leb (256 * t.number + t.width) (n / 2 ^ (8 * t.level))) ↔ (tile_end t ≤ n)
@@ -106,6 +95,6 @@ by_nodes t n = (
         (leb-true (256 * t.number + t.width) (n / 2 ^ (8 * t.level)) yes),
     mul-div-le n (2 ^ (8 * t.level)),
   ),
-  λ fits. le-leb (256 * t.number + t.width) (n / 2 ^ (8 * t.level))
-      (le-div (256 * t.number + t.width) n (2 ^ (8 * t.level)) (pow_pos (8 * t.level)) fits),
+  grind
+      (arith, le-leb, le-div, pow_pos),
 )

@@ -4,7 +4,6 @@ use Rattle.warg_folder.specs.Moments.{LeavesOnly}
 use Rattle.warg_folder.specs.Names.{staged}
 use Rattle.warg_folder.specs.Private.Steps.{IsMoving}
 use Rattle.warg_folder.proofs.StepLemmas.{moved_gone, unmoved}
-use Rattle.warg_folder.proofs.ForCallers.{goes_on}
 use Rattle.warg_folder.proofs.RunLemmas.{begins_reading, runs_on}
 use Rattle.warg_folder.proofs.committing.move_staged.Goals.{After-move_all}
 use Rattle.warg_folder.proofs.committing.move_staged.Goals as goal
@@ -32,30 +31,3 @@ returns-clause-moved g c = λ faithful.
     (c.in_ok-move_all.ensures.moved faithful n is)
     (λ some. rw c.as_slice.ensures.value (c.in_ok-names.ensures.all faithful (staged n) some refl))))
     (c.sync.ensures.durable faithful)
-
-pub returns-in_err-names-clause-moving : goal.returns-in_err-names-clause-moving
-returns-in_err-names-clause-moving g c = λ faithful. unmoved _ _ (c.list.ensures.seen faithful)
-
-pub returns-in_err-move_all-clause-moving : goal.returns-in_err-move_all-clause-moving
-returns-in_err-move_all-clause-moving g c =
-    moved g (goal.at.returns-in_err-move_all-clause-moving g c).After-move_all
-
-pub returns-clause-moving : goal.returns-clause-moving
-returns-clause-moving g c = λ faithful.
-    rw (c.sync.ensures.seen faithful) (moved g (goal.at.returns-clause-moving g c).After-move_all faithful)
-
-pub returns-in_err-names-clause-any_moment : goal.returns-in_err-names-clause-any_moment
-returns-in_err-names-clause-any_moment g c = λ faithful.
-    begins_reading (g.met.F.Folder.only_now c.args.folder.now) (c.list.ensures.time faithful)
-    (c.list.ensures.crash faithful) (λ f was. unmoved _ f (c.requires faithful f was))
-
-pub returns-in_err-move_all-clause-any_moment : goal.returns-in_err-move_all-clause-any_moment
-returns-in_err-move_all-clause-any_moment g c =
-    moving g (goal.at.returns-in_err-move_all-clause-any_moment g c).After-move_all
-
-pub returns-clause-any_moment : goal.returns-clause-any_moment
-returns-clause-any_moment g c = λ faithful.
-    goes_on _ _ _ _ _ _ _ (moving g (goal.at.returns-clause-any_moment g c).After-move_all faithful)
-    (c.sync.ensures.time faithful)
-    (λ e left. rw (c.list.ensures.seen faithful) at
-    (c.move_all.ensures.crash faithful e (c.sync.ensures.crash faithful e left)))

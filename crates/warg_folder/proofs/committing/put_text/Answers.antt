@@ -1,12 +1,11 @@
 use Rattle.std.proofs.Common.{inl, sym, ap, ◌∙◌}
-use Rattle.std.proofs.lemmas.Result.{on_ok_weaker}
 use Rattle.warg_folder.specs.Files.{put}
 use Rattle.warg_folder.specs.Moments.{LeavesOnly}
 use Rattle.warg_folder.specs.Names.{state}
 use Rattle.warg_folder.specs.Private.Steps.{IsPut}
 use Rattle.warg_folder.proofs.ForCallers.{goes_on}
 use Rattle.warg_folder.proofs.RunLemmas.{begins_reading}
-use Rattle.warg_folder.proofs.StepLemmas.{first_put, second_put, signed_told, told_second}
+use Rattle.warg_folder.proofs.StepLemmas.{first_put, second_put, signed_told}
 use Rattle.warg_folder.proofs.committing.put_text.Goals.{After-replace}
 use Rattle.warg_folder.proofs.committing.put_text.Goals as goal
 
@@ -22,11 +21,6 @@ state_put g c faithful = goes_on _ _ _ _ _ _ _
     first_put c.args.text.now (g.F.Folder.seen c.args.folder.now) from.0 e
     (c.requires faithful from.0 (c.is_signed.ensures.crash faithful from.0 from.1)) from.2)
 
-pub returns-in_err-is_signed-clause-any_moment : goal.returns-in_err-is_signed-clause-any_moment
-returns-in_err-is_signed-clause-any_moment g c = λ faithful.
-    begins_reading (g.met.F.Folder.only_now c.args.folder.now) (c.is_signed.ensures.time faithful)
-    (c.is_signed.ensures.crash faithful) (λ d was. inl (c.requires faithful d was))
-
 pub returns-in_err-replace-clause-any_moment : goal.returns-in_err-replace-clause-any_moment
 returns-in_err-replace-clause-any_moment g c =
     state_put g (goal.at.returns-in_err-replace-clause-any_moment g c).After-replace
@@ -35,18 +29,6 @@ pub returns-then-is_signed-clause-put : goal.returns-then-is_signed-clause-put
 returns-then-is_signed-clause-put g c = λ faithful.
     rw (c.is_signed.ensures.seen faithful) at (c.in_ok-replace.ensures.replaced faithful)
     ∙ signed_told c.args.text.now _ (sym (c.in_ok-is_signed.ensures.signed faithful) ∙ c.if-is_signed.true)
-
-pub returns-then-is_signed-clause-any_moment : goal.returns-then-is_signed-clause-any_moment
-returns-then-is_signed-clause-any_moment g c =
-    state_put g (goal.at.returns-then-is_signed-clause-any_moment g c).After-replace
-
-pub returns-clause-put : goal.returns-clause-put
-returns-clause-put g c = λ faithful.
-    on_ok_weaker c.replace-2.result
-    (told_second c.args.text.now (g.F.Folder.seen c.args.folder.now) (g.F.Folder.seen c.replace.new.self)
-    (g.F.Folder.seen c.replace-2.new.self) (sym (c.in_ok-is_signed.ensures.signed faithful) ∙ c.if-is_signed.false)
-    (rw (c.is_signed.ensures.seen faithful) at (c.in_ok-replace.ensures.replaced faithful)))
-    (c.replace-2.ensures.replaced faithful)
 
 pub returns-clause-any_moment : goal.returns-clause-any_moment
 returns-clause-any_moment g c = λ faithful.

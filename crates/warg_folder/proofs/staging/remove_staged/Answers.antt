@@ -4,7 +4,6 @@ use Rattle.warg_folder.specs.Moments.{LeavesOnly}
 use Rattle.warg_folder.specs.Commits.{without_staged}
 use Rattle.warg_folder.specs.Private.Steps.{IsRemoving}
 use Rattle.warg_folder.proofs.StepLemmas.{all_removed}
-use Rattle.warg_folder.proofs.ForCallers.{goes_on}
 use Rattle.warg_folder.proofs.RunLemmas.{begins_reading, runs_on}
 use Rattle.warg_folder.proofs.staging.remove_staged.Goals.{After-remove_all}
 use Rattle.warg_folder.proofs.staging.remove_staged.Goals as goal
@@ -28,19 +27,3 @@ returns-clause-removed g c = λ faithful.
     (rw (c.as_slice.ensures.value, c.list.ensures.seen faithful) (c.in_ok-names.ensures.all faithful))
     ∙ ap without_staged (c.list.ensures.seen faithful))
     (c.sync.ensures.durable faithful)
-
-pub returns-in_err-names-clause-any_moment : goal.returns-in_err-names-clause-any_moment
-returns-in_err-names-clause-any_moment g c = λ faithful.
-    begins_reading (g.met.F.Folder.only_now c.args.folder.now) (c.list.ensures.time faithful)
-    (c.list.ensures.crash faithful) (c.requires faithful)
-
-pub returns-in_err-remove_all-clause-any_moment : goal.returns-in_err-remove_all-clause-any_moment
-returns-in_err-remove_all-clause-any_moment g c =
-    removing g (goal.at.returns-in_err-remove_all-clause-any_moment g c).After-remove_all
-
-pub returns-clause-any_moment : goal.returns-clause-any_moment
-returns-clause-any_moment g c = λ faithful.
-    goes_on _ _ _ _ _ _ _ (removing g (goal.at.returns-clause-any_moment g c).After-remove_all faithful)
-    (c.sync.ensures.time faithful)
-    (λ e left. rw (c.list.ensures.seen faithful) at
-    (c.remove_all.ensures.crash faithful e (c.sync.ensures.crash faithful e left)))

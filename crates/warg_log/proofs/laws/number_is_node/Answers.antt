@@ -1,5 +1,10 @@
 use Rattle.warg_log.proofs.NodeLemmas.{node_is, node_at}
 use Rattle.warg_log.proofs.laws.number_is_node.Goals as goal
 
-pub returns : goal.returns
-returns c = record { is = node_is; only = node_at }
+pub returns-clause-is : goal.returns-clause-is
+returns-clause-is c =
+    node_is
+
+pub returns-clause-only : goal.returns-clause-only
+returns-clause-only c =
+    node_at

@@ -1,8 +1,7 @@
 use Rattle.std.proofs.Common.{arith}
 use Rattle.warg_log.specs.Nodes.{height_of, height_within}
-use Rattle.warg_log.proofs.PremiseLemmas.{SameNumber}
 use Rattle.warg_log.proofs.premises.number_is_node.Goals as goal
 
 pub returns : goal.returns
 unfolding height_of height_within
-returns c = λ law. let other : SameNumber 0 1 = (law 0 1 0).0 in omega arith
+returns c = λ law. omega (arith, (law 0 1 0).0)

@@ -1,10 +1,10 @@
-use Rattle.std.proofs.Common.{[], Some, None}
+use Rattle.std.proofs.Common.{[]}
 use Rattle.warg_log.specs.Nodes.{height_of, height_within, place_of}
 use Rattle.warg_log.specs.Tree.{front_of, front_within, root_within}
 use Rattle.warg_log.specs.Cut.{way_within, top_of}
-use Rattle.warg_log.proofs.PremiseLemmas.{own, SameDigest}
+use Rattle.warg_log.proofs.PremiseLemmas.{own}
 use Rattle.warg_log.proofs.premises.old_own.Goals as goal
 
 pub returns : goal.returns
 unfolding way_within top_of height_of height_within place_of root_within front_of front_within
-returns c = λ law. let none : SameDigest None (Some []) = law own [] 1 in cc
+returns c = λ law. cc (law own [] 1)

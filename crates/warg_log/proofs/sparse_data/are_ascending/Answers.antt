@@ -7,6 +7,3 @@ returns g c = (
   λ _. ascends_by_steps c.args.pairs.now (λ k d lt. c.places.invariant k d (omega arith)),
   λ _. search rules,
 )
-
-pub places-init : goal.places-init
-places-init g c = λ k d lt. absurd (omega arith)

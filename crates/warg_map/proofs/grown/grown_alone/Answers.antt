@@ -10,9 +10,8 @@ use Rattle.warg_map.proofs.grown.grown_alone.Goals as goal
 use Rattle.warg_map.proofs.grown.grown_alone.Goals.{After-new-link}
 
 -- one key alone
-alone : (g : _) (c : After-new-link g) → let k = 256 - c.args.depth - c.saturating_sub-len.result in
-    let leaf = c.index-last.result.now in
-    c.new-link.result ≡ (k, insert empty (last_bits leaf.key k) leaf.value)
+alone : (g : _) (c : After-new-link g) → let k = 256 - c.args.depth - c.saturating_sub-len.result in let leaf =
+    c.index-last.result.now in c.new-link.result ≡ (k, insert empty (last_bits leaf.key k) leaf.value)
 alone g c = rw (
   c.new-link.ensures,
   c.in_ok-lone.ensures.ok,
@@ -32,12 +31,12 @@ pub returns : goal.returns
 returns g c =
     let leaf = c.index-last.result.now in
     let few : c.saturating_sub-len.result ≡ 1 - c.args.depth = c.saturating_sub-len.ensures in
-    let last = split_at_last c.args.leaves.items c.len.result leaf (c.len.ensures ∙ c.args.leaves.ok.0) c.requires.some
+    let last = split_at_last c.args.leaves.items (c.len.ensures ∙ c.args.leaves.ok.0) c.requires.some
     c.index-last.ensures in
-    let only = one_key c.args.leaves.items _ leaf c.args.depth last c.requires.depth
-    (share_last _ c.args.depth _ _ _ leaf last c.requires.one.1) in
-    IfOk-weaker c.with_stem.result _ _ (λ p e. put_one _ leaf.key leaf.value _ _ _ only
-    (lone_with_stem leaf.key leaf.value c.args.depth c.saturating_sub-len.result _ c.new-link.result _
+    let only = one_key _ leaf c.args.depth last c.requires.depth
+    (share_last _ c.args.depth _ _ leaf last c.requires.one.1) in
+    IfOk-weaker c.with_stem.result _ _ (λ p e. put_one leaf.key leaf.value only
+    (lone_with_stem leaf.key leaf.value c.args.depth c.saturating_sub-len.result
     (omega (arith, few, c.requires.depth)) (alone g (goal.at.returns g c).After-new-link)
     (ap (λ r. r.link) (rw c.key.ensures at e)))
     (ap (λ r. r.fresh) e)) c.with_stem.ensures

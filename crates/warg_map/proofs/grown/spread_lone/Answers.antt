@@ -15,7 +15,7 @@ put g c =
       value = c.with_height.ensures.value i;
       height = (c.with_height.ensures.height ∙ height) i;
     } in
-    put_behind_lone c.args.lone.now c.args.depth _ c.args.leaves.items c.insert.new.self.items _ c.requires
+    put_behind_lone c.args.depth c.requires
     (rw same at c.in_ok-insert.ensures.items) c.in_ok-link.ensures
 
 pub overflow_sub-result : goal.overflow_sub-result

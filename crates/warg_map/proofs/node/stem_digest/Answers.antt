@@ -30,9 +30,3 @@ loop-above-preserved g c =
       ),
       rw (c.empty_above-empty.ensures, z),
     )
-
-pub returns : goal.returns
-returns g c =
-    let all : c.loop-above.above ≡ c.args.len = omega arith in
-    let at : c.args.from + (c.args.len - c.args.len) ≡ c.args.from = omega arith in
-    rw (all, at) at c.loop-above.invariant.0

@@ -1,4 +1,4 @@
-use Rattle.std.proofs.Common.{[], ◌∷◌, Some, None, refl, sym, ap, ◌∙◌, arith}
+use Rattle.std.proofs.Common.{[], ◌∷◌, Some, refl, sym, ap, ◌∙◌, arith}
 use Rattle.std.specs.FinMap.{get, insert, empty, get-empty}
 use Rattle.warg_map.specs.Bits.{key_bits}
 use Rattle.warg_map.specs.Sparse.{bits_cmp, inserted}
@@ -8,10 +8,9 @@ use Rattle.warg_map.proofs.premises.any_order.Goals as goal
 
 pub returns-clause-permutation : goal.returns-clause-permutation
 unfolding inserted
-returns-clause-permutation c = λ law. let held : SameDigest None (Some (0 ∷ [])) =
-    sym (get-empty bits_cmp (key_bits own [])) ∙ ap (λ m. get m (key_bits own []))
+returns-clause-permutation c = λ law. cc (sym (get-empty bits_cmp (key_bits own [])) ∙ ap (λ m. get m (key_bits own []))
     (law own empty [] (([], []) ∷ []) (λ i j d below within. absurd (omega arith)))
-    ∙ get-insert_same empty (key_bits own []) (0 ∷ []) in cc
+    ∙ get-insert_same empty (key_bits own []) (0 ∷ []))
 
 pub returns-clause-distinct : goal.returns-clause-distinct
 unfolding inserted

@@ -1,6 +1,6 @@
 use Rattle.std.proofs.Common.{true, [], ◌∷◌, sym, ◌∙◌}
 use Rattle.std.specs.FinMap.{insert, empty}
-use Rattle.warg_map.proofs.PremiseLemmas.{own, one_bit, lone, below, all_bits, bits_256, with_top, lone_proof, one_level, peers_matter, leaf_matters, SameList}
+use Rattle.warg_map.proofs.PremiseLemmas.{own, one_bit, lone, below, all_bits, bits_256, with_top, lone_proof, one_level, peers_matter, leaf_matters}
 use Rattle.warg_map.proofs.premises.own_proof.Goals as goal
 
 pub returns-clause-bits : goal.returns-clause-bits
@@ -12,5 +12,5 @@ returns-clause-proof c = λ law. peers_matter [] ((law own empty all_bits (with_
 
 pub returns-clause-held : goal.returns-clause-held
 returns-clause-held c = λ law. let m = insert empty all_bits [] in let p = lone_proof own true below [] in
-    let same : SameList [] (0 ∷ []) = leaf_matters _ _ _ all_bits ((law own m all_bits _ [] bits_256 p).0
-    ∙ sym (law own m all_bits _ (0 ∷ []) bits_256 p).0) in cc
+    cc (leaf_matters _ _ _ all_bits ((law own m all_bits _ [] bits_256 p).0
+    ∙ sym (law own m all_bits _ (0 ∷ []) bits_256 p).0))

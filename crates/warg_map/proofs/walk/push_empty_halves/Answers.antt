@@ -39,8 +39,3 @@ loop-height-preserved g c =
         | in-None w ↦ grind (arith, w.above-is, c.loop-height.invariant.half, w.in-None.is)
       ];
     }
-
-pub returns : goal.returns
-returns g c =
-    let end : c.loop-height.height ≡ c.args.to = omega arith in
-    rw end at c.loop-height.invariant.peers

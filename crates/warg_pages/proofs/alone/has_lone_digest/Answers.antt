@@ -9,15 +9,12 @@ use Rattle.warg_pages.proofs.alone.has_lone_digest.Goals as goal
 
 pub returns-in-Some-lone : goal.returns-in-Some-lone
 returns-in-Some-lone g c =
-    let H = g.D.SupportedDigest.digest in
     let lone = c.in-Some-lone.lone in
-    let there : c.in-Some.slot.now.lone ≡ Some lone = sym (ap (λ (x : SlotAt). x.lone) c.slot.view_is)
-    ∙ c.in-Some-lone.is in
-    let key : c.lone.inside.key ≡ lone.0 = ap (λ (l : List ℕ × List ℕ). l.0) c.lone.view_is in
-    let leaf : c.lone.inside.leaf ≡ lone.1 = ap (λ (l : List ℕ × List ℕ). l.1) c.lone.view_is in
+    let there : c.in-Some.slot.now.lone ≡ Some lone = rw (← c.slot.view_is) c.in-Some-lone.is in
     let digest : c.slot.inside.digest ≡ c.in-Some.slot.now.digest = ap (λ (x : SlotAt). x.digest) c.slot.view_is in
-    let root : c.lone_tree.result ≡ lone_root H lone.0 lone.1 (slot_height c.args.depth) =
-    rw key at (c.lone_tree.ensures lone.1 (leaf ∙ lone_root-none H c.lone.inside.key lone.1)) in
+    let root : c.lone_tree.result ≡ lone_root _ lone.0 lone.1 (slot_height c.args.depth) =
+    rw (ap (λ (l : List ℕ × List ℕ). l.0) c.lone.view_is) at (c.lone_tree.ensures lone.1
+    (ap (λ (l : List ℕ × List ℕ). l.1) c.lone.view_is ∙ lone_root-none _ _ lone.1)) in
     let decide = hashes_decide _ _ _ c.eq.ensures in
     rw c.in-Some.is (
       λ t other is. rw (some_same (sym there ∙ is)) at (sym root ∙ decide.0 t ∙ digest),

@@ -1,13 +1,11 @@
 use Rattle.std.proofs.Common.{◌≡◌, List, ℕ, Some, sym, ap, ◌∙◌}
-use Rattle.warg_pages.specs.Slots.{SlotAt}
 use Rattle.warg_pages.proofs.HashEquality.{hashes_decide}
 use Rattle.warg_pages.proofs.LoneSlots.{some_same}
 use Rattle.warg_pages.proofs.alone.holds_only.Goals as goal
 
 pub returns-in-Some-lone : goal.returns-in-Some-lone
 returns-in-Some-lone g c =
-    let there : c.in-Some.slot.now.lone ≡ Some c.in-Some-lone.lone = sym (ap (λ (x : SlotAt). x.lone) c.slot.view_is)
-    ∙ c.in-Some-lone.is in
+    let there : c.in-Some.slot.now.lone ≡ Some c.in-Some-lone.lone = rw (← c.slot.view_is) c.in-Some-lone.is in
     let key : c.lone.inside.key ≡ c.in-Some-lone.lone.0 = ap (λ (l : List ℕ × List ℕ). l.0) c.lone.view_is in
     let decide = hashes_decide _ _ _ c.eq.ensures in
     rw c.in-Some.is (

@@ -7,16 +7,14 @@ use Rattle.warg_pages.proofs.alone.lone_slot_after.Goals as goal
 
 pub returns-clause-ok : goal.returns-clause-ok
 returns-clause-ok g c =
-    let H = g.D.SupportedDigest.digest in
     let last = c.args.last.now in
     let key : c.last.inside.key ≡ last.key = ap (λ (x : ChangeAt). x.key) c.last.view_is in
     let leaf : c.last.inside.leaf ≡ last.leaf = ap (λ (x : ChangeAt). x.leaf) c.last.view_is in
-    let number : c.last.inside.version ≡ last.version = ap (λ (x : ChangeAt). x.version) c.last.view_is in
-    let root : c.lone_tree.result ≡ lone_root H last.key last.leaf (slot_height c.args.depth) =
-    rw key at (c.lone_tree.ensures last.leaf (leaf ∙ lone_root-none H c.last.inside.key last.leaf)) in
+    let root : c.lone_tree.result ≡ lone_root _ last.key last.leaf (slot_height c.args.depth) =
+    rw key at (c.lone_tree.ensures last.leaf (leaf ∙ lone_root-none _ c.last.inside.key last.leaf)) in
     λ i. record {
       byte = c.args.byte;
-      version = number i;
+      version = (ap (λ (x : ChangeAt). x.version) c.last.view_is) i;
       digest = root i;
       lone = Some ((c.copied.ensures ∙ key) i, (c.copied-2.ensures ∙ leaf) i);
     }

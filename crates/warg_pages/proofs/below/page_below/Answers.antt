@@ -7,14 +7,12 @@ use Rattle.warg_pages.proofs.below.page_below.Goals as goal
 
 pub returns-in_default-clause-ok : goal.returns-in_default-clause-ok
 returns-in_default-clause-ok g c = λ known is_known es own.
-    let H = g.D.SupportedDigest.digest in
-    c.new.ensures ∙ sym (nothing_below H es _ own.byte _ refl (sym (ap option_copied c.in_default.is) ∙ own.is_slot))
+    c.new.ensures ∙ sym (nothing_below _ es _ own.byte _ refl (sym (ap option_copied c.in_default.is) ∙ own.is_slot))
 
 pub returns-in_err-one_down-in-Some-lone-clause-err : goal.returns-in_err-one_down-in-Some-lone-clause-err
 returns-in_err-one_down-in-Some-lone-clause-err g c =
-    let there : c.in-Some.slot.now.lone ≡ Some c.in-Some-lone.lone = sym (ap (λ (x : SlotAt). x.lone) c.slot.view_is)
-    ∙ c.in-Some-lone.is in
-    way_refused c.from_residual.result c.in_err-one_down-in-Some-lone.field-0.0 c.from_residual.ensures.1
+    let there : c.in-Some.slot.now.lone ≡ Some c.in-Some-lone.lone = rw (← c.slot.view_is) c.in-Some-lone.is in
+    way_refused _ _ c.from_residual.ensures.1
     (λ fault known es is_known own.
     fault (own_lone_below g.met.D.SupportedDigest.is_digest (rw (ap option_copied c.in-Some.is) at own) c.requires
     there).begins)
@@ -22,26 +20,25 @@ returns-in_err-one_down-in-Some-lone-clause-err g c =
 
 pub returns-in_ok-one_down-in-Some-lone-clause-ok : goal.returns-in_ok-one_down-in-Some-lone-clause-ok
 returns-in_ok-one_down-in-Some-lone-clause-ok g c = λ known is_known es own.
-    let there : c.in-Some.slot.now.lone ≡ Some c.in-Some-lone.lone = sym (ap (λ (x : SlotAt). x.lone) c.slot.view_is)
-    ∙ c.in-Some-lone.is in
+    let there : c.in-Some.slot.now.lone ≡ Some c.in-Some-lone.lone = rw (← c.slot.view_is) c.in-Some-lone.is in
     c.in_ok-one_down-in-Some-lone.ensures.ok
     ∙ sym (own_lone_below g.met.D.SupportedDigest.is_digest (rw (ap option_copied c.in-Some.is) at own) c.requires
     there).page
 
 pub returns-in-None-clause-ok : goal.returns-in-None-clause-ok
 returns-in-None-clause-ok g c =
-    let none : c.in-Some.slot.now.lone ≡ None = sym (ap (λ (x : SlotAt). x.lone) c.slot.view_is) ∙ c.in-None.is in
-    let number : c.slot.inside.version ≡ c.in-Some.slot.now.version = ap (λ (x : SlotAt). x.version) c.slot.view_is in
-    if_ok_both c.read_page.result _ _ _ (rw number at c.read_page.ensures.ok) c.read_page.ensures.page
+    let none : c.in-Some.slot.now.lone ≡ None = rw (← c.slot.view_is) c.in-None.is in
+    if_ok_both c.read_page.result _ _ _ (rw (ap (λ (x : SlotAt). x.version) c.slot.view_is) at c.read_page.ensures.ok)
+    c.read_page.ensures.page
     (λ page at is known is_known es own.
     own_page_below g.met.D.SupportedDigest.is_digest (rw (ap option_copied c.in-Some.is) at own) c.requires is
     (at known is_known) none)
 
 pub returns-in-None-clause-err : goal.returns-in-None-clause-err
 returns-in-None-clause-err g c =
-    let none : c.in-Some.slot.now.lone ≡ None = sym (ap (λ (x : SlotAt). x.lone) c.slot.view_is) ∙ c.in-None.is in
-    let number : c.slot.inside.version ≡ c.in-Some.slot.now.version = ap (λ (x : SlotAt). x.version) c.slot.view_is in
-    if_err c.read_page.result _ _ (rw number at c.read_page.ensures.err) (λ e. of_source e
+    let none : c.in-Some.slot.now.lone ≡ None = rw (← c.slot.view_is) c.in-None.is in
+    if_err c.read_page.result _ _ (rw (ap (λ (x : SlotAt). x.version) c.slot.view_is) at c.read_page.ensures.err)
+    (λ e. of_source e
     (λ fault known es is_known own.
     own_page_refused g.met.D.SupportedDigest.is_digest (rw (ap option_copied c.in-Some.is) at own) c.requires
     (λ slots. fault known slots is_known) none))

@@ -12,4 +12,4 @@ pub loop-shared-preserved : goal.loop-shared-preserved
 loop-shared-preserved g c =
     let same = sym c.side_at.ensures ∙ same_bit _ _ (sym c.ne.ensures ∙ c.if-ne.false)
     ∙ c.side_at-in-loop-shared.ensures in
-    one_bit_more c.args.a.now c.args.b.now c.loop-shared.shared c.loop-shared.invariant same
+    one_bit_more _ _ _ c.loop-shared.invariant same

@@ -7,7 +7,7 @@ pub returns : goal.returns
 returns g c =
     let cases = c.in_ok-digest.ensures.cases in
     rw (c.from_array.ensures, cases.0, cases.1) (
-      taken_digest c.args.bytes.now (λ i. omega (arith, c.type_inv.bytes i))
+      taken_digest _ (λ i. omega (arith, c.type_inv.bytes i))
           (c.in_ok-digest.ensures.variant.0 refl),
       sym (take-append-drop 32 c.args.bytes.now),
     )

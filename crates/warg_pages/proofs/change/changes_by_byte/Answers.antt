@@ -22,5 +22,5 @@ loop-change-preserved g c =
 
 pub returns-clause-ok : goal.returns-clause-ok
 returns-clause-ok g c =
-    let all = take_all c.loop-change.change-index c.args.changes.now c.loop-change-test.false in
+    let all = take_all _ _ c.loop-change-test.false in
     (c.loop-change.invariant.all, rw all at c.loop-change.invariant.each)

@@ -13,7 +13,7 @@ loop-passed-init g c = refl
 pub loop-passed-preserved : goal.loop-passed-preserved
 loop-passed-preserved g c =
     let H = g.D.SupportedDigest.digest in
-    let step = page_value-more H (slot_height c.args.depth) c.args.peers.now c.index-peers-left.result c.args.foot
+    let step = page_value-more H (slot_height c.args.depth) c.args.peers.now _ c.args.foot
     c.args.key.now c.args.depth c.loop-passed.passed c.requires.eight (omega arith) c.index-peers-left.is in
     elim c.match-peers-left.branch [
       | in-Some w ↦ w.value-is ∙ w.branch-side.ensures ∙ rw (c.side_at-side.ensures, c.loop-passed.invariant)

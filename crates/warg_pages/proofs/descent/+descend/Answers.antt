@@ -10,10 +10,6 @@ use Rattle.warg_pages.proofs.OwnWays.{own_page_there, own_page_value, own_lone_e
 use Rattle.warg_pages.proofs.descent.+descend.Goals as goal
 use Rattle.warg_pages.proofs.descent.+descend.Goals.{After-bytes, In-Some}
 
--- a page above the last byte of the key digest
-is_above : (g : _) (t : _) (c : After-bytes g t) → c.args.depth < 32
-is_above g t c = omega arith
-
 is_key : (g : _) (t : _) (c : After-bytes g t) → IsDigest c.args.key.now
 is_key g t c = rw c.bytes.ensures.value at c.bytes.ensures.digest
 
@@ -23,14 +19,14 @@ is_there : (g : _) (t : _) (c : In-Some g t)
 is_there g t c = sym c.in_ok-slot.ensures.slot ∙ ap option_copied c.in-Some.is
 
 pub returns-then-depth-eq32-clause-err : goal.returns-then-depth-eq32-clause-err
-returns-then-depth-eq32-clause-err g t c = λ known es is own. no_way g.D.SupportedDigest.digest _ c.args.key.now
-    c.args.digest.now c.args.depth c.args.version es c.if-depth-eq32.true own
+returns-then-depth-eq32-clause-err g t c = λ known es is own. no_way _ _ _
+    c.args.digest.now c.args.depth _ es c.if-depth-eq32.true own
 
 pub returns-in_err-page-clause-err : goal.returns-in_err-page-clause-err
 returns-in_err-page-clause-err g t c =
     let in_page = (goal.at.returns-in_err-page-clause-err g t c).After-bytes in
-    source_refused c.from_residual.result c.in_err-page.field-0.0 c.from_residual.ensures.1
-    (λ none known es is_known own. own_page_there g.met.D.SupportedDigest.is_digest own (is_above g t in_page)
+    source_refused _ _ c.from_residual.ensures.1
+    (λ none known es is_known own. own_page_there g.met.D.SupportedDigest.is_digest own (omega arith)
     (is_key g t in_page) (λ slots. none known slots is_known))
     (rw c.bytes.ensures.value at c.in_err-page.ensures.err)
 
@@ -38,21 +34,20 @@ pub returns-in_err-slot-clause-err : goal.returns-in_err-slot-clause-err
 returns-in_err-slot-clause-err g t c =
     let in_page = (goal.at.returns-in_err-slot-clause-err g t c).After-bytes in
     let at = rw c.bytes.ensures.value at c.in_ok-page.ensures.ok in
-    way_refused c.from_residual-in_err-slot.result c.in_err-slot.field-0.0 c.from_residual-in_err-slot.ensures.1
-    (λ other known es is_known own. own_page_value g.met.D.SupportedDigest.is_digest own (is_above g t in_page)
+    way_refused _ _ c.from_residual-in_err-slot.ensures.1
+    (λ other known es is_known own. own_page_value g.met.D.SupportedDigest.is_digest own (omega arith)
     (is_key g t in_page) c.pass_page.ensures.page (at known is_known) other) c.in_err-slot.ensures.err
 
 pub returns-in_default-clause-ok : goal.returns-in_default-clause-ok
 returns-in_default-clause-ok g t c =
-    let H = g.D.SupportedDigest.digest in
     let in_page = (goal.at.returns-in_default-clause-ok g t c).After-bytes in
-    let lt = is_above g t in_page in
+    let lt : c.args.depth < 32 = omega arith in
     let at = rw c.bytes.ensures.value at c.in_ok-page.ensures.ok in
     let none : slot_at c.in_ok-page.page (get_or c.args.key.now c.args.depth 0) ≡ None = sym c.in_ok-slot.ensures.slot
     ∙ ap option_copied c.in_default.is in (
-      page_peers H c.args.depth c.in_ok-page.page c.args.key.now,
+      page_peers _ c.args.depth c.in_ok-page.page c.args.key.now,
       c.in_ok-slot.ensures.peers,
-      missing_way H _ _ c.args.depth c.in_ok-page.page lt c.in_ok-slot.ensures.value none,
+      missing_way _ _ _ c.args.depth c.in_ok-page.page lt c.in_ok-slot.ensures.value none,
       λ known es is_known own. missing_own g.met.D.SupportedDigest.is_digest own lt (is_key g t in_page)
           c.pass_page.ensures.page (at known is_known) none,
     )
@@ -61,28 +56,25 @@ pub returns-in_err-end_at-in-Some-lone-clause-err : goal.returns-in_err-end_at-i
 returns-in_err-end_at-in-Some-lone-clause-err g t c =
     let states = goal.at.returns-in_err-end_at-in-Some-lone-clause-err g t c in
     let at = rw c.bytes.ensures.value at c.in_ok-page.ensures.ok in
-    let lone : c.in-Some.slot.now.lone ≡ Some c.in-Some-lone.lone = sym (ap (λ (x : SlotAt). x.lone) c.slot.view_is)
-    ∙ c.in-Some-lone.is in
-    way_refused c.from_residual-in_err-end_at-in-Some-lone.result c.in_err-end_at-in-Some-lone.field-0.0
+    let lone : c.in-Some.slot.now.lone ≡ Some c.in-Some-lone.lone = rw (← c.slot.view_is) c.in-Some-lone.is in
+    way_refused _ _
     c.from_residual-in_err-end_at-in-Some-lone.ensures.1
-    (λ fault known es is_known own. own_lone_end g.met.D.SupportedDigest.is_digest own (is_above g t states.After-bytes)
+    (λ fault known es is_known own. own_lone_end g.met.D.SupportedDigest.is_digest own (omega arith)
     (is_key g t states.After-bytes) c.pass_page.ensures.page (at known is_known) (is_there g t states.In-Some) lone
     fault) c.in_err-end_at-in-Some-lone.ensures.err
 
 pub returns-in-Some-lone-clause-ok : goal.returns-in-Some-lone-clause-ok
 returns-in-Some-lone-clause-ok g t c =
-    let H = g.D.SupportedDigest.digest in
     let states = goal.at.returns-in-Some-lone-clause-ok g t c in
-    let lt = is_above g t states.After-bytes in
+    let lt : c.args.depth < 32 = omega arith in
     let at = rw c.bytes.ensures.value at c.in_ok-page.ensures.ok in
     let there = is_there g t states.In-Some in
-    let lone : c.in-Some.slot.now.lone ≡ Some c.in-Some-lone.lone = sym (ap (λ (x : SlotAt). x.lone) c.slot.view_is)
-    ∙ c.in-Some-lone.is in
+    let lone : c.in-Some.slot.now.lone ≡ Some c.in-Some-lone.lone = rw (← c.slot.view_is) c.in-Some-lone.is in
     let end = c.in_ok-end_at-in-Some-lone.ensures.ok in
-    let peers = page_peers H c.args.depth c.in_ok-page.page c.args.key.now in (
+    let peers = page_peers _ c.args.depth _ _ in (
       peers ++ end.0,
       end.1 ∙ ap (λ os. os ++ end.0) c.in_ok-slot.ensures.peers ∙ append_assoc c.args.peers.now.items peers end.0,
-      lone_way H c.args.key.now c.args.digest.now c.args.depth c.in_ok-page.page lt c.in_ok-slot.ensures.value there
+      lone_way _ c.args.key.now c.args.digest.now c.args.depth c.in_ok-page.page lt c.in_ok-slot.ensures.value there
           end.2,
       λ known es is_known own. lone_own g.met.D.SupportedDigest.is_digest own lt (is_key g t states.After-bytes)
           c.pass_page.ensures.page (at known is_known) there lone end.2,
@@ -90,19 +82,20 @@ returns-in-Some-lone-clause-ok g t c =
 
 pub returns-clause-ok : goal.returns-clause-ok
 returns-clause-ok g t c =
-    let H = g.D.SupportedDigest.digest in
     let states = goal.at.returns-clause-ok g t c in
-    let lt = is_above g t states.After-bytes in
+    let lt : c.args.depth < 32 = omega arith in
     let at = rw c.bytes.ensures.value at c.in_ok-page.ensures.ok in
     let there = is_there g t states.In-Some in
-    let lone : c.in-Some.slot.now.lone ≡ None = sym (ap (λ (x : SlotAt). x.lone) c.slot.view_is) ∙ c.in-None.is in
-    let digest : c.slot.inside.digest ≡ c.in-Some.slot.now.digest = ap (λ (x : SlotAt). x.digest) c.slot.view_is in
-    let version : c.slot.inside.version ≡ c.in-Some.slot.now.version = ap (λ (x : SlotAt). x.version) c.slot.view_is in
-    let peers = page_peers H c.args.depth c.in_ok-page.page c.args.key.now in
-    if_ok c.descend.result _ _ (rw (digest, version) at c.descend.ensures.ok) (λ held way. (
+    let lone : c.in-Some.slot.now.lone ≡ None = rw (← c.slot.view_is) c.in-None.is in
+    let peers = page_peers _ c.args.depth c.in_ok-page.page c.args.key.now in
+    if_ok c.descend.result _ _ (rw (
+      ap (λ (x : SlotAt). x.digest) c.slot.view_is,
+      ap
+          (λ (x : SlotAt). x.version) c.slot.view_is,
+    ) at c.descend.ensures.ok) (λ held way. (
       peers ++ way.0,
       way.1 ∙ ap (λ os. os ++ way.0) c.in_ok-slot.ensures.peers ∙ append_assoc c.args.peers.now.items peers way.0,
-      next_way H c.args.key.now c.args.digest.now c.args.depth c.in_ok-page.page lt c.in_ok-slot.ensures.value there
+      next_way _ c.args.key.now c.args.digest.now c.args.depth c.in_ok-page.page lt c.in_ok-slot.ensures.value there
           way.2,
       λ known es is_known own. next_own g.met.D.SupportedDigest.is_digest own lt (is_key g t states.After-bytes)
           c.pass_page.ensures.page (at known is_known) there lone
@@ -113,10 +106,12 @@ pub returns-clause-err : goal.returns-clause-err
 returns-clause-err g t c =
     let states = goal.at.returns-clause-err g t c in
     let at = rw c.bytes.ensures.value at c.in_ok-page.ensures.ok in
-    let lone : c.in-Some.slot.now.lone ≡ None = sym (ap (λ (x : SlotAt). x.lone) c.slot.view_is) ∙ c.in-None.is in
-    let digest : c.slot.inside.digest ≡ c.in-Some.slot.now.digest = ap (λ (x : SlotAt). x.digest) c.slot.view_is in
-    let version : c.slot.inside.version ≡ c.in-Some.slot.now.version = ap (λ (x : SlotAt). x.version) c.slot.view_is in
-    if_err c.descend.result _ _ (rw (digest, version) at c.descend.ensures.err) (λ e. of_source e
-    (λ fault known es is_known own. own_next_end g.met.D.SupportedDigest.is_digest own (is_above g t states.After-bytes)
+    let lone : c.in-Some.slot.now.lone ≡ None = rw (← c.slot.view_is) c.in-None.is in
+    if_err c.descend.result _ _ (rw (
+      ap (λ (x : SlotAt). x.digest) c.slot.view_is,
+      ap
+          (λ (x : SlotAt). x.version) c.slot.view_is,
+    ) at c.descend.ensures.err) (λ e. of_source e
+    (λ fault known es is_known own. own_next_end g.met.D.SupportedDigest.is_digest own (omega arith)
     (is_key g t states.After-bytes) c.pass_page.ensures.page (at known is_known) (is_there g t states.In-Some) lone
     (λ more. fault known more (c.read_page.ensures.known known is_known))))

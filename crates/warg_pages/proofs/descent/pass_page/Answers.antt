@@ -6,17 +6,16 @@ use Rattle.warg_pages.specs.Slots.{SlotAt}
 use Rattle.warg_pages.specs.Pages.{digest_at, slot_height}
 use Rattle.warg_pages.specs.Private.Descents.{value_above, page_peers, page_value}
 use Rattle.warg_pages.proofs.HashEquality.{same_hashes, other_hashes}
-use Rattle.warg_pages.proofs.OwnDescent.{digest_at-slot}
-use Rattle.warg_pages.proofs.PageRoots.{digest_of}
 use Rattle.warg_pages.proofs.OwnWays.{eight_peers}
 use Rattle.warg_pages.proofs.descent.pass_page.Goals as goal
 use Rattle.warg_pages.proofs.descent.pass_page.Goals.{in-Some, in-None, After-split_at, After-value_of_page}
+use Rattle.warg_pages.proofs.NumberedSlots.{digest_at-slot, digest_of}
 
 -- the peers behind those of the pages above are the page's own
 own_part : (g : _) (c : After-split_at g) → c.split_at.result.1.now
     ≡ page_peers g.D.SupportedDigest.digest c.args.depth c.args.page.now c.args.key.now
 own_part g c =
-    let own = page_peers g.D.SupportedDigest.digest c.args.depth _ _ in
+    let own = page_peers _ _ _ _ in
     let before = c.as_slice-before.result.now in
     let pushed = rw (c.slots.ensures.value, c.bytes.ensures.value) at c.in_ok-push_page_peers.ensures.ok in
     c.split_at.ensures.back ∙ ap (drop (length before)) (c.as_slice.ensures.value ∙ pushed)
@@ -44,7 +43,7 @@ value_is g c part =
 pub value_of_page-requires-clause-eight : goal.value_of_page-requires-clause-eight
 value_of_page-requires-clause-eight g c =
     rw (own_part g (goal.at.value_of_page-requires-clause-eight g c).After-split_at)
-    (eight_peers g.D.SupportedDigest.digest c.args.depth _ _ 8)
+    (eight_peers _ c.args.depth _ _ 8)
 
 pub returns-then-ne-clause-err : goal.returns-then-ne-clause-err
 returns-then-ne-clause-err g c = λ same.

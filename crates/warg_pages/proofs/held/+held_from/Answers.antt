@@ -10,13 +10,13 @@ use Rattle.warg_pages.proofs.held.+held_from.Goals.{After-slot, In-Some}
 
 pub returns-then-depth-eq32-clause-refused : goal.returns-then-depth-eq32-clause-refused
 returns-then-depth-eq32-clause-refused g t c = λ known digest all is tells from.
-    way.no_page g.D.SupportedDigest.digest _ c.args.depth _ c.args.version digest all c.if-depth-eq32.true from
+    way.no_page _ _ _ _ _ digest all c.if-depth-eq32.true from
 
 pub returns-in_err-page-clause-refused : goal.returns-in_err-page-clause-refused
 returns-in_err-page-clause-refused g t c =
     let lt : c.args.depth < 32 = omega arith in
-    source_refused c.from_residual.result c.in_err-page.field-0.0 c.from_residual.ensures.1
-    (λ none known digest all is tells from. way.page_there g.D.SupportedDigest.digest _ _ _ c.args.depth c.args.version
+    source_refused _ _ c.from_residual.ensures.1
+    (λ none known digest all is tells from. way.page_there _ _ _ _ c.args.depth c.args.version
     digest all lt (λ slots. none known slots is) tells from)
     (rw c.bytes-bytes.ensures.value at c.in_err-page.ensures.err)
 
@@ -50,30 +50,26 @@ returns-in_default-clause-held g t c = λ known digest all is tells from.
 pub returns-in-Some-lone-clause-held : goal.returns-in-Some-lone-clause-held
 returns-in-Some-lone-clause-held g t c = λ known digest all is tells from.
     let at = goal.at.returns-in-Some-lone-clause-held g t c in
-    way.alone_slot (is_read g t at.After-slot known digest all is tells from) c.in-Some.slot.now c.in-Some-lone.lone
+    way.alone_slot (is_read g t at.After-slot known digest all is tells from) c.in-Some.slot.now _
     c.held_alone.result (is_there g t at.In-Some)
-    (sym (ap (λ (x : SlotAt). x.lone) c.slot-2.view_is) ∙ c.in-Some-lone.is) c.held_alone.ensures
+    (rw (← c.slot-2.view_is) c.in-Some-lone.is) c.held_alone.ensures
 
 pub returns-clause-held : goal.returns-clause-held
 returns-clause-held g t c =
     let at = goal.at.returns-clause-held g t c in
-    let lone : c.in-Some.slot.now.lone ≡ None =
-    sym (ap (λ (x : SlotAt). x.lone) c.slot-2.view_is) ∙ c.in-None.is in
-    let version : c.slot-2.inside.version ≡ c.in-Some.slot.now.version =
-    ap (λ (x : SlotAt). x.version) c.slot-2.view_is in
-    if_ok c.held_from.result _ _ (rw version at c.held_from.ensures.held) (λ held below known digest all is tells from.
-    way.slot_below (is_read g t at.After-slot known digest all is tells from) c.in-Some.slot.now held
+    let lone : c.in-Some.slot.now.lone ≡ None = rw (← c.slot-2.view_is) c.in-None.is in
+    if_ok c.held_from.result _ _ (rw (ap (λ (x : SlotAt). x.version) c.slot-2.view_is) at c.held_from.ensures.held)
+    (λ held below known digest all is tells from.
+    way.slot_below (is_read g t at.After-slot known digest all is tells from) _ held
     (is_there g t at.In-Some) lone
     (λ digest first. below known digest first (c.read_page.ensures.known known is) tells))
 
 pub returns-clause-refused : goal.returns-clause-refused
 returns-clause-refused g t c =
     let at = goal.at.returns-clause-refused g t c in
-    let lone : c.in-Some.slot.now.lone ≡ None =
-    sym (ap (λ (x : SlotAt). x.lone) c.slot-2.view_is) ∙ c.in-None.is in
-    let version : c.slot-2.inside.version ≡ c.in-Some.slot.now.version =
-    ap (λ (x : SlotAt). x.version) c.slot-2.view_is in
-    if_err c.held_from.result _ _ (rw version at c.held_from.ensures.refused) (λ e. of_source e
+    let lone : c.in-Some.slot.now.lone ≡ None = rw (← c.slot-2.view_is) c.in-None.is in
+    if_err c.held_from.result _ _ (rw (ap (λ (x : SlotAt). x.version) c.slot-2.view_is) at c.held_from.ensures.refused)
+    (λ e. of_source e
     (λ none known digest all is tells from. way.none_below (is_read g t at.After-slot known digest all is tells from)
     c.in-Some.slot.now (is_there g t at.In-Some) lone
     (λ digest first. none known digest first (c.read_page.ensures.known known is) tells)))

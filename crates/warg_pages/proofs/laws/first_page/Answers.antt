@@ -1,5 +1,6 @@
-use Rattle.warg_pages.proofs.PageRoots.{first_page}
+use Rattle.std.proofs.Common.{arith, [], refl}
+use Rattle.warg_pages.proofs.PageRoots.{page_root}
 use Rattle.warg_pages.proofs.laws.first_page.Goals as goal
 
 pub returns : goal.returns
-returns c = first_page
+returns c = λ H es. page_root H es [] 0 (omega arith) refl

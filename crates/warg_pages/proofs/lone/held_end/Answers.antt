@@ -12,24 +12,21 @@ use Rattle.warg_pages.proofs.lone.held_end.Goals.{After-lone_tree}
 below_slot : (g : _) (c : After-lone_tree g) → c.lone_tree.result
     ≡ lone_root g.D.SupportedDigest.digest c.args.key.now c.args.lone.now.1 (slot_height c.args.depth)
 below_slot g c =
-    let leaf : c.lone.inside.leaf ≡ c.args.lone.now.1 = ap (λ (l : List ℕ × List ℕ). l.1) c.lone.view_is in
-    c.lone_tree.ensures c.args.lone.now.1 (leaf ∙ lone_root-none g.D.SupportedDigest.digest _ _)
+    c.lone_tree.ensures _ (ap (λ (l : List ℕ × List ℕ). l.1) c.lone.view_is ∙ lone_root-none _ _ _)
 
 pub returns-then-ne-clause-err : goal.returns-then-ne-clause-err
 returns-then-ne-clause-err g c =
     let root = below_slot g (goal.at.returns-then-ne-clause-err g c).After-lone_tree in
-    let digest : c.slot.inside.digest ≡ c.args.slot.now.digest = ap (λ (x : SlotAt). x.digest) c.slot.view_is in
-    held_no_end g.D.SupportedDigest.digest c.args.key.now c.args.depth c.args.slot.now c.args.lone.now c.requires.depth
-    c.requires.same (λ e. other_hashes _ _ _ c.ne.ensures c.if-ne.true (root ∙ e ∙ sym digest))
+    held_no_end _ c.args.key.now c.args.depth c.args.slot.now _ c.requires.depth
+    c.requires.same (λ e. other_hashes _ _ _ c.ne.ensures c.if-ne.true (root ∙ e
+    ∙ sym (ap (λ (x : SlotAt). x.digest) c.slot.view_is)))
 
 pub returns-clause-ok : goal.returns-clause-ok
 returns-clause-ok g c =
     let root = below_slot g (goal.at.returns-clause-ok g c).After-lone_tree in
-    let leaf : c.lone.inside.leaf ≡ c.args.lone.now.1 = ap (λ (l : List ℕ × List ℕ). l.1) c.lone.view_is in
-    let digest : c.slot.inside.digest ≡ c.args.slot.now.digest = ap (λ (x : SlotAt). x.digest) c.slot.view_is in
     let version : c.slot.inside.version ≡ c.args.slot.now.version = ap (λ (x : SlotAt). x.version) c.slot.view_is in
     let same = same_hashes _ _ _ c.ne.ensures c.if-ne.false in
     let index : c.in-Some.index + 1 ≡ c.args.slot.now.version = let sub = c.in-Some.ensures in omega arith in
-    rw (c.copied.ensures, leaf)
-    (held_end g.D.SupportedDigest.digest c.args.key.now c.args.depth c.in-Some.index c.args.slot.now c.args.lone.now
-    c.requires.depth c.requires.same (sym root ∙ same ∙ digest) index)
+    rw (c.copied.ensures, ap (λ (l : List ℕ × List ℕ). l.1) c.lone.view_is)
+    (held_end _ c.args.key.now c.args.depth _ _ c.args.lone.now
+    c.requires.depth c.requires.same (sym root ∙ same ∙ ap (λ (x : SlotAt). x.digest) c.slot.view_is) index)

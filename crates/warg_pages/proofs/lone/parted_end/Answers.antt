@@ -16,8 +16,8 @@ key_is g c = ap (λ (l : List ℕ × List ℕ). l.0) c.lone.view_is
 -- its subtree below the parting
 below_parting : (g : _) (c : After-lone_tree-other g) → c.lone_tree-other.result
     ≡ lone_root g.D.SupportedDigest.digest c.lone.inside.key c.args.lone.now.1 (255 - c.args.shared)
-below_parting g c = c.lone_tree-other.ensures c.args.lone.now.1 (ap (λ (l : List ℕ × List ℕ). l.1) c.lone.view_is
-    ∙ lone_root-none g.D.SupportedDigest.digest _ _)
+below_parting g c = c.lone_tree-other.ensures _ (ap (λ (l : List ℕ × List ℕ). l.1) c.lone.view_is
+    ∙ lone_root-none _ _ _)
 
 -- where the two keys part
 parting : (g : _) (c : After-lone_tree-other g) → Parting c.args.key.now c.args.lone.now.0 c.args.depth c.args.shared
@@ -32,16 +32,16 @@ pub returns-then-ne-clause-err : goal.returns-then-ne-clause-err
 returns-then-ne-clause-err g c =
     let at = (goal.at.returns-then-ne-clause-err g c).After-lone_tree-other in
     let root = rw (key_is g at) at (c.lone_tree.ensures c.args.lone.now.1 (below_parting g at)) in
-    let digest : c.slot.inside.digest ≡ c.args.slot.now.digest = ap (λ (x : SlotAt). x.digest) c.slot.view_is in
-    parted_no_end g.D.SupportedDigest.digest c.args.key.now c.args.depth c.args.shared c.args.slot.now c.args.lone.now
-    (parting g at) (λ e. other_hashes _ _ _ c.ne.ensures c.if-ne.true (root ∙ e ∙ sym digest))
+    parted_no_end _ c.args.key.now c.args.depth c.args.shared c.args.slot.now _
+    (parting g at) (λ e. other_hashes _ _ _ c.ne.ensures c.if-ne.true (root ∙ e
+    ∙ sym (ap (λ (x : SlotAt). x.digest) c.slot.view_is)))
 
 pub loop-bit-preserved : goal.loop-bit-preserved
 loop-bit-preserved g c =
     let more : c.loop-bit._bit + 1 - (8 * c.args.depth + 8) ≡ c.loop-bit._bit - (8 * c.args.depth + 8) + 1 =
     omega arith in
     rw (c.in_ok-push.ensures.items, c.loop-bit.invariant, more)
-    (append_assoc c.args.peers.now.items (replicate (c.loop-bit._bit - (8 * c.args.depth + 8)) None) (None ∷ [])
+    (append_assoc _ _ (None ∷ [])
     ∙ ap (λ t. c.args.peers.now.items ++ t) (replicate-more (c.loop-bit._bit - (8 * c.args.depth + 8))))
 
 pub returns-clause-ok : goal.returns-clause-ok
@@ -49,13 +49,13 @@ returns-clause-ok g c =
     let at = (goal.at.returns-clause-ok g c).After-lone_tree-other in
     let tree = below_parting g at in
     let root = rw (key_is g at) at (c.lone_tree.ensures c.args.lone.now.1 tree) in
-    let digest : c.slot.inside.digest ≡ c.args.slot.now.digest = ap (λ (x : SlotAt). x.digest) c.slot.view_is in
     let same = same_hashes _ _ _ c.ne.ensures c.if-ne.false in
     let end : c.loop-bit._bit ≡ c.args.shared = omega arith in (
-      parting_peers (c.args.shared - (8 * c.args.depth + 8)) c.lone_tree-other.result,
+      parting_peers _ _,
       rw (c.in_ok-push-2.ensures.items, c.loop-bit.invariant, end)
           (append_assoc c.args.peers.now.items (replicate (c.args.shared - (8 * c.args.depth + 8)) None)
           (Some c.lone_tree-other.result ∷ [])),
-      parted_end g.D.SupportedDigest.digest c.args.key.now c.args.depth c.args.shared c.args.slot.now c.args.lone.now
-          c.lone_tree-other.result (parting g at) (rw (key_is g at) at tree) (sym root ∙ same ∙ digest),
+      parted_end _ c.args.key.now c.args.depth c.args.shared c.args.slot.now c.args.lone.now
+          c.lone_tree-other.result (parting g at) (rw (key_is g at) at tree)
+          (sym root ∙ same ∙ ap (λ (x : SlotAt). x.digest) c.slot.view_is),
     )

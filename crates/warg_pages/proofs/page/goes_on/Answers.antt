@@ -10,10 +10,10 @@ returns-in-Some g c =
     let byte : c.last-in-Some.inside.byte ≡ c.in-Some.last.now.byte =
     ap (λ (x : SlotAt). x.byte) c.last-in-Some.view_is in
     let some = item.3.0 in (
-      λ low. behind_last c.args.slots.now c.in-Some.last.now c.args.byte c.requires some item.3.1
+      λ low. behind_last c.args.slots.now _ c.args.byte c.requires some item.3.1
           (rw byte at (ltb-true c.last-in-Some.inside.byte c.args.byte low)),
       λ all.
           let at = all (length c.args.slots.now - 1) c.in-Some.last.now (omega arith) in
           let last = rw (← item.1) at at in
-          lt-ltb c.last-in-Some.inside.byte c.args.byte (omega arith),
+          lt-ltb _ c.args.byte (omega arith),
     )

@@ -11,12 +11,12 @@ use Rattle.warg_pages.proofs.peers.peer_beside.Goals as goal
 pub root_of_range-requires-clause-ascend : goal.root_of_range-requires-clause-ascend
 root_of_range-requires-clause-ascend g c =
     rw (c.split_at-2.ensures.front, c.split_at.ensures.back)
-    (Ascends-take c.count_below-2.result _
-    (Ascends-drop c.count_below.result c.args.slots.now c.requires.page.ascend))
+    (Ascends-take _ _
+    (Ascends-drop _ _ c.requires.page.ascend))
 
 pub root_of_range-requires-clause-range : goal.root_of_range-requires-clause-range
 root_of_range-requires-clause-range g c = rw c.start_beside-first.ensures
-    (beside_bytes c.args.byte c.args.height (omega arith) c.requires.height)
+    (beside_bytes _ _ (omega arith) c.requires.height)
 
 pub returns-then-is_empty : goal.returns-then-is_empty
 returns-then-is_empty g c =

@@ -8,7 +8,7 @@ use Rattle.warg_pages.proofs.peers.start_beside.Goals.{then-run-eq0, else-run-eq
 pub returns : goal.returns
 returns c =
     let run = c.args.byte / 2 ^ c.args.height in
-    let within = beside_bytes c.args.byte c.args.height (omega arith) c.requires in
+    let within = beside_bytes c.args.byte _ (omega arith) c.requires in
     let is : c.if-run-eq0.beside * 2 ^ c.args.height ≡ first_beside c.args.byte c.args.height =
     elim c.if-run-eq0.branch [
       | then-run-eq0 w ↦ ap (λ x. x * 2 ^ c.args.height)

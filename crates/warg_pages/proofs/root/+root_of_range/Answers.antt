@@ -7,16 +7,14 @@ use Rattle.warg_pages.proofs.root.+root_of_range.Goals as goal
 
 pub returns-then-is_empty : goal.returns-then-is_empty
 returns-then-is_empty g t c =
-    let H = g.D.SupportedDigest.digest in
     let none : length c.args.slots.now ≡ 0 = eqb-true _ 0 (sym c.is_empty.ensures ∙ c.if-is_empty.true) in
-    c.empty_tree.ensures ∙ sym (root_over-empty H c.args.height c.args.first c.args.levels _ none)
+    c.empty_tree.ensures ∙ sym (root_over-empty _ c.args.height c.args.first c.args.levels _ none)
 
 pub returns-then-levels-eq0 : goal.returns-then-levels-eq0
 returns-then-levels-eq0 g t c =
-    let H = g.D.SupportedDigest.digest in
-    let some = some_slots c.args.slots.now (sym c.is_empty.ensures ∙ c.if-is_empty.false) in
+    let some = some_slots _ (sym c.is_empty.ensures ∙ c.if-is_empty.false) in
     c.copied.ensures ∙ ap (λ (x : SlotAt). x.digest) (c.slot.view_is ∙ c.index-slots-0.is)
-    ∙ sym (root_over-one H c.args.height c.args.first c.args.levels _ _ some c.if-levels-eq0.true c.requires.from
+    ∙ sym (root_over-one _ c.args.height c.args.first c.args.levels _ _ some c.if-levels-eq0.true c.requires.from
     c.requires.to)
 
 pub root_of_range-requires : goal.root_of_range-requires
@@ -24,7 +22,7 @@ root_of_range-requires g t c κs within =
     let xs = c.args.slots.now in
     let n = c.count_below.result in
     let shl = shifted (c.args.levels - 1) (omega arith) in
-    let half = halved c.args.levels c.if-levels-eq0.false in (
+    let half = halved _ c.if-levels-eq0.false in (
       omega arith,
       (
         within,
@@ -46,7 +44,7 @@ root_of_range-requires-2 g t c κs within =
     let xs = c.args.slots.now in
     let n = c.count_below.result in
     let shl = shifted (c.args.levels - 1) (omega arith) in
-    let half = halved c.args.levels c.if-levels-eq0.false in
+    let half = halved _ c.if-levels-eq0.false in
     let top : c.args.first + 2 ^ (c.args.levels - 1) + 2 ^ (c.args.levels - 1) ≡ c.args.first + 2 ^ c.args.levels =
     omega arith in (
       omega arith,
@@ -68,10 +66,9 @@ root_of_range-requires-2 g t c κs within =
 
 pub returns : goal.returns
 returns g t c =
-    let H = g.D.SupportedDigest.digest in
     let middle : c.args.first + 1 * 2 ^ (c.args.levels - 1) % 2 ^ 64 ≡ c.args.first + 2 ^ (c.args.levels - 1) =
     ap (λ k. c.args.first + k) (shifted (c.args.levels - 1) (omega arith)) in
     rw (c.hash_branch.ensures, c.root_of_range.ensures, c.root_of_range-2.ensures)
-    (root_over-halves H c.args.height c.args.first c.args.levels c.count_below.result _ c.args.slots.now _ _
+    (root_over-halves _ c.args.height c.args.first c.args.levels _ _ _ _ _
     c.if-levels-eq0.false middle c.split_at.ensures.front c.split_at.ensures.back c.count_below.ensures.below
     c.count_below.ensures.above)

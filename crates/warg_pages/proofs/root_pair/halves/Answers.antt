@@ -8,7 +8,7 @@ pub returns-clause-right : goal.returns-clause-right
 returns-clause-right g c =
     let xs = c.args.slots.now in
     let n = c.count_below.result in
-    let shl = shifted c.args.half c.requires.levels in
+    let shl = shifted _ c.requires.levels in
     let double : 2 ^ (c.args.half + 1) ≡ 2 ^ c.args.half + 2 ^ c.args.half =
     (let next : c.args.half + 1 ≡ suc c.args.half = omega arith in rw next (omega arith)) in
     record {
@@ -25,6 +25,6 @@ pub returns-clause-joined : goal.returns-clause-joined
 returns-clause-joined g c = λ H height.
     let shl = shifted _ c.requires.levels in
     let one : c.args.half + 1 - 1 ≡ c.args.half = omega arith in
-    rw one at (root_over-halves H height c.args.first _ _ (c.args.first + 2 ^ c.args.half) _ _ _ (λ e. omega arith)
+    rw one at (root_over-halves H height _ _ _ _ _ _ _ (λ e. omega arith)
     (ap (λ k. c.args.first + 2 ^ k) (sym one)) c.split_at.ensures.front c.split_at.ensures.back
     (rw shl at c.count_below.ensures.below) (rw shl at c.count_below.ensures.above))

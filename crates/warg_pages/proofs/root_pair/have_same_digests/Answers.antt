@@ -13,7 +13,7 @@ loop-at-preserved g c =
     ∙ ap (λ (x : SlotAt). x.byte) c.new.view_is in
     let digest : old.digest ≡ new.digest = sym (ap (λ (x : SlotAt). x.digest) c.old.view_is)
     ∙ same_hashes _ _ _ c.ne.ensures c.if-ne.false ∙ ap (λ (x : SlotAt). x.digest) c.new.view_is in
-    one_more_same c.args.before.now c.args.after.now c.loop-at.at old new (omega arith)
+    one_more_same _ _ _ old new (omega arith)
     (omega arith) c.index-before-at.is c.index-after-at.is byte digest c.loop-at.invariant
 
 pub returns : goal.returns

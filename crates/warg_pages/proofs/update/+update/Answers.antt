@@ -1,4 +1,4 @@
-use Rattle.std.proofs.Common.{◌≡◌, ◌≢◌, ◌∙◌, ◌<◌, ◌++◌, [], ◌∷◌, List, ℕ, Option, Some, None, IfSome, length, sym}
+use Rattle.std.proofs.Common.{◌≡◌, ◌≢◌, ◌∙◌, ◌<◌, ◌++◌, [], ◌∷◌, List, ℕ, Option, None, IfSome, length, sym}
 use Rattle.std.proofs.Common.{ap, arith, append_assoc}
 use Rattle.std.proofs.lemmas.List.{append-nil, get_or-set_other}
 use Rattle.std.proofs.lemmas.List.Elements.{All-nil, All-cons, All-append}
@@ -15,7 +15,6 @@ use Rattle.warg_pages.proofs.update.+update.Goals as goal
 
 pub slot_after-returns-in_ok-digest-in-Below-clause-ok : goal.slot_after-returns-in_ok-digest-in-Below-clause-ok
 slot_after-returns-in_ok-digest-in-Below-clause-ok g t c =
-    let H = g.D.SupportedDigest.digest in
     let prefix = c.args.update.now.prefix.items in
     let changes = c.args.update.now.changes.items in
     let byte = c.args.byte in
@@ -30,9 +29,9 @@ slot_after-returns-in_ok-digest-in-Below-clause-ok g t c =
           let updated = done.2 known old more (c.slot_update.ensures.known known is_known) update in
           slot_of_page prefix byte (rw step.0 at update) (rw step.0 at updated),
       λ root count more are stood.
-          let next = next_changes H g.met.D.SupportedDigest.is_digest prefix changes byte count more c.requires.short
+          let next = next_changes _ g.met.D.SupportedDigest.is_digest prefix changes byte count more c.requires.short
           lt are in
-          let named = named_next H root prefix c.args.update.now.page byte stood in
+          let named = named_next _ root prefix _ byte stood in
           done.3 root count more (rw (step.0, step.2) named) (rw (step.0, step.3) next),
     )
 
@@ -42,19 +41,17 @@ slot_after-returns-in_ok-digest-in-Below-clause-kept g t c =
 
 pub slot_after-returns-in-Whole-clause-ok : goal.slot_after-returns-in-Whole-clause-ok
 slot_after-returns-in-Whole-clause-ok g t c =
-    let H = g.D.SupportedDigest.digest in
     let own_step = rw c.in-Whole.is at c.in_ok-slot.ensures.own in (
       [],
       sym (append-nil c.args.changed.now.items),
       λ known old more is_known own. own_step known is_known old more own,
       λ root count more are stood. All-nil
-          (ChangesWhatStood H root more),
+          (ChangesWhatStood _ root more),
     )
 
 pub update_page-loop-byte-init : goal.update_page-loop-byte-init
 unfolding numbers
 update_page-loop-byte-init g t c =
-    let H = g.D.SupportedDigest.digest in
     let none = c.new-page.ensures in record {
       known = λ known is. is;
       below = rw none (λ k d lt. absurd (omega arith));
@@ -63,10 +60,10 @@ update_page-loop-byte-init g t c =
         sym (append-nil c.args.changed.now.items),
         λ known old more is_known own. (
           none,
-          none_among H old more _ (λ prefix kind changes. let low = kind.2 in omega arith),
+          none_among _ old more _ (λ prefix kind changes. let low = kind.2 in omega arith),
         ),
         λ root count more are stood. All-nil
-            (ChangesWhatStood H root more),
+            (ChangesWhatStood _ root more),
       );
       split = (let lists = rw (c.as_slice-depth.ensures.value, c.as_slice.ensures.value) at
           c.in_ok-lists.ensures.ok in (lists.0, λ s low lt. lists.1 s lt));
@@ -75,7 +72,6 @@ update_page-loop-byte-init g t c =
 
 pub update_page-loop-byte-preserved : goal.update_page-loop-byte-preserved
 update_page-loop-byte-preserved g t c =
-    let H = g.D.SupportedDigest.digest in
     let prefix = c.args.update.prefix.items in
     let byte = c.loop-byte.byte in
     let put = c.in_ok-put_behind.ensures.ok in
@@ -90,9 +86,9 @@ update_page-loop-byte-preserved g t c =
             let front = before.2 known old more is_known own in
             let here = step.2 known old more (c.loop-byte.invariant.known known is_known) own.own in (
               put ∙ (λ i. front.0 i ++ cons_option (here.is_slot i) []) ∙ sym (slots-more _ byte),
-              next_among H old more prefix byte before.0 step.0 front.1 here.changed,
+              next_among _ old more prefix byte before.0 step.0 front.1 here.changed,
             ),
-        λ root count more are stood. All-append (ChangesWhatStood H root more) before.0 step.0
+        λ root count more are stood. All-append (ChangesWhatStood _ root more) before.0 step.0
             (before.3 root count more are stood) (step.3 root count more are stood),
       );
       split = (
@@ -109,25 +105,24 @@ behind : (slot : Option SlotAt) (slots : List SlotAt) (byte : ℕ) → IfSome sl
     → All (λ x. x.byte < byte) slots
     → IfSome slot (λ x. All (λ y. y.byte < x.byte) slots)
 behind None slots byte is below = tt
-behind (Some x) slots byte is below = rw is below
+behind _ slots byte is below = rw is below
 
 pub update_page-put_behind-requires : goal.update_page-put_behind-requires
-update_page-put_behind-requires g t c = behind _ c.loop-byte.page c.loop-byte.byte c.in_ok-slot.ensures.byte
+update_page-put_behind-requires g t c = behind _ _ _ c.in_ok-slot.ensures.byte
     c.loop-byte.invariant.below
 
 pub update_page-returns-in_err-slot-clause-err : goal.update_page-returns-in_err-slot-clause-err
 update_page-returns-in_err-slot-clause-err g t c =
-    source_refused c.from_residual-in_err-slot.result c.in_err-slot.field-0.0 c.from_residual-in_err-slot.ensures.1
+    source_refused _ _ c.from_residual-in_err-slot.ensures.1
     (λ fault known old more is_known own. fault known old more (c.loop-byte.invariant.known known is_known) own.own)
     c.in_err-slot.ensures.err
 
 pub update_page-returns-clause-ok : goal.update_page-returns-clause-ok
 update_page-returns-clause-ok g t c =
-    let H = g.D.SupportedDigest.digest in
     let prefix = c.args.update.prefix.items in
     let before = c.loop-byte.invariant.changed in
     let end : c.loop-byte.byte ≡ 256 = omega arith in
-    let digest : c.page_roots-before.result.1 ≡ page_digest H (length prefix) c.loop-byte.page =
+    let digest : c.page_roots-before.result.1 ≡ page_digest _ (length prefix) c.loop-byte.page =
     rw (c.slots-2.ensures.value, c.as_slice-depth.ensures.value) at c.page_roots-before.ensures.after in
     let name = c.into_prefix.ensures in
     let added = c.in_ok-add_page.ensures.ok in
@@ -143,29 +138,27 @@ update_page-returns-clause-ok g t c =
           let done = rw end at (before.2 known old more is_known own) in
           rw digest (page_updated before.0 own c.requires done.0 done.1),
       λ root count more named are.
-          let before_is : c.page_roots-before.result.0 ≡ page_digest H (length prefix) c.args.update.page =
+          let before_is : c.page_roots-before.result.0 ≡ page_digest _ (length prefix) c.args.update.page =
           rw (c.slots.ensures.value, c.as_slice-depth.ensures.value) at c.page_roots-before.ensures.before in
           let stood = named c.args.update.page (sym before_is ∙ same_hashes _ _ _ c.ne.ensures c.if-ne.false) in
-          All-append (ChangesWhatStood H root more) before.0 one (before.3 root count more are stood)
-          (All-cons (ChangesWhatStood H root more) _ []
-          (page_stood H g.met.D.SupportedDigest.is_digest root prefix c.args.update.version count more
+          All-append (ChangesWhatStood _ root more) before.0 one (before.3 root count more are stood)
+          (All-cons (ChangesWhatStood _ root more) _ []
+          (page_stood _ g.met.D.SupportedDigest.is_digest root prefix c.args.update.version count more
           c.args.update.page c.loop-byte.page c.args.update.changes.items c.requires are stood
-          (rw end at c.loop-byte.invariant.kept)) (All-nil (ChangesWhatStood H root more))),
+          (rw end at c.loop-byte.invariant.kept)) (All-nil (ChangesWhatStood _ root more))),
     )
 
 pub update_page-returns-then-ne-clause-err : goal.update_page-returns-then-ne-clause-err
 update_page-returns-then-ne-clause-err g t c = λ known old more is_known own.
-    let H = g.D.SupportedDigest.digest in
     let prefix = c.args.update.prefix.items in
-    let before : c.page_roots-before.result.0 ≡ page_digest H (length prefix) c.args.update.page =
+    let before : c.page_roots-before.result.0 ≡ page_digest _ (length prefix) c.args.update.page =
     rw (c.slots.ensures.value, c.as_slice-depth.ensures.value) at c.page_roots-before.ensures.before in
     other_hashes _ _ _ c.ne.ensures c.if-ne.true
     (before ∙ digest_before own c.requires)
 
 pub update_page-returns-clause-digest : goal.update_page-returns-clause-digest
 update_page-returns-clause-digest g t c =
-    let H = g.D.SupportedDigest.digest in
     let prefix = c.args.update.prefix.items in
-    let before : c.page_roots-before.result.0 ≡ page_digest H (length prefix) c.args.update.page =
+    let before : c.page_roots-before.result.0 ≡ page_digest _ (length prefix) c.args.update.page =
     rw (c.slots.ensures.value, c.as_slice-depth.ensures.value) at c.page_roots-before.ensures.before in
     sym before ∙ same_hashes _ _ _ c.ne.ensures c.if-ne.false

@@ -35,7 +35,7 @@ returns-in_default-clause-own g c = λ known is_known.
 
 pub returns-in_err-slot-clause-err : goal.returns-in_err-slot-clause-err
 returns-in_err-slot-clause-err g c =
-    way_refused c.from_residual.result c.in_err-slot.field-0.0 c.from_residual.ensures.1
+    way_refused _ _ c.from_residual.ensures.1
     (λ fault known old more is_known own.
     fault (slot_has_digest g.met.D.SupportedDigest.is_digest own c.args.byte c.requires.short (omega arith)))
     (rw (c.as_slice-prefix.ensures.value, c.slot-slot.ensures) at c.in_err-slot.ensures.err)
@@ -49,8 +49,12 @@ stays_alone : (g : _) (c : After-stays_alone g)
     → IsTrue c.stays_alone.result ↔ StaysAlone c.in-Some.last.now.key (slot_at c.args.update.now.page c.args.byte)
     (filter (goes_to (length c.args.update.now.prefix.items) c.args.byte) c.args.update.now.changes.items)
 stays_alone g c =
-    let key : c.last-2.inside.key ≡ c.in-Some.last.now.key = ap (λ (x : ChangeAt). x.key) c.last-2.view_is in
-    rw (key, c.slot-slot.ensures, c.as_slice-2.ensures.value, c.requires.there) at c.stays_alone.ensures
+    rw (
+      ap (λ (x : ChangeAt). x.key) c.last-2.view_is,
+      c.slot-slot.ensures,
+      c.as_slice-2.ensures.value,
+      c.requires.there,
+    ) at c.stays_alone.ensures
 
 pub returns-then-stays_alone-clause-ok : goal.returns-then-stays_alone-clause-ok
 returns-then-stays_alone-clause-ok g c =
@@ -76,7 +80,7 @@ returns-in_err-below-clause-err g c =
     let gives = g.met.D.SupportedDigest.is_digest in
     let byte = c.args.byte in
     let lt : byte < 256 = omega arith in
-    source_refused c.from_residual-in_err-below.result c.in_err-below.field-0.0 c.from_residual-in_err-below.ensures.1
+    source_refused _ c.in_err-below.field-0.0 c.from_residual-in_err-below.ensures.1
     (λ fault known old more is_known own. elim (cases_lt (length c.args.update.now.prefix.items) 31) [
       | inl low ↦ fault low known old is_known (own_below gives own byte c.requires.short lt)
       | inr high ↦ none_at_last gives own byte c.requires.short lt c.in-Some.last.now (omega arith)
@@ -98,10 +102,9 @@ pub returns-clause-own : goal.returns-clause-own
 returns-clause-own g c = λ known is_known old more own.
     let at = goal.at.returns-clause-own g c in
     let last = c.in-Some.last.now in
-    let number : c.last-2.inside.version ≡ last.version = ap (λ (x : ChangeAt). x.version) c.last-2.view_is in
     let is = last_there g at.After-last ∙ ap option_copied c.in-Some.is in
     let alone = iff_false (stays_alone g at.After-stays_alone) c.if-stays_alone.false in
     let ok = rw (c.as_slice-prefix.ensures.value, c.slot-slot.ensures) at c.in_ok-below.ensures.ok in
-    rw (ok.1, ok.2, ok.3, ok.4, c.requires.there, number)
+    rw (ok.1, ok.2, ok.3, ok.4, c.requires.there, ap (λ (x : ChangeAt). x.version) c.last-2.view_is)
     (page_changes g.met.D.SupportedDigest.is_digest own c.args.byte c.requires.short (omega arith) last
     c.in_ok-below.below.page ok.0 is alone (ok.5 known is_known))

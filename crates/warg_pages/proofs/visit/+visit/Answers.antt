@@ -18,7 +18,7 @@ visit_from-returns-then-prefix-eq32-clause-refused g t c = λ known es is_known 
 pub visit_from-returns-in_err-page-clause-refused : goal.visit_from-returns-in_err-page-clause-refused
 visit_from-returns-in_err-page-clause-refused g t c =
     let lt : length c.args.prefix.now < 32 = omega arith in
-    source_refused c.from_residual.result c.in_err-page.field-0.0 c.from_residual.ensures.1
+    source_refused _ _ c.from_residual.ensures.1
     (λ none known es is_known own. own_refused g.met.D.SupportedDigest.is_digest own lt
     (λ slots. none known slots is_known)) c.in_err-page.ensures.err
 
@@ -41,7 +41,7 @@ visit_from-slots-init g t c = record {
 pub visit_from-returns-in_err-visit_slot-clause-refused : goal.visit_from-returns-in_err-visit_slot-clause-refused
 visit_from-returns-in_err-visit_slot-clause-refused g t c =
     let lt : length c.args.prefix.now < 32 = let le = c.requires in let ne = c.if-prefix-eq32.false in omega arith in
-    source_refused c.from_residual-in_err-visit_slot.result c.in_err-visit_slot.field-0.0
+    source_refused _ _
     c.from_residual-in_err-visit_slot.ensures.1
     (λ none known es is_known own.
     let page = own_page g.met.D.SupportedDigest.is_digest own lt c.in_ok-page.ensures.page
@@ -54,7 +54,6 @@ pub visit_from-slots-preserved : goal.visit_from-slots-preserved
 visit_from-slots-preserved g t c = record {
   known = λ known is. c.in_ok-visit_slot.ensures.known known (c.slots.invariant.known known is);
   seen = λ before has.
-      let H = g.D.SupportedDigest.digest in
       let prefix = c.args.prefix.now in
       let items = c.slots-slot-items.result.now in
       let x = c.slot-item.result in
@@ -62,13 +61,13 @@ visit_from-slots-preserved g t c = record {
       let done = before_slot.0 in
       let at = c.in_ok-visit_slot.ensures.seen (before ++ done) before_slot.1 in
       let cut : drop c.slots.slot-index items ≡ x ∷ drop (c.slots.slot-index + 1) items =
-      drop-cons items c.slots.slot-index x c.slots-test.true
+      drop-cons items _ x c.slots-test.true
       ∙ (λ i. sym c.slot-item.is i ∷ drop (sym (add-one c.slots.slot-index) i) items) in (
         done ++ at.0,
         rw append_assoc at at.1,
         λ known rest is others.
-            let Shown = IsLoneShown H c.args.lone_keys in
-            let From = AreFromWhere H Shown (IsAllowed (g.P.Pages.bytes_at known) (g.P.Pages.tells_all known))
+            let Shown = IsLoneShown _ c.args.lone_keys in
+            let From = AreFromWhere _ Shown _
             (31 - length prefix) in
             rw append_assoc (before_slot.2 known (at.0 ++ rest) is (slots_more Shown From prefix _ x _ at.0 rest cut
             (at.2 known (c.slots.invariant.known known is)) others)),
@@ -77,7 +76,6 @@ visit_from-slots-preserved g t c = record {
 
 pub visit_from-returns-clause-seen : goal.visit_from-returns-clause-seen
 visit_from-returns-clause-seen g t c = λ before has.
-    let H = g.D.SupportedDigest.digest in
     let prefix = c.args.prefix.now in
     let lt : length prefix < 32 = omega arith in
     let items = c.slots-slot-items.result.now in
@@ -87,12 +85,12 @@ visit_from-returns-clause-seen g t c = λ before has.
       page ∷ all.0,
       rw append_assoc at all.1,
       λ known is.
-          let Shown = IsLoneShown H c.args.lone_keys in
-          let IsThere = IsAllowed (g.P.Pages.bytes_at known) (g.P.Pages.tells_all known) in
-          let From = AreFromWhere H Shown IsThere (31 - length prefix) in
+          let Shown = IsLoneShown _ c.args.lone_keys in
+          let IsThere = IsAllowed _ _ in
+          let From = AreFromWhere _ Shown IsThere (31 - length prefix) in
           let others : AreOfSlots Shown From prefix items (all.0 ++ []) = all.2 known [] is
           (no_slots Shown From prefix _ (drop_of_length-le items c.slots-test.false)) in
-          page_from H Shown IsThere prefix c.args.digest.now c.args.version c.in_ok-page.page all.0 lt
+          page_from _ Shown IsThere prefix c.args.digest.now c.args.version c.in_ok-page.page all.0 lt
           c.in_ok-page.ensures.page record {
             allowed = c.in_ok-page.ensures.ok known is;
             told = c.in_ok-page.ensures.told known is;
@@ -102,16 +100,14 @@ visit_from-returns-clause-seen g t c = λ before has.
 
 pub visit_slot-returns-in_err-check_lone-in-Some-clause-refused : goal.visit_slot-returns-in_err-check_lone-in-Some-clause-refused
 visit_slot-returns-in_err-check_lone-in-Some-clause-refused g t c =
-    let lone : c.args.slot.now.lone ≡ Some c.in-Some.lone = sym (ap (λ (x : SlotAt). x.lone) c.slot.view_is)
-    ∙ c.in-Some.is in
-    way_refused c.from_residual.result c.in_err-check_lone-in-Some.field-0.0 c.from_residual.ensures.1
+    let lone : c.args.slot.now.lone ≡ Some c.in-Some.lone = rw (← c.slot.view_is) c.in-Some.is in
+    way_refused _ _ c.from_residual.ensures.1
     (λ fault known es is_known own. fault (own_lone g.met.D.SupportedDigest.is_digest own c.requires lone))
     c.in_err-check_lone-in-Some.ensures.err
 
 pub visit_slot-returns-in_ok-check_lone-in-Some-clause-seen : goal.visit_slot-returns-in_ok-check_lone-in-Some-clause-seen
 visit_slot-returns-in_ok-check_lone-in-Some-clause-seen g t c = λ before has.
-    let lone : c.args.slot.now.lone ≡ Some c.in-Some.lone = sym (ap (λ (x : SlotAt). x.lone) c.slot.view_is)
-    ∙ c.in-Some.is in (
+    let lone : c.args.slot.now.lone ≡ Some c.in-Some.lone = rw (← c.slot.view_is) c.in-Some.is in (
       [],
       rw append-nil has,
       λ known is. rw lone (refl, c.in_ok-check_lone-in-Some.ensures.ok),
@@ -119,29 +115,34 @@ visit_slot-returns-in_ok-check_lone-in-Some-clause-seen g t c = λ before has.
 
 pub visit_slot-returns-in_ok-below-in-None-clause-refused : goal.visit_slot-returns-in_ok-below-in-None-clause-refused
 visit_slot-returns-in_ok-below-in-None-clause-refused g t c =
-    let none : c.args.slot.now.lone ≡ None = sym (ap (λ (x : SlotAt). x.lone) c.slot.view_is) ∙ c.in-None.is in
-    let byte : c.slot.inside.byte ≡ c.args.slot.now.byte = ap (λ (x : SlotAt). x.byte) c.slot.view_is in
-    let digest : c.slot.inside.digest ≡ c.args.slot.now.digest = ap (λ (x : SlotAt). x.digest) c.slot.view_is in
-    let version : c.slot.inside.version ≡ c.args.slot.now.version = ap (λ (x : SlotAt). x.version) c.slot.view_is in
+    let none : c.args.slot.now.lone ≡ None = rw (← c.slot.view_is) c.in-None.is in
     let below = c.as_slice.ensures.value ∙ c.in_ok-below-in-None.ensures.ok
-    ∙ ap (λ s. c.args.prefix.now ++ s ∷ []) byte in
-    if_err c.visit_from.result _ _ (rw (digest, version) at c.visit_from.ensures.refused)
+    ∙ ap (λ s. c.args.prefix.now ++ s ∷ []) (ap (λ (x : SlotAt). x.byte) c.slot.view_is) in
+    if_err c.visit_from.result _ _ (rw (
+      ap (λ (x : SlotAt). x.digest) c.slot.view_is,
+      ap
+          (λ (x : SlotAt). x.version) c.slot.view_is,
+    ) at c.visit_from.ensures.refused)
     (λ e. of_source e (λ fault known es is_known own. fault known es is_known (own_below own below none)))
 
 pub visit_slot-returns-in_ok-below-in-None-clause-seen : goal.visit_slot-returns-in_ok-below-in-None-clause-seen
 visit_slot-returns-in_ok-below-in-None-clause-seen g t c =
     let prefix = c.args.prefix.now in
     let x = c.args.slot.now in
-    let none : x.lone ≡ None = sym (ap (λ (y : SlotAt). y.lone) c.slot.view_is) ∙ c.in-None.is in
-    let byte : c.slot.inside.byte ≡ x.byte = ap (λ (y : SlotAt). y.byte) c.slot.view_is in
-    let digest : c.slot.inside.digest ≡ x.digest = ap (λ (y : SlotAt). y.digest) c.slot.view_is in
-    let version : c.slot.inside.version ≡ x.version = ap (λ (y : SlotAt). y.version) c.slot.view_is in
-    let below = c.as_slice.ensures.value ∙ c.in_ok-below-in-None.ensures.ok ∙ ap (λ s. prefix ++ s ∷ []) byte in
+    let none : x.lone ≡ None = rw (← c.slot.view_is) c.in-None.is in
+    let below = c.as_slice.ensures.value ∙ c.in_ok-below-in-None.ensures.ok
+    ∙ ap (λ s. prefix ++ s ∷ []) (ap (λ (y : SlotAt). y.byte) c.slot.view_is) in
     let left : 32 - length c.as_slice.result.now ≡ 31 - length prefix =
-    (let n = ap length below ∙ length-append prefix (x.byte ∷ []) in omega arith) in
+    (let n = ap length below ∙ length-append prefix _ in omega arith) in
     on_ok_weaker c.visit_from.result (λ seen before has.
     let at = seen before has in (
       at.0,
       at.1,
-      λ known is. rw none (rw (digest, version, left, below) at (at.2 known is)),
+      λ known is. rw none (rw (
+        ap (λ (y : SlotAt). y.digest) c.slot.view_is,
+        ap
+            (λ (y : SlotAt). y.version) c.slot.view_is,
+        left,
+        below,
+      ) at (at.2 known is)),
     )) c.visit_from.ensures.seen

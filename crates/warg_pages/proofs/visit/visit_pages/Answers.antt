@@ -9,17 +9,15 @@ use Rattle.warg_pages.proofs.visit.visit_pages.Goals as goal
 
 pub returns-then-version-ne0-clause-refused : goal.returns-then-version-ne0-clause-refused
 returns-then-version-ne0-clause-refused g c =
-    let H = g.D.SupportedDigest.digest in
     let some : ¬ (c.args.version ≡ 0) = λ z. c.if-version-ne0.true z in
     if_err c.visit_from.result _ _ c.visit_from.ensures.refused
     (λ e. of_source e (λ fault known es is_known own. fault known es is_known
-    (own_root H _ _ c.args.version es (omega arith) some own)))
+    (own_root _ _ _ _ es (omega arith) some own)))
 
 pub returns-then-ne-clause-refused : goal.returns-then-ne-clause-refused
 returns-then-ne-clause-refused g c = λ known es is_known own.
-    let H = g.D.SupportedDigest.digest in
     let none : c.args.version ≡ 0 = omega arith in
-    no_empty_way H _ c.args.root.now c.args.version es none
+    no_empty_way _ _ _ _ es none
     (λ e. other_hashes _ _ _ c.ne.ensures c.if-ne.true (e ∙ sym c.empty_tree.ensures)) own
 
 pub returns-then-version-ne0-clause-seen : goal.returns-then-version-ne0-clause-seen

@@ -1,4 +1,4 @@
-use Rattle.std.proofs.Common.{◌≡◌, ◌<◌, [], length, refl, arith}
+use Rattle.std.proofs.Common.{◌≡◌, ◌<◌, length, refl, arith}
 use Rattle.std.proofs.lemmas.Result.{err_from_is_err_and}
 use Rattle.warg_protobuf.specs.Private.Lent.{field_view}
 use Rattle.warg_protobuf.specs.Schema.{check_by, message_of}
@@ -7,15 +7,6 @@ use Rattle.warg_protobuf.proofs.Decoders.{decodes}
 use Rattle.warg_protobuf.proofs.Fields.{fields}
 use Rattle.warg_protobuf.proofs.Loops.{Collects-next, Collects-fails, Collects-done}
 use Rattle.warg_protobuf.proofs.message.read_message.Goals as goal
-
-pub loop-rest-init : goal.loop-rest-init
-loop-rest-init g c = record {
-  taken = [];
-  front = [];
-  parts = refl;
-  there = (refl, tt);
-  state_is = c.empty-message.ensures;
-}
 
 pub returns-in_err-field : goal.returns-in_err-field
 unfolding message_of

@@ -7,7 +7,8 @@ use Rattle.warg_tiles.proofs.fetch.tiles_for_consistency.Goals as goal
 pub add_root-requires : goal.add_root-requires
 add_root-requires g c =
     let there = root_there c.args.old_length c.args.new_length c.as_slice-root-items.result.now c.roots.root-index
-    (record { 0 = 0 }) c.requires.order (rw c.as_slice-root-items.ensures.value c.in_ok-roots.ensures) c.roots-test.true in
+    (record { 0 = 0 }) c.requires.order (rw c.as_slice-root-items.ensures.value c.in_ok-roots.ensures)
+    c.roots-test.true in
     record { exists = there.0; fits = c.requires.fits; some = there.1 }
 
 pub roots-preserved : goal.roots-preserved

@@ -1,4 +1,4 @@
-use Rattle.std.proofs.Common.{◌/◌, ◌%◌, ◌++◌, refl, sym, ap, ◌∙◌, arith}
+use Rattle.std.proofs.Common.{◌/◌, ◌%◌, refl, sym, ◌∙◌, arith}
 use Rattle.std.proofs.lemmas.List.{append_cancel_left}
 use Rattle.warg_tiles.specs.TilePaths.{groups_of, three_digits}
 use Rattle.std.proofs.lemmas.Bool.{true≢false}
@@ -25,9 +25,3 @@ returns-else-eq c =
     (sym c.in_ok-last.ensures ∙ (path_of_digits c.args.text.now c.in_ok-number.number n
     (sym c.in_ok-number.ensures) is).1) in
     true≢false (sym (tells.1 (last ∙ sym (c.as_slice.ensures ∙ c.digits_of.ensures))) ∙ c.if-eq.false)
-
-pub returns-then-eq : goal.returns-then-eq
-returns-then-eq c =
-    let tells = slice_eq-Decides Decides-eqb _ _ _ c.eq.ensures in
-    c.in_ok-last.ensures ∙ ap (λ l. groups_of (c.in_ok-number.number / 1000) ++ l)
-    (tells.0 c.if-eq.true ∙ c.as_slice.ensures ∙ c.digits_of.ensures)

@@ -3,9 +3,6 @@ use Rattle.std.proofs.lemmas.Fmt.{decimal_injective}
 use Rattle.warg_tiles.proofs.PathLemmas.{parts_at_slash}
 use Rattle.warg_tiles.proofs.path.tile_in.Goals as goal
 
-pub returns-in_err-strip_prefix : goal.returns-in_err-strip_prefix
-returns-in_err-strip_prefix c = rw c.from_residual.ensures (λ t tile is. c.in_err-strip_prefix.ensures.cases _ is)
-
 pub returns-in_err-level : goal.returns-in_err-level
 returns-in_err-level c =
     rw c.from_residual-in_err-level.ensures

@@ -1,12 +1,11 @@
 use Rattle.std.proofs.Common.{◌≡◌, List, ℕ, ◌%◌, ◌-◌, length, drop, ◌/◌, [], ◌∷◌, ◌++◌, map, sym, ap, ◌∙◌, rules, arith}
 use Rattle.std.proofs.Math.Seq.{take-length}
 use Rattle.std.proofs.lemmas.List.{map-append, length-append, length-drop}
-use Rattle.std.proofs.lemmas.Result.{IfOk-weaker, IfOk-from_err, on_ok_weaker}
+use Rattle.std.proofs.lemmas.Result.{IfOk-weaker, on_ok_weaker}
 use Rattle.warg_log.specs.Tree.{root_of}
 use Rattle.warg_tiles.specs.Private.Edges.{EndsWith}
 use Rattle.warg_tiles.proofs.BetweenLemmas.{same_tile}
 use Rattle.warg_tiles.proofs.EdgeLemmas.{width_more, width_full, edge_partial, edge_full, ends_up, tile_added, fits_low, next_fits, nothing_added, both}
-use Rattle.warg_tiles.proofs.TextLemmas.{err_on_ok}
 use Rattle.warg_tiles.proofs.tile_log.+fill.Goals as goal
 
 pub returns-then-count-lt255 : goal.returns-then-count-lt255
@@ -36,50 +35,8 @@ overflow_sub-edge g t c = omega (
       (omega arith)).0,
 )
 
-pub split_at-requires : goal.split_at-requires
-split_at-requires g t c = omega arith
-
-pub returns-in_err-digests-clause-kept : goal.returns-in_err-digests-clause-kept
-returns-in_err-digests-clause-kept g t c = IfOk-from_err _ _ c.from_residual.ensures.0
-
-pub returns-in_err-digests-clause-edge : goal.returns-in_err-digests-clause-edge
-returns-in_err-digests-clause-edge g t c = IfOk-from_err _ _ c.from_residual.ensures.0
-
-pub returns-in_err-digests-clause-filled : goal.returns-in_err-digests-clause-filled
-returns-in_err-digests-clause-filled g t c = err_on_ok c.from_residual.result _ c.from_residual.ensures.0
-
-pub returns-in_err-push-clause-kept : goal.returns-in_err-push-clause-kept
-returns-in_err-push-clause-kept g t c = IfOk-from_err _ _ c.from_residual-in_err-push.ensures.0
-
-pub returns-in_err-push-clause-edge : goal.returns-in_err-push-clause-edge
-returns-in_err-push-clause-edge g t c = IfOk-from_err _ _ c.from_residual-in_err-push.ensures.0
-
-pub returns-in_err-push-clause-filled : goal.returns-in_err-push-clause-filled
-returns-in_err-push-clause-filled g t c =
-    err_on_ok c.from_residual-in_err-push.result _ c.from_residual-in_err-push.ensures.0
-
-pub returns-in_err-push-2-clause-kept : goal.returns-in_err-push-2-clause-kept
-returns-in_err-push-2-clause-kept g t c = IfOk-from_err _ _ c.from_residual-in_err-push-2.ensures.0
-
-pub returns-in_err-push-2-clause-edge : goal.returns-in_err-push-2-clause-edge
-returns-in_err-push-2-clause-edge g t c = IfOk-from_err _ _ c.from_residual-in_err-push-2.ensures.0
-
-pub returns-in_err-push-2-clause-filled : goal.returns-in_err-push-2-clause-filled
-returns-in_err-push-2-clause-filled g t c =
-    err_on_ok c.from_residual-in_err-push-2.result _ c.from_residual-in_err-push-2.ensures.0
-
-pub root_over-root-requires : goal.root_over-root-requires
-root_over-root-requires g t c = omega (
-  arith,
-  ap length (c.as_slice.ensures.value ∙ c.in_ok-push.ensures.items),
-  length-append c.in_ok-digests.digests.items (c.args.digest ∷ []),
-)
-
 pub new-requires-clause-level : goal.new-requires-clause-level
 new-requires-clause-level g t c = omega (arith, fits_low c.args.level c.args.count c.requires.fits)
-
-pub overflow_add-level : goal.overflow_add-level
-overflow_add-level g t c = omega (arith, fits_low c.args.level c.args.count c.requires.fits)
 
 pub new-requires-2 : goal.new-requires-2
 new-requires-2 g t c =

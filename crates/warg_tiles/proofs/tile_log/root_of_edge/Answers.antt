@@ -3,7 +3,7 @@ use Rattle.std.specs.Option.{option_to_list}
 use Rattle.warg_tiles.specs.TileLog.{last_tile, tile_digests}
 use Rattle.warg_tiles.specs.Private.Edges.{root_if}
 use Rattle.warg_tiles.proofs.PushLemmas.{width_below, edge_below}
-use Rattle.warg_tiles.proofs.ChunkLemmas.{root_step, root_end}
+use Rattle.warg_tiles.proofs.ChunkLemmas.{root_step}
 use Rattle.warg_tiles.proofs.SplitLemmas.{root_next}
 use Rattle.warg_tiles.proofs.tile_log.root_of_edge.Goals as goal
 
@@ -37,7 +37,3 @@ pub returns-clause-by_tiles : goal.returns-clause-by_tiles
 returns-clause-by_tiles g c =
     let all : c.levels.level ≡ 8 = omega arith in
     rw all at c.levels.invariant.by_tiles
-
-pub returns-clause-own : goal.returns-clause-own
-returns-clause-own g c = λ ds n is. c.levels.invariant.root ds n is
-    ∙ root_end g.D.SupportedDigest.digest ds c.args.count c.levels.level c.requires.fits (omega arith)

@@ -1,6 +1,5 @@
 use Rattle.std.proofs.Common.{refl, arith}
-use Rattle.warg_log.specs.Tree.{own_digest}
-use Rattle.warg_bundle.proofs.ServeLemmas.{serves_growth, own_growth}
+use Rattle.warg_bundle.proofs.ServeLemmas.{own_growth}
 use Rattle.warg_bundle.proofs.log.serve.growth_bytes.Goals as goal
 
 pub bundle_bytes-requires : goal.bundle_bytes-requires
@@ -10,10 +9,3 @@ bundle_bytes-requires g c =
     c.in_ok-proof.proof c.args.old_length c.args.new_length
     c.in_ok-proofs.ensures.items c.new.ensures.items c.in_ok-proof.ensures.old_length c.in_ok-proof.ensures.new_length
     inside.1 inside.2 (omega arith)
-
-pub returns-clause-ok : goal.returns-clause-ok
-returns-clause-ok g c =
-    serves_growth (own_digest g.D.SupportedDigest.digest c.args.log.now) c.in_ok-proofs.proofs.items c.new.result.items
-    c.in_ok-proof.proof c.args.old_length c.args.new_length c.in_ok-bundle_bytes.field-0.items
-    c.in_ok-proofs.ensures.items c.new.ensures.items c.in_ok-proof.ensures.old_length c.in_ok-proof.ensures.new_length
-    c.in_ok-bundle_bytes.ensures

@@ -1,6 +1,5 @@
 use Rattle.std.proofs.Common.{refl, arith}
-use Rattle.warg_log.specs.Tree.{own_digest}
-use Rattle.warg_bundle.proofs.ServeLemmas.{serves_leaf, own_leaf}
+use Rattle.warg_bundle.proofs.ServeLemmas.{own_leaf}
 use Rattle.warg_bundle.proofs.log.serve.inclusion_bytes.Goals as goal
 
 pub bundle_bytes-requires : goal.bundle_bytes-requires
@@ -10,10 +9,3 @@ bundle_bytes-requires g c =
     c.in_ok-proof.proof c.args.index c.args.log_length
     c.new.ensures.items c.in_ok-proofs.ensures.items c.in_ok-proof.ensures.leaf c.in_ok-proof.ensures.length inside.0
     inside.1 (omega arith)
-
-pub returns-clause-ok : goal.returns-clause-ok
-returns-clause-ok g c =
-    serves_leaf (own_digest g.D.SupportedDigest.digest c.args.log.now) c.new.result.items c.in_ok-proofs.proofs.items
-    c.in_ok-proof.proof c.args.index c.args.log_length c.in_ok-bundle_bytes.field-0.items
-    c.new.ensures.items c.in_ok-proofs.ensures.items c.in_ok-proof.ensures.leaf c.in_ok-proof.ensures.length
-    c.in_ok-bundle_bytes.ensures

@@ -1,7 +1,7 @@
 use Rattle.std.proofs.Common.{◌∙◌}
 use Rattle.warg_protobuf.specs.MapInclusionProof.{proof_view}
 use Rattle.warg_map.specs.Messages.{proof_fault}
-use Rattle.warg_protobuf.proofs.ForCallers.{no_fault, fault_after, no_fault_left, written_more, written_all}
+use Rattle.warg_protobuf.proofs.ForCallers.{no_fault, fault_after, written_more}
 use Rattle.warg_bundle.proofs.map.proof_bundle.messages.Goals as goal
 
 pub proofs-preserved : goal.proofs-preserved
@@ -12,11 +12,4 @@ proofs-preserved g c = record {
   fault = c.proofs.invariant.fault ∙ fault_after proof_fault c.args.proofs.now c.proofs.proof-index c.proof-item.result
       c.proofs-test.true c.proof-item.is
       (rw c.in_ok-to_message.ensures.ok at (no_fault _ _ _ c.in_ok-to_message.ensures.again).0);
-}
-
-pub returns : goal.returns
-returns g c = record {
-  ok = written_all proof_view c.args.proofs.now c.proofs.proof-index c.proofs.messages.items c.proofs.invariant.written
-      c.proofs-test.false;
-  good = no_fault_left proof_fault c.args.proofs.now c.proofs.proof-index c.proofs.invariant.fault c.proofs-test.false;
 }

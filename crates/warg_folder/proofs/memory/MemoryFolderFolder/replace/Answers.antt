@@ -1,5 +1,5 @@
-use Rattle.std.proofs.Common.{inr, refl}
-use Rattle.warg_folder.proofs.MemoryLemmas.{seen_more, may_more, elapses, same_moment}
+use Rattle.std.proofs.Common.{inr}
+use Rattle.warg_folder.proofs.MemoryLemmas.{seen_more, may_more, elapses}
 use Rattle.warg_folder.proofs.memory.MemoryFolderFolder.replace.Goals as goal
 
 pub returns-clause-replaced : goal.returns-clause-replaced
@@ -14,15 +14,6 @@ pub returns-clause-crash : goal.returns-clause-crash
 returns-clause-crash c = λ faithful e left.
     let from = may_more _ _ _ c.in_ok-add.ensures.ok e left in
     (from.0, from.1, rw (← c.in_ok-name.ensures, ← c.in_ok-bytes.ensures) (inr from.2))
-
-pub returns-in_err-name-clause-time : goal.returns-in_err-name-clause-time
-returns-in_err-name-clause-time c = λ faithful. same_moment refl
-
-pub returns-in_err-bytes-clause-time : goal.returns-in_err-bytes-clause-time
-returns-in_err-bytes-clause-time c = λ faithful. same_moment refl
-
-pub returns-in_err-add-clause-time : goal.returns-in_err-add-clause-time
-returns-in_err-add-clause-time c = λ faithful. same_moment c.in_err-add.ensures.err
 
 pub returns-clause-time : goal.returns-clause-time
 returns-clause-time c = λ faithful. elapses _ c.in_ok-add.ensures.ok

@@ -1,47 +1,30 @@
-use Rattle.std.proofs.Common.{sym, ap, inr, Ok, ◌∙◌}
+use Rattle.std.proofs.Common.{◌≡◌, sym, ap, inr, ◌∙◌}
 use Rattle.std.proofs.lemmas.Bool.{false≢true}
-use Rattle.std.proofs.lemmas.Result.{IfOk-from_err, err_from_is_err_and}
 use Rattle.warg_log.specs.Tree.{leaves_in}
 use Rattle.warg_log.specs.Images.{vec_message}
-use Rattle.warg_log.proofs.FaultLemmas.{not_a_log_is_no_wire, not_refused}
-use Rattle.warg_log.proofs.ImageLemmas.{never_wire, never_no_log}
-use Rattle.warg_log.proofs.TreeLemmas.{message_read, no_log, log_again, log_fault}
+use Rattle.warg_log.proofs.TreeLemmas.{message_read, no_log, log_again}
 use Rattle.warg_log.proofs.vec_log.VecLog.from_message.Goals as goal
+use Rattle.warg_log.proofs.vec_log.VecLog.from_message.Goals.{Then-not-has_message}
 
-pub returns-in_err-log : goal.returns-in_err-log
-returns-in_err-log g c =
-    let p = err_from_is_err_and c.from_residual.result c.from_residual.ensures.1 in
-    let is = rw p.2 at p.1 in
-    record {
-      exact = rw (p.1, p.2) (log_fault g.D.SupportedDigest.digest c.args.message.length c.args.message.tree.items _
-          (rw c.as_slice.ensures.value at c.in_err-log.ensures.fault));
-      message = IfOk-from_err c.from_residual.result _ c.from_residual.ensures.0;
-      none = λ bad ds same. never_no_log _ _ c.in_err-log.ensures.fault is bad;
-      wire = never_wire _ _ c.in_err-log.ensures.fault is;
-    }
+-- the leaf digests of a tree that isn't a log's have another message
+refuted : (g : _) (c : Then-not-has_message g) → vec_message g.D.SupportedDigest.digest
+    (leaves_in c.args.message.tree.items)
+    ≡ record { length = c.args.message.length; tree = c.args.message.tree.items } → ⊥
+refuted g c is = false≢true (sym c.if-not-has_message.true
+    ∙ c.has_message.ensures.1 (rw (c.in_ok-log.ensures.ok, c.as_slice.ensures.value) is))
 
-pub returns-then-not-has_message : goal.returns-then-not-has_message
-returns-then-not-has_message g c =
-    let H = g.D.SupportedDigest.digest in
+pub returns-then-not-has_message-clause-exact : goal.returns-then-not-has_message-clause-exact
+returns-then-not-has_message-clause-exact g c = inr (no_log g.D.SupportedDigest.digest _ _
+    (rw c.as_slice.ensures.value at c.in_ok-log.ensures.good)
+    (refuted g (goal.at.returns-then-not-has_message-clause-exact g c).Then-not-has_message))
+
+pub returns-then-not-has_message-clause-none : goal.returns-then-not-has_message-clause-none
+returns-then-not-has_message-clause-none g c = λ _ ds is.
+    refuted g (goal.at.returns-then-not-has_message-clause-none g c).Then-not-has_message
+    (log_again g.D.SupportedDigest.digest _ _ ds is)
+
+pub returns-clause-exact : goal.returns-clause-exact
+returns-clause-exact g c =
     let own = c.in_ok-log.ensures.ok ∙ ap leaves_in c.as_slice.ensures.value in
-    record {
-      exact = inr (no_log H _ _ (rw c.as_slice.ensures.value at c.in_ok-log.ensures.good)
-          (λ is. false≢true (sym c.if-not-has_message.true ∙ c.has_message.ensures.1 (ap (vec_message H) own ∙ is))));
-      message = tt;
-      none = λ _ ds is. false≢true (sym c.if-not-has_message.true
-          ∙ c.has_message.ensures.1 (ap (vec_message H) own ∙ log_again H _ _ ds is));
-      wire = not_a_log_is_no_wire;
-    }
-
-pub returns : goal.returns
-returns g c =
-    let H = g.D.SupportedDigest.digest in
-    let own = c.in_ok-log.ensures.ok ∙ ap leaves_in c.as_slice.ensures.value in
-    let message = c.has_message.ensures.0 c.if-not-has_message.false in
-    record {
-      exact = message_read H _ _ (ap (vec_message H) (sym own) ∙ message)
-          (rw c.as_slice.ensures.value at c.in_ok-log.ensures.good) ∙ ap Ok (sym own);
-      message = message;
-      none = λ bad _ _. not_refused _ _ bad;
-      wire = λ _ bad. not_refused _ _ bad;
-    }
+    rw own (message_read g.D.SupportedDigest.digest _ _ (rw own at (c.has_message.ensures.0 c.if-not-has_message.false))
+    (rw c.as_slice.ensures.value at c.in_ok-log.ensures.good))

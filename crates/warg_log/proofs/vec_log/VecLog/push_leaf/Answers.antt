@@ -1,5 +1,4 @@
 use Rattle.std.proofs.Common.{sym, ◌∙◌, arith}
-use Rattle.std.proofs.lemmas.Result.{err_from_is_err_and}
 use Rattle.warg_log.specs.Tree.{leaves_in}
 use Rattle.warg_log.proofs.AppendLemmas.{IsAppended, room_empty, room_more, appended}
 use Rattle.warg_log.proofs.vec_log.VecLog.push_leaf.Goals as goal
@@ -32,13 +31,7 @@ invariant_of-self-2 g c =
     let at = ready g (goal.at.invariant_of-self-2 g c).After-push_reserved-2 in
     rw c.join_up.ensures.leaves (omega (arith, at), c.join_up.ensures.slice, c.self.invariant.2, omega arith)
 
-pub returns-in_err-reserve : goal.returns-in_err-reserve
-returns-in_err-reserve g c =
-    let p = err_from_is_err_and c.from_residual.result c.from_residual.ensures.1 in
-    rw p.1 (record { ok = tt; err = rw c.in_err-reserve.ensures.items c.self.view_is })
-
-pub returns : goal.returns
-returns g c = record {
-  ok = rw (← c.self.view_is) (c.join_up.ensures.leaves ∙ (ready g (goal.at.returns g c).After-push_reserved-2).leaves);
-  err = tt;
-}
+pub returns-clause-ok : goal.returns-clause-ok
+returns-clause-ok g c =
+    rw (← c.self.view_is) (c.join_up.ensures.leaves ∙ (ready g
+    (goal.at.returns-clause-ok g c).After-push_reserved-2).leaves)

@@ -15,9 +15,6 @@ roots-preserved g c =
       | in-None w ↦ rw w.in-None.is (w.root-is ∙ w.copied.ensures)
     ])
 
-pub overflow_sub-start : goal.overflow_sub-start
-overflow_sub-start g c = (last_width c.roots.end c.roots-test.true (omega (arith, c.roots.auto.end-fits))).1
-
 pub index-left-requires : goal.index-left-requires
 index-left-requires g c = omega (
   arith,
@@ -25,13 +22,6 @@ index-left-requires g c = omega (
   slice_size g.D.SupportedDigest.digest _ c.self.inside.tree.items c.self.invariant.1,
   c.self.inside.tree.ok.0,
   c.roots.invariant.within,
-)
-
-pub roots-smaller : goal.roots-smaller
-roots-smaller g c = omega (
-  arith,
-  last_width c.roots.end c.roots-test.true (omega (arith, c.roots.auto.end-fits)),
-  c.roots-test.true,
 )
 
 pub returns : goal.returns

@@ -1,7 +1,6 @@
-use Rattle.std.proofs.Common.{◌≡◌, [], refl, sym, arith, below_more}
+use Rattle.std.proofs.Common.{◌≡◌, [], refl, arith, below_more}
 use Rattle.std.specs.Cmp.Lexicographic.{bytes_decides}
 use Rattle.std.proofs.lemmas.List.{ext_get_or, get_or_default}
-use Rattle.std.proofs.lemmas.Bool.{false≢true}
 use Rattle.warg_log.proofs.vec_log.image.are_digests.Goals as goal
 
 pub places-preserved : goal.places-preserved
@@ -14,15 +13,3 @@ places-preserved g c = below_more _ _ c.places.invariant (
 
 pub returns : goal.returns
 returns g c = (λ _. ext_get_or [] _ _ (omega arith) (λ i lt. c.places.invariant i (omega arith)), λ _. refl)
-
-pub returns-then-ne : goal.returns-then-ne
-returns-then-ne g c = (
-  λ equal. absurd (false≢true equal),
-  λ same.
-      let digest = get_or_default c.args.digests.now c.places.place c.index-digests-place.result []
-      c.places-test.true in
-      let hash = get_or_default c.args.tree.now c.places.place c.index-tree-place.result [] (omega arith) in
-      let equal : c.as_slice.result.now ≡ c.bytes.result.now = cc in
-      absurd (false≢true (sym (rw ((bytes_decides c.as_slice.result.now c.bytes.result.now).1 equal) at
-      c.if-ne.ensures))),
-)

@@ -13,9 +13,9 @@ node : (g : _) (c : In_ok-new g) → IsSeen (Fork c.in_ok-new.field-0) (c.args.n
 node g c =
     let is = c.in_ok-new.ensures.ok in
     elim c.match-side.branch [
-      | in-Left w ↦ rw w.in-Left.is (with_fork false c.in_ok-new.field-0 c.args.near.link c.args.far.link
+      | in-Left w ↦ rw w.in-Left.is (with_fork false c.args.near.link c.args.far.link
           (is ∙ w.fork-is) c.requires.heights c.requires.hold)
-      | in-Right w ↦ rw w.in-Right.is (with_fork true c.in_ok-new.field-0 c.args.near.link c.args.far.link
+      | in-Right w ↦ rw w.in-Right.is (with_fork true c.args.near.link c.args.far.link
           (is ∙ w.fork-is) c.requires.heights c.requires.hold)
     ]
 

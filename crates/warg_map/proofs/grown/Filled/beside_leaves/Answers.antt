@@ -1,14 +1,11 @@
-use Rattle.std.proofs.Common.{ap, arith}
-use Rattle.warg_map.proofs.LeavesBelowNodes.{put_new}
+use Rattle.std.proofs.Common.{ap, arith, inr}
+use Rattle.warg_map.proofs.LeavesBelowNodes.{put_holds}
 use Rattle.std.proofs.lemmas.Result.{IfOk-weaker}
 use Rattle.warg_map.proofs.grown.Filled.beside_leaves.Goals as goal
 
-pub grown-requires-clause-depth : goal.grown-requires-clause-depth
-grown-requires-clause-depth g c = omega (arith, c.requires.height)
-
 pub forked-requires : goal.forked-requires
 forked-requires g c =
-    let p = put_new c.args.from c.args.len c.args.far.items _ _ c.requires.some c.in_ok-far.ensures in
+    let p = put_holds c.in_ok-far.ensures (inr c.requires.some) in
     record {
       heights = (omega (arith, p.0, c.requires.height), c.requires.height);
       hold = (c.requires.hold, p.1);

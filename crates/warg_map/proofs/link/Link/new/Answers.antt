@@ -26,7 +26,7 @@ invariant_of-result g c =
             let z : 256 - (w.in-Stem.stem.value.from + w.in-Stem.stem.value.len) ≡ w.in-Stem.stem.value.below.0 =
             omega arith in
             rw (w.hash-is, w.in-Stem.is, w.stem_digest-hash.ensures, w.as_ref-stem.ensures)
-            (root-stem H _ s.key _ s.below.0 s.from s.len s.below.1 z
+            (root-stem H s.key s.from s.len s.below.1 z
             (rw w.as_ref-stem.ensures at w.hash-in-Stem.ensures)))
         | in-Empty w ↦ rw (w.hash-is, w.in-Empty.is, w.empty_tree-hash.ensures) (sym (sparse_root-empty H 256))
       ],

@@ -17,10 +17,10 @@ returns-clause-ok g c =
     record {
       inserted = rw (c.of-key.ensures, c.hash_leaf.ensures) at c.in_ok-map.ensures.ok;
       proves = rw c.of-key.ensures at shown;
-      before = root_before g.D.SupportedDigest.digest c.args.self.now _ _ c.in_ok-proof.proof
+      before = root_before c.args.self.now _
           (length-last_bits _ 256) proves;
       after = rw (c.in_ok-map.ensures.ok, c.of-key.ensures, c.hash_leaf.ensures)
-          (root_after g.D.SupportedDigest.digest c.args.self.now _ _ c.in_ok-proof.proof
+          (root_after c.args.self.now _
           (length-last_bits _ 256) proves);
       newness = rw (c.len.ensures, c.len-2.ensures, ← c.of-key.ensures)
           (grows c.args.self.now c.in_ok-map.map (last_bits c.of-key.result 256) _ c.in_ok-map.ensures.ok);

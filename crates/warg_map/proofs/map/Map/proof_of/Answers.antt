@@ -10,7 +10,7 @@ use Rattle.warg_map.proofs.map.Map.proof_of.Goals.{In_ok-collect}
 proves : (g : _) (c : In_ok-collect g) → (length c.collect.new.to.peers.items ≤ 256)
     × (IsSome c.collect.new.to.held → ProvesEmpty g.D.SupportedDigest.digest c.args.self.now
     (last_bits c.args.key.now 256) c.collect.new.to.peers.items)
-proves g c = proves_asked _ c.args.asked _ _ _ _ _
+proves g c = proves_asked _ c.args.asked _ _ _
     (c.node.ensures.seen ∙ (λ i. (c.self.invariant.0 i, c.self.view_is i))) (length-last_bits c.args.key.now 256)
     c.in_ok-collect.ensures.answer c.in_ok-collect.ensures.peers
 

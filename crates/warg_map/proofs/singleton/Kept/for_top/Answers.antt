@@ -15,5 +15,5 @@ returns-clause-digest g c = λ value own low.
     ] in
     let up : c.if-self-top.known.now.height ≤ c.max-height.result = search rules in
     let most : c.max-height.result ≤ c.args.top = search (rules, known.0) in
-    c.stem_digest.ensures ∙ root-kept H _ value key c.if-self-top.known.now.height c.max-height.result
+    c.stem_digest.ensures ∙ root-kept H value key c.if-self-top.known.now.height c.max-height.result
     (omega (arith, most, c.requires.top)) up known.1

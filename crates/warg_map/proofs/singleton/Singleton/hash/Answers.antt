@@ -9,5 +9,5 @@ returns g c =
     let H = g.D.SupportedDigest.digest in
     let s = c.self.inside in
     let k = c.self.invariant in
-    c.stem_digest.ensures ∙ root-kept H s.four_below.digest s.value s.key s.four_below.height s.height k.0 k.3 k.4
+    c.stem_digest.ensures ∙ root-kept H s.value s.key s.four_below.height s.height k.0 k.3 k.4
     ∙ ap (λ (l : Lone). sparse_root H l.height (held_alone l)) c.self.view_is

@@ -13,11 +13,10 @@ use Rattle.warg_pages.proofs.paged.PagedMap.insert_all.Goals.{In_ok-changes}
 
 pub returns-then-is_empty-clause-pages : goal.returns-then-is_empty-clause-pages
 returns-then-is_empty-clause-pages g c = λ known old is_known own.
-    let H = g.D.SupportedDigest.digest in
-    let more = pair_bytes g.K.VisitBytes.bytes g.V.VisitBytes.bytes c.args.insertions.now in
+    let more = pair_bytes _ g.V.VisitBytes.bytes _ in
     let none : length more ≡ 0 = length-map c.args.insertions.now _ ∙ eqb-true _ 0
     (sym c.is_empty.ensures ∙ c.if-is_empty.true) in
-    none_changed H old more _ none c.new-changed.ensures.items
+    none_changed _ old more _ none c.new-changed.ensures.items
 
 -- the first page, which the insertions change
 own_update : (g : _) (c : In_ok-changes g) (known : g.P.Pages.Known) (old : List (List ℕ × List ℕ))
@@ -29,57 +28,52 @@ own_update : (g : _) (c : In_ok-changes g) (known : g.P.Pages.Known) (old : List
     c.in_ok-page.page c.in_ok-changes.changes.items old
     (pair_bytes g.K.VisitBytes.bytes g.V.VisitBytes.bytes c.args.insertions.now)
 own_update g c known old is_known own =
-    let H = g.D.SupportedDigest.digest in
-    let more = pair_bytes g.K.VisitBytes.bytes g.V.VisitBytes.bytes c.args.insertions.now in
+    let more = pair_bytes g.K.VisitBytes.bytes g.V.VisitBytes.bytes _ in
     let count = c.args.self.now.version in
     let size : length more ≡ length c.args.insertions.now = length-map c.args.insertions.now _ in
     let no = eqb-false _ 0 (sym c.is_empty.ensures ∙ c.if-is_empty.false) in
     let some : 0 < length more = omega arith in
     let fits : count + length more < 2 ^ 64 = let all = c.requires in omega arith in
     let number : count + length c.args.insertions.now ≡ count + length more = omega arith in
-    rw (number, c.in_ok-changes.ensures.ok) (first_update H _ c.args.self.now.root count c.in_ok-page.page old more
+    rw (number, c.in_ok-changes.ensures.ok) (first_update _ _ c.args.self.now.root count c.in_ok-page.page old more
     some fits (c.in_ok-page.ensures.ok known is_known) own)
 
 pub returns-in_err-self-clause-refused : goal.returns-in_err-self-clause-refused
 returns-in_err-self-clause-refused g c =
     let more = pair_bytes g.K.VisitBytes.bytes g.V.VisitBytes.bytes c.args.insertions.now in
     let first = own_update g (goal.at.returns-in_err-self-clause-refused g c).In_ok-changes in
-    source_refused c.from_residual-in_err-self.result c.in_err-self.field-0.0 c.from_residual-in_err-self.ensures.1
+    source_refused _ _ c.from_residual-in_err-self.ensures.1
     (λ fault known old is_known own. fault known old more (c.first_page.ensures.known known is_known)
     (first known old is_known own)) (rw (c.new.ensures.items, c.copied.ensures) at
     c.in_err-self.ensures.err)
 
 pub returns-clause-pages : goal.returns-clause-pages
 returns-clause-pages g c = λ known old is_known own.
-    let H = g.D.SupportedDigest.digest in
-    let more = pair_bytes g.K.VisitBytes.bytes g.V.VisitBytes.bytes c.args.insertions.now in
+    let more = pair_bytes g.K.VisitBytes.bytes g.V.VisitBytes.bytes _ in
     let done = rw (c.new.ensures.items, c.copied.ensures) at c.in_ok-self.ensures.ok in
     let updated = done.2 known old more (c.first_page.ensures.known known is_known)
     (own_update g (goal.at.returns-clause-pages g c).In_ok-changes known old is_known own) in
     let are : c.update_page.new.changed.items ≡ done.0 = done.1 ∙ ap (λ l. l ++ done.0) c.new-changed.ensures.items in
-    rw are (all_changed H old more _ done.0 updated)
+    rw are (all_changed _ old more _ done.0 updated)
 
 pub returns-clause-root : goal.returns-clause-root
 returns-clause-root g c = λ known old is_known own.
-    let H = g.D.SupportedDigest.digest in
-    let more = pair_bytes g.K.VisitBytes.bytes g.V.VisitBytes.bytes c.args.insertions.now in
+    let more = pair_bytes _ g.V.VisitBytes.bytes _ in
     let done = rw (c.new.ensures.items, c.copied.ensures) at c.in_ok-self.ensures.ok in
-    root_changed H old more c.in_ok-self.field-0 done.0
+    root_changed _ old more c.in_ok-self.field-0 done.0
     (done.2 known old more (c.first_page.ensures.known known is_known)
     (own_update g (goal.at.returns-clause-root g c).In_ok-changes known old is_known own))
 
 pub returns-clause-stood : goal.returns-clause-stood
 returns-clause-stood g c =
-    let H = g.D.SupportedDigest.digest in
-    let more = pair_bytes g.K.VisitBytes.bytes g.V.VisitBytes.bytes c.args.insertions.now in
+    let more = pair_bytes g.K.VisitBytes.bytes g.V.VisitBytes.bytes _ in
     let root = c.args.self.now.root in
     let count = c.args.self.now.version in
     let done = rw (c.new.ensures.items, c.copied.ensures, c.in_ok-changes.ensures.ok) at c.in_ok-self.ensures.ok in
     let are : c.update_page.new.changed.items ≡ done.0 = done.1 ∙ ap (λ l. l ++ done.0) c.new-changed.ensures.items in
-    rw are (done.3 root count more (named_first H root) (first_changes H count more))
+    rw are (done.3 root count more (named_first _ root) (first_changes _ count more))
 
 pub returns-then-is_empty-clause-stood : goal.returns-then-is_empty-clause-stood
 returns-then-is_empty-clause-stood g c =
-    let H = g.D.SupportedDigest.digest in
-    let more = pair_bytes g.K.VisitBytes.bytes g.V.VisitBytes.bytes c.args.insertions.now in
-    rw c.new-changed.ensures.items (All-nil (ChangesWhatStood H c.args.self.now.root more))
+    let more = pair_bytes g.K.VisitBytes.bytes g.V.VisitBytes.bytes _ in
+    rw c.new-changed.ensures.items (All-nil (ChangesWhatStood _ c.args.self.now.root more))

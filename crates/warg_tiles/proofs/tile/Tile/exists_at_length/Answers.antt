@@ -8,10 +8,6 @@ pub returns-then-self-ge8 : goal.returns-then-self-ge8
 returns-then-self-ge8 c = subst (λ (t : TileAt). (IsTrue false ↔ (tile_end t ≤ c.args.length))) c.self.view_is
     (at_no_length _ c.args.length (λ low few. omega (arith, low, c.if-self-ge8.true)) c.self.invariant.1 c.requires)
 
-pub returns-then-self : goal.returns-then-self
-returns-then-self c = subst (λ (t : TileAt). (IsTrue false ↔ (tile_end t ≤ c.args.length))) c.self.view_is
-    (at_no_length _ c.args.length (λ low few. omega (arith, few, c.if-self.true)) c.self.invariant.1 c.requires)
-
 pub returns : goal.returns
 returns c =
     let inside = c.self.inside in

@@ -1,4 +1,4 @@
-use Rattle.std.proofs.Common.{◌++◌, map, ap, ◌∙◌, arith, refl}
+use Rattle.std.proofs.Common.{◌++◌, map, ap, ◌∙◌, arith}
 use Rattle.warg_tiles.specs.Private.Edges.{joined}
 use Rattle.warg_tiles.proofs.OpenLemmas.{open_width, open_stands}
 use Rattle.warg_tiles.proofs.SplitLemmas.{open_tiles}
@@ -21,9 +21,6 @@ returns-clause-stands g c = λ ds count all.
     rw c.new.ensures.items
     (open_stands g.D.SupportedDigest.digest ds c.push_digests.new.edge.items (λ t. t.tile)
     (λ t. t.digests.items) c.args.tiles.now c.args.log_length c.in_ok-check_tiles.ensures.ok count all edge)
-
-pub returns-clause-length : goal.returns-clause-length
-returns-clause-length g c = (refl, refl, ap (map (λ t. (t.tile, t.digests.items))) c.new.ensures.items)
 
 pub returns-clause-edge : goal.returns-clause-edge
 returns-clause-edge g c =

@@ -1,6 +1,6 @@
-use Rattle.std.proofs.Common.{map, sym, ap, subst, ◌∙◌}
+use Rattle.std.proofs.Common.{map, sym, subst, ◌∙◌}
 use Rattle.std.proofs.lemmas.Result.{IfOk-weaker}
-use Rattle.warg_tiles.specs.TileLog.{RightEdge, StandsFor, AreTilesOf, partial_tiles, split_into, edge_tiles}
+use Rattle.warg_tiles.specs.TileLog.{RightEdge, StandsFor, AreTilesOf, partial_tiles}
 use Rattle.warg_tiles.proofs.PushLemmas.{edge_of}
 use Rattle.warg_tiles.proofs.tile_log.TileLog.partial.Goals as goal
 
@@ -14,9 +14,3 @@ returns-clause-tiles g c =
     (map (λ t. (t.tile, t.digests.items)) tiles.items)) c.self.view_is
     (h g.D.SupportedDigest.digest ds old.count edge))
     c.partial_tiles.ensures.own
-
-pub returns-clause-value : goal.returns-clause-value
-returns-clause-value g c =
-    IfOk-weaker c.partial_tiles.result _ _
-    (λ tiles split. split ∙ ap (λ l. split_into (partial_tiles c.self.inside.count) l) c.as_slice.ensures.value
-    ∙ ap edge_tiles c.self.view_is) c.partial_tiles.ensures.split

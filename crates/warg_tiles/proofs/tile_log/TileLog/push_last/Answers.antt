@@ -1,5 +1,5 @@
-use Rattle.std.proofs.Common.{[], ◌∷◌, ◌++◌, map, take, sym, ap, subst, ◌∙◌, length, arith}
-use Rattle.std.proofs.lemmas.List.{map-append, length-append}
+use Rattle.std.proofs.Common.{[], ◌∷◌, ◌++◌, map, take, sym, ap, subst, ◌∙◌}
+use Rattle.std.proofs.lemmas.List.{map-append}
 use Rattle.warg_tiles.specs.TileLog.{RightEdge, StandsFor}
 use Rattle.warg_tiles.proofs.PushLemmas.{push_ends, push_stands}
 use Rattle.warg_tiles.proofs.tile_log.TileLog.push_last.Goals as goal
@@ -18,18 +18,3 @@ returns-clause-stands g c = λ ds stands.
     let full = ap (map (λ t. (t.tile, t.digests.items))) c.in_ok-append.ensures.items
     ∙ map-append (λ t. (t.tile, t.digests.items)) c.self.inside.full.items c.fill.new.filled.items in
     push_stands H _ ds c.push_reserved.new.self.items c.args.digest _ _ c.self.invariant.2 old made added full
-
-pub invariant_of-self-2 : goal.invariant_of-self-2
-invariant_of-self-2 g c = (
-  omega (
-    arith,
-    ap length c.push_reserved.ensures.items,
-    length-append c.truncate.new.self.items (c.in_ok-kept.digest ∷ []),
-    c.truncate.ensures.len,
-    c.in_ok-reserve.ensures.len,
-    c.as_slice.ensures.len,
-    c.in_ok-kept.ensures.kept,
-  ),
-  omega (arith, c.requires.fits, ap (λ (e : RightEdge). e.len) c.self.view_is),
-  omega (arith, c.self.invariant.2),
-)

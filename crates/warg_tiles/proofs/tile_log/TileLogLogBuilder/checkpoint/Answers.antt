@@ -1,4 +1,4 @@
-use Rattle.std.proofs.Common.{◌≡◌, ℕ, List, [], Option, Some, None, unwrap_or, sym, ap, subst, ◌∙◌, refl}
+use Rattle.std.proofs.Common.{◌≡◌, ℕ, List, [], Option, None, unwrap_or, sym, ap, subst, ◌∙◌, refl}
 use Rattle.warg_tiles.specs.TileLog.{RightEdge, StandsFor, edge_tiles, partial_tiles, split_into, root_on, root_by_tiles}
 use Rattle.warg_tiles.proofs.PushLemmas.{edge_of}
 use Rattle.warg_tiles.proofs.ChunkLemmas.{root_found, root_lacks}
@@ -25,14 +25,3 @@ by_tiles : (H : List ℕ → List ℕ) (e view : RightEdge) (edge : List (List �
 by_tiles H e view edge found same is made =
     rw (made ∙ ap (λ l. root_on H None (split_into (partial_tiles e.len) l)) same)
     (rw is refl)
-
-pub returns-in-Some-clause-by_tiles : goal.returns-in-Some-clause-by_tiles
-returns-in-Some-clause-by_tiles g c =
-    c.new.ensures.root ∙ by_tiles g.D.SupportedDigest.digest _ _ _ (Some c.in-Some.root) c.as_slice.ensures.value
-    c.self.view_is (sym c.in-Some.is ∙ c.root_of_edge.ensures.by_tiles)
-
-pub returns-in-None-clause-by_tiles : goal.returns-in-None-clause-by_tiles
-returns-in-None-clause-by_tiles g c =
-    c.new-in-None.ensures.root ∙ c.hash_empty.ensures
-    ∙ by_tiles g.D.SupportedDigest.digest _ _ _ None c.as_slice.ensures.value c.self.view_is
-    (sym c.in-None.is ∙ c.root_of_edge.ensures.by_tiles)

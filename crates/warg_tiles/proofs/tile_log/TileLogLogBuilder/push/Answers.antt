@@ -35,9 +35,3 @@ returns-then-self-lt255-clause-stands g c = λ ds stands.
 
 pub returns-clause-stands : goal.returns-clause-stands
 returns-clause-stands g c = rw c.hash_leaf-digest.ensures at c.in_ok-push_last.ensures.stands
-
-pub returns-then-self-lt255-clause-node : goal.returns-then-self-lt255-clause-node
-returns-then-self-lt255-clause-node g c = omega (arith, ap (λ (e : RightEdge). e.len) c.self.view_is)
-
-pub returns-clause-node : goal.returns-clause-node
-returns-clause-node g c = omega (arith, ap (λ (e : RightEdge). e.len) c.self.view_is)

@@ -4,9 +4,6 @@ use Rattle.warg_protobuf.proofs.ForCallers.{all_weaken}
 use Rattle.warg_bundle.proofs.NeededLemmas.{length_good, consistencies_good, bundled_is}
 use Rattle.warg_bundle.proofs.log.proof_bundle.ProofBundle.bundle.Goals as goal
 
-pub needed_digests-requires : goal.needed_digests-requires
-needed_digests-requires g c = (c.in_ok-log_length.log_length, sym c.in_ok-log_length.ensures.value)
-
 pub old_lengths-requires : goal.old_lengths-requires
 old_lengths-requires g c =
     let cs = c.as_slice-consistencies.result.now in
@@ -25,34 +22,3 @@ returns-in_err-hashes g c =
     (⊎_elim (λ m. inl m) (λ fault. inr
     (bundled_is F c.as_slice-consistencies.result.now c.as_slice-inclusions.result.now c.in_ok-log_length.log_length
     length_is ∙ rw fault refl)) why)
-
-pub returns : goal.returns
-returns g c =
-    let length_is = sym c.in_ok-log_length.ensures.value in
-    let made = c.in_ok-hashes.ensures _ length_is in
-    rw (
-      ← c.as_slice-consistencies.ensures.value,
-      ← c.as_slice-inclusions.ensures.value,
-      bundled_is _ _ _ _ length_is,
-      made,
-      c.in_ok-consistent_lengths.ensures,
-      c.in_ok-included_nodes.ensures,
-    ) refl
-
-pub returns-in_err-log_length : goal.returns-in_err-log_length
-returns-in_err-log_length g c =
-    let p = err_from_is_err_and c.from_residual.result c.from_residual.ensures.1 in
-    rw (p.1, p.2, ← c.as_slice-consistencies.ensures.value, ← c.as_slice-inclusions.ensures.value)
-    (inr (rw (← c.in_err-log_length.ensures.value) refl))
-
-pub returns-in_err-consistent_lengths : goal.returns-in_err-consistent_lengths
-returns-in_err-consistent_lengths g c =
-    let p = err_from_is_err_and c.from_residual-in_err-consistent_lengths.result
-    c.from_residual-in_err-consistent_lengths.ensures.1 in
-    rw (p.1, p.2) (inl refl)
-
-pub returns-in_err-included_nodes : goal.returns-in_err-included_nodes
-returns-in_err-included_nodes g c =
-    let p = err_from_is_err_and c.from_residual-in_err-included_nodes.result
-    c.from_residual-in_err-included_nodes.ensures.1 in
-    rw (p.1, p.2) (inl refl)
