@@ -5,17 +5,19 @@ use Rattle.warg_crypto.specs.Tree.{branch_input, where_both}
 use Rattle.warg_log.specs.Tree.{front_of}
 use Rattle.warg_paths.specs.Paths.{root_down, roots_down}
 
--- Whether leaf m of n is in the rest of them; its number in the part that has it; that part's count; and its first leaf,
--- where that of all n is a.
+-- Whether leaf m of n is in the rest of them, and not in the front part.
 abbrev pub is_right : ℕ → ℕ → Bool
 is_right m n = nat_le (front_of n) m
 
+-- The leaf's number in the part that has it.
 abbrev pub leaf_in : ℕ → ℕ → ℕ
 leaf_in m n = if is_right m n then m - front_of n else m
 
+-- The count of that part.
 abbrev pub count_in : ℕ → ℕ → ℕ
 count_in m n = if is_right m n then n - front_of n else front_of n
 
+-- The first leaf of that part, where a is the first of all n.
 abbrev pub start_in : ℕ → ℕ → ℕ → ℕ
 start_in m a n = if is_right m n then a + front_of n else a
 
