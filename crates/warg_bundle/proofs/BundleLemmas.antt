@@ -123,7 +123,6 @@ pub refused_not_wire : {X : Type 0} (r : Result X DecodeError) (e : WireError) �
     → ⊥
 refused_not_wire r e is bad = absurd (cc)
 
--- and none behind the last one
 pub done_not_failed : {T E : Type 0} (x : T) (e : E) → Ok x ≡ Err e → ⊥
 done_not_failed x e failed = absurd (cc)
 

@@ -246,7 +246,7 @@ pub added_both : (none mid new xs ys : List ℕ) → none ≡ [] → IsUnion non
     → IsUnion [] new (xs ++ ys)
 added_both none mid new xs ys is first second = rw is at (added none mid new xs ys first second)
 
--- a number, and then others
+-- what is added for all proofs is what they need
 needed_exactly_by : {X Y : Type 0} (P : X → Type 0) (Q : Y → Type 0) (old new : X → ℕ) (leaf : Y → Node) (len : Y → ℕ)
     (n : ℕ) (xs : List X) (ys : List Y) (keys : List ℕ)
     → IsUnion [] keys (flat_map (λ p. needed_between (old p) (new p)) xs ++ flat_map (λ p. needed (leaf p).0 (len p))
